@@ -1,0 +1,20 @@
+-- Fractions of whole numbers.
+use Rattle.std.specs.Prelude.{◌≡◌, ℕ, ℤ, pos, ◌*ℤ◌, ◌≤ℤ◌, unsigned_abs}
+use Rattle.std.specs.Int.{◌∣◌}
+
+-- the number num over den
+pub record Fraction : Type 0 where
+  pub num : ℤ
+  pub den : ℤ
+
+-- the number below is at least 1
+abbrev pub IsFraction : Fraction → Type 0
+IsFraction q = pos 1 ≤ℤ q.den
+
+-- one number: p q' = p' q
+abbrev pub SameFraction : Fraction → Fraction → Type 0
+SameFraction q r = q.num *ℤ r.den ≡ r.num *ℤ q.den
+
+-- no whole number above 1 divides both
+abbrev pub IsInLowestTerms : Fraction → Type 0
+IsInLowestTerms q = (d : ℕ) → d ∣ unsigned_abs q.num → d ∣ unsigned_abs q.den → d ≡ 1

@@ -1,0 +1,6 @@
+pub mod Order
+pub mod Ring
+pub mod Spread
+pub mod Solver
+pub mod Coded
+pub mod Divisors

@@ -1,0 +1,15 @@
+// The Miller indices of an orientation of planes.
+ghost use Rattle.std.specs.Prelude.{unsigned_abs};
+ghost use Rattle.motions.specs.declared.index.TheConstants.{INDEX};
+ghost use Rattle.symmetry.specs.Planes.{IsCoprime};
+ghost use Rattle.symmetry.specs.Sizes.{IsVectorWithin};
+
+/// The Miller indices (hkl) of an orientation: coprime, and each from -[`INDEX`](crate::INDEX) to it.
+#[derive(Clone, Copy, PartialEq, Eq, Debug)]
+pub struct Miller {
+    pub h: i64,
+    pub k: i64,
+    pub l: i64,
+    pub ghost coprime: { IsCoprime (record { x = h; y = k; z = l }) },
+    pub ghost in_range: { IsVectorWithin (unsigned_abs INDEX) (record { x = h; y = k; z = l }) },
+}

@@ -1,0 +1,47 @@
+-- What it is to list a set of motions.
+use Rattle.std.specs.Prelude.{◌≡◌, ℕ, ◌<◌, List, length, slice_index_or}
+use Rattle.symmetry.specs.Motions.{Motion, identity}
+use Rattle.symmetry.specs.Vectors.{Vector}
+use Rattle.symmetry.specs.Groups.{Listing, IsMember, SameModulo}
+use Rattle.symmetry.specs.Frames.{Basis, DiffersInPlane, IsAtHome, KeepsOrientation}
+
+-- the motion at a place of a list
+abbrev pub motion_at : List Motion → ℕ → Motion
+motion_at ms i = slice_index_or ms i identity
+
+-- exactly one place of the list has a motion with this property
+pub record ExactlyOne (ms : List Motion) (P : Motion → Type 0) : Type 0 where
+  pub place : ℕ
+  pub within : place < length ms
+  pub has : P (motion_at ms place)
+  pub only : (k : ℕ) → k < length ms → P (motion_at ms k) → k ≡ place
+
+-- p is the place of the first motion of the list with this property
+pub record IsFirstPlace (ms : List Motion) (P : Motion → Type 0) (p : ℕ) : Type 0 where
+  pub within : p < length ms
+  pub has : P (motion_at ms p)
+  pub none_before : (q : ℕ) → q < p → ¬ P (motion_at ms q)
+
+-- m stands before n in the order of the listed operations: the first that is the same as m comes before the first that is the same as n
+pub record ComesBefore (Same : Motion → Motion → Type 0) (ops : List Motion) (m n : Motion) : Type 0 where
+  pub p : ℕ
+  pub q : ℕ
+  pub first_of_m : IsFirstPlace ops (Same m) p
+  pub first_of_n : IsFirstPlace ops (Same n) q
+  pub before : p < q
+
+-- the list of a set of motions: its members at home, each once, in the order of the listed operations
+pub record IsListOf (Same : Motion → Motion → Type 0) (ops : List Motion) (IsHome S : Motion → Type 0) (ms : List Motion) : Type 0 where
+  pub listed : (k : ℕ) → k < length ms → S (motion_at ms k) × IsHome (motion_at ms k)
+  pub once : (m : Motion) → S m → IsHome m → ExactlyOne ms (λ n. m ≡ n)
+  pub ordered : (j k : ℕ) → j < k → k < length ms → ComesBefore Same ops (motion_at ms j) (motion_at ms k)
+
+-- the list lists the set modulo the plane lattice
+pub record ListsInPlane (g : Listing) (r : Vector) (S : Motion → Type 0) (ms : List Motion) : Type 0 where
+  pub listed : (k : ℕ) → k < length ms → S (motion_at ms k)
+  pub once : (m : Motion) → S m → ExactlyOne ms (DiffersInPlane g r m)
+
+-- the scanning operations: the listed operations that keep the orientation, each once modulo L
+pub record AreScanning (g : Listing) (r : Vector) (ms : List Motion) : Type 0 where
+  pub listed : (k : ℕ) → k < length ms → IsMember g (motion_at ms k) × KeepsOrientation r (motion_at ms k)
+  pub once : (m : Motion) → IsMember g m → KeepsOrientation r m → ExactlyOne ms (SameModulo g m)
