@@ -1,0 +1,3 @@
+pub mod VectorLaws
+pub mod MatrixLaws
+pub mod MotionLaws
