@@ -1,7 +1,7 @@
 -- The lattice is a group of vectors, and sameness modulo it an equivalence.
-use Rattle.std.proofs.Common.{◌≡◌, ℤ, pos, negsuc, refl, sym, ◌∙◌, ap, subst}
+use Rattle.std.proofs.Common.{◌≡◌, refl, sym, ◌∙◌, ap, subst}
 use Rattle.std.specs.Prelude.{Contains}
-use Rattle.symmetry.specs.Vectors.{Vector, Matrix, origin, plus, minus, opposite, image}
+use Rattle.symmetry.specs.Vectors.{Vector, Matrix, origin, plus, minus, opposite, image, product}
 use Rattle.symmetry.specs.Motions.{Motion, followed_by}
 use Rattle.symmetry.specs.Groups.{Listing, Generates, IsInLattice, zero_vector, added, subtracted, SameModulo, IsMember}
 use Rattle.symmetry.proofs.VectorLaws.{plus_assoc, plus_comm, plus-origin, origin-plus, opposite-origin, opposite-plus, opposite-minus, minus-same, minus-plus-minus, minus-exchange}

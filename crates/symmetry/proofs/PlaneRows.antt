@@ -3,7 +3,7 @@ use Rattle.std.proofs.Common.{◌≡◌, ◌↔◌, ℤ, pos, negsuc, ◌+ℤ◌
 use Rattle.std.proofs.lemmas.Int.{ints}
 use Rattle.fractions.specs.declared.part.TheConstants.{UNIT}
 use Rattle.integers.proofs.Order.{mul_left_cancel_pos, mul_right_cancel_pos}
-use Rattle.integers.proofs.Ring.{mul_assoc, mul_zero, one_mul}
+use Rattle.integers.proofs.Ring.{mul_assoc, mul_zero}
 use Rattle.symmetry.specs.Vectors.{Vector, dot}
 use Rattle.symmetry.specs.Motions.{Motion}
 use Rattle.symmetry.specs.Planes.{Height, IsHeight, IsCoprime, KeepsPlane, KeepsRow, TurnsRow, MovesRow, IsInvertible}

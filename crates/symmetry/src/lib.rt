@@ -5,6 +5,8 @@
 // Crystallography, Volume A (coordinate triplets) and Volume E (sectional layer groups).
 #![tactic(auto)]
 
+mod groups;
 mod planes;
 
+pub use groups::group_by_listed;
 pub use planes::{image_by_row, plane_by_row, special_by_row, stabiliser_by_rows};
