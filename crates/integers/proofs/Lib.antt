@@ -4,3 +4,4 @@ pub mod Spread
 pub mod Solver
 pub mod Coded
 pub mod Divisors
+pub mod Sums

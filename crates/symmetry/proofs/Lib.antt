@@ -6,3 +6,6 @@ pub mod PlaneImages
 pub mod PlaneRows
 pub mod LatticeLaws
 pub mod GroupLaws
+pub mod FrameLaws
+pub mod Signs
+pub mod Means
