@@ -9,3 +9,4 @@ pub mod GroupLaws
 pub mod FrameLaws
 pub mod Signs
 pub mod Means
+pub mod ListLaws
