@@ -5,3 +5,4 @@ pub mod Solver
 pub mod Coded
 pub mod Divisors
 pub mod Sums
+pub mod Division

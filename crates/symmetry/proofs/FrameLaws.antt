@@ -4,9 +4,10 @@ use Rattle.std.specs.Prelude.{Contains}
 use Rattle.std.proofs.lemmas.Int.{ints}
 use lib.IntN.{+ℤ_comm}
 use Rattle.fractions.specs.declared.part.TheConstants.{UNIT}
-use Rattle.integers.proofs.Order.{mul_right_cancel_pos}
+use Rattle.integers.proofs.Order.{least_multiple, mul_right_cancel_pos}
 use Rattle.integers.proofs.Ring.{zero_mul, one_mul}
-use Rattle.symmetry.specs.Vectors.{Vector, plus, multiple, opposite, minus, dot, row_times}
+use Rattle.integers.proofs.Spread.{spread}
+use Rattle.symmetry.specs.Vectors.{Vector, plus, multiple, opposite, minus, dot, cross, row_times}
 use Rattle.symmetry.specs.Motions.{Motion}
 use Rattle.symmetry.specs.Planes.{Height, IsHeight, IsCoprime}
 use Rattle.symmetry.specs.Groups.{Listing, IsInLattice, IsGroup}
@@ -14,13 +15,25 @@ use Rattle.symmetry.specs.Frames.{Basis, combination, IsFrame, IsPeriod, InPlane
 use Rattle.symmetry.proofs.VectorLaws.{vector_path, dot-plus, dot-multiple, minus-plus, plus-minus_first}
 use Rattle.symmetry.proofs.PlaneRows.{special_by_row}
 
--- a multiple of a positive number that is positive is at least this number
-least_multiple : (z d : ℤ) → pos 0 <ℤ d → pos 0 <ℤ (z *ℤ d) → d ≤ℤ (z *ℤ d)
-least_multiple (pos zero) d h k = absurd (omega (arith, ints))
-least_multiple (pos (suc n)) (pos m) h k = omega (arith, ints)
-least_multiple (pos (suc n)) (negsuc m) h k = absurd (omega (arith, ints))
-least_multiple (negsuc n) (pos m) h k = absurd (omega (arith, ints))
-least_multiple (negsuc n) (negsuc m) h k = absurd (omega (arith, ints))
+-- ---- combinations
+
+pub combination-minus : (f : Basis) (c c' : Vector) → combination f (minus c c') ≡ minus (combination f c) (combination f c')
+unfolding plus multiple
+combination-minus f c c' =
+    vector_path (simp spread (omega (arith, ints))) (simp spread (omega (arith, ints))) (simp spread (omega (arith, ints)))
+
+pub combination-multiple : (f : Basis) (k : ℤ) (c : Vector) → combination f (multiple k c) ≡ multiple k (combination f c)
+unfolding plus multiple
+combination-multiple f k c =
+    vector_path (simp spread (omega (arith, ints))) (simp spread (omega (arith, ints))) (simp spread (omega (arith, ints)))
+
+-- Cramer's rule: the determinant (a x b).tau times a vector is a whole combination
+pub cramer : (f : Basis) (v : Vector)
+    → combination f (record { x = dot (cross f.b f.tau) v; y = dot (cross f.tau f.a) v; z = dot (cross f.a f.b) v })
+    ≡ multiple (dot (cross f.a f.b) f.tau) v
+unfolding plus multiple dot cross
+cramer f v =
+    vector_path (simp spread (omega (arith, ints))) (simp spread (omega (arith, ints))) (simp spread (omega (arith, ints)))
 
 -- 0 a + 0 b + k tau
 only_tau : (k : ℤ) (a b t : Vector) → plus (plus (multiple (pos 0) a) (multiple (pos 0) b)) (multiple k t) ≡ multiple k t
