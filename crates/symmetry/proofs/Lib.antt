@@ -10,3 +10,5 @@ pub mod FrameLaws
 pub mod Signs
 pub mod Means
 pub mod ListLaws
+pub mod PlaneLattice
+pub mod HomeLaws
