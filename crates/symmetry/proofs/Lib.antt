@@ -12,3 +12,4 @@ pub mod Means
 pub mod ListLaws
 pub mod PlaneLattice
 pub mod HomeLaws
+mod Samples
