@@ -64,10 +64,6 @@ pub multiple-multiple : (c d : ℤ) (v : Vector) → multiple c (multiple d v) �
 unfolding multiple
 multiple-multiple c d v = vector_path (sym (mul_assoc c d v.x)) (sym (mul_assoc c d v.y)) (sym (mul_assoc c d v.z))
 
-pub opposite-opposite : (v : Vector) → opposite (opposite v) ≡ v
-unfolding multiple
-opposite-opposite v = vector_path (omega (arith, ints)) (omega (arith, ints)) (omega (arith, ints))
-
 pub opposite-origin : opposite origin ≡ origin
 unfolding multiple
 opposite-origin = refl

@@ -3,7 +3,7 @@ ghost use Rattle.std.specs.Prelude.{◌≡◌, List, ⊤};
 ghost use Rattle.symmetry.specs.Vectors.{Vector};
 ghost use Rattle.symmetry.specs.Motions.{Motion};
 ghost use Rattle.symmetry.specs.Planes.{Height, IsCoprime, IsHeight};
-ghost use Rattle.symmetry.specs.Groups.{InAll, InStabiliser, IsGroup, Listing, SameModulo};
+ghost use Rattle.symmetry.specs.Groups.{InAll, InRowAll, InRowStabiliser, InStabiliser, IsGroup, Listing, SameModulo};
 ghost use Rattle.symmetry.specs.Frames.{Basis, IsAtHome, IsFrame};
 ghost use Rattle.symmetry.specs.Lists.{HasOneAtHome, IsListOf, ListsInPlane};
 
@@ -15,6 +15,14 @@ pub fn lists_agree()
     ensures all { (g : Listing) (r : Vector) (f : Basis) (ms : List Motion) (ns : List Motion) →
         IsListOf (SameModulo g) g.ops (IsAtHome f) (InAll g r) ms →
         IsListOf (SameModulo g) g.ops (IsAtHome f) (InAll g r) ns → ms ≡ ns }
+{}
+
+/// The sets that rows tell have the same lists.
+pub fn lists_by_rows()
+    ensures stabiliser { (g : Listing) (r : Vector) (f : Basis) (s : Height) (ms : List Motion) → IsGroup g → IsCoprime r → IsHeight s →
+        IsListOf (SameModulo g) g.ops (IsAtHome f) (InRowStabiliser g r s) ms → IsListOf (SameModulo g) g.ops (IsAtHome f) (InStabiliser g r s) ms }
+    ensures all { (g : Listing) (r : Vector) (f : Basis) (ms : List Motion) → IsGroup g → IsCoprime r →
+        IsListOf (SameModulo g) g.ops (IsAtHome f) (InRowAll g r) ms → IsListOf (SameModulo g) g.ops (IsAtHome f) (InAll g r) ms }
 {}
 
 /// In a frame each motion differs by the plane lattice from exactly one motion at home, which is in the stabiliser of a plane,
