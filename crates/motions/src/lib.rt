@@ -9,8 +9,11 @@ mod index;
 mod listed;
 mod miller;
 mod motion;
+mod products;
+mod rows;
 
 pub use index::INDEX;
 pub use listed::Listed;
 pub use miller::Miller;
 pub use motion::{Motion3, Sign};
+pub use rows::{shift, side};
