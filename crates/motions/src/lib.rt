@@ -5,12 +5,15 @@
 // planes of an orientation.
 #![tactic(auto)]
 
+mod equality;
 mod index;
+mod inverses;
 mod listed;
 mod miller;
 mod motion;
 mod products;
 mod rows;
+mod space;
 
 pub use index::INDEX;
 pub use listed::Listed;

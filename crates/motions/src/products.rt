@@ -1,7 +1,7 @@
 // Rows times columns, and what is made of these.
 ghost use Rattle.std.specs.Prelude.{◌≡◌, ◌↔◌, ℤ, ◌+◌, ◌*◌, ◌^◌, IsTrue};
 ghost use Rattle.integers.specs.Size.{IsWithin};
-ghost use Rattle.symmetry.specs.Vectors.{dot, image, row_times, product};
+ghost use Rattle.symmetry.specs.Vectors.{dot, image, opposite, plus, product, row_times};
 ghost use Rattle.symmetry.specs.Sizes.{IsVectorWithin, IsMatrixWithin};
 ghost use Rattle.motions.specs.Bounds.{largest_cofactor, largest_image};
 ghost use Rattle.motions.specs.Views.{vector_of, matrix_of, parts};
@@ -60,4 +60,27 @@ pub(crate) fn matrix_by_vector(matrix: &[[i64; 3]; 3], vector: &[Part; 3]) -> [i
         row_by_column(&matrix[1], vector[0].0, vector[1].0, vector[2].0),
         row_by_column(&matrix[2], vector[0].0, vector[1].0, vector[2].0),
     ]
+}
+
+/// The sum of a column of numbers and a vector of parts.
+#[tactic(auto, unfolding(symmetry::specs::Vectors::plus))]
+pub(crate) fn sum(column: &[i64; 3], vector: &[Part; 3]) -> [Part; 3]
+    requires column { IsVectorWithin largest_image (vector_of column.now) }
+    requires vector { IsVectorWithin (2 ^ 40) (parts vector.now) }
+    ensures { parts result ≡ plus (vector_of column.now) (parts vector.now) }
+{
+    [
+        Part(column[0] + vector[0].0),
+        Part(column[1] + vector[1].0),
+        Part(column[2] + vector[2].0),
+    ]
+}
+
+/// A column of numbers with each sign changed, in parts.
+#[tactic(auto, unfolding(symmetry::specs::Vectors::multiple))]
+pub(crate) fn opposite(column: &[i64; 3]) -> [Part; 3]
+    requires { IsVectorWithin largest_image (vector_of column.now) }
+    ensures { parts result ≡ opposite (vector_of column.now) }
+{
+    [Part(-column[0]), Part(-column[1]), Part(-column[2])]
 }

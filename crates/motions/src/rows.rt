@@ -7,6 +7,7 @@ ghost use Rattle.motions.specs.Bounds.{largest_cofactor};
 ghost use Rattle.motions.specs.Signs.{sign_value};
 ghost use Rattle.motions.specs.Views.{motion_of, row_of, vector_of};
 
+use crate::equality::is_same_row;
 use crate::miller::Miller;
 use crate::motion::{Motion3, Sign};
 use crate::products::{row_by_column, row_by_matrix};
@@ -46,11 +47,4 @@ fn opposite_row(row: &[i64; 3]) -> [i64; 3]
     ensures { vector_of result ≡ opposite (vector_of row.now) }
 {
     [-row[0], -row[1], -row[2]]
-}
-
-/// Whether two rows are equal.
-fn is_same_row(row: &[i64; 3], other: &[i64; 3]) -> bool
-    ensures { IsTrue result ↔ (vector_of row.now ≡ vector_of other.now) }
-{
-    row[0] == other[0] && row[1] == other[1] && row[2] == other[2]
 }
