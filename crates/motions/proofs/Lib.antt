@@ -1,0 +1,4 @@
+pub mod Sides
+pub mod Negation
+pub mod Symbols
+pub mod Cofactors

@@ -5,12 +5,18 @@
 // planes of an orientation.
 #![tactic(auto)]
 
+mod equality;
 mod index;
+mod inverses;
 mod listed;
 mod miller;
 mod motion;
+mod products;
+mod rows;
+mod space;
 
 pub use index::INDEX;
 pub use listed::Listed;
 pub use miller::Miller;
 pub use motion::{Motion3, Sign};
+pub use rows::{shift, side};
