@@ -5,6 +5,13 @@
 // trusted edge.
 #![tactic(auto)]
 
+mod bytes_sink;
+mod bytes_source;
+mod real;
+mod schedule;
 mod traits;
 
+pub use bytes_sink::{BytesSink, NoMemory};
+pub use bytes_source::BytesSource;
+pub use real::{RealSink, RealSource};
 pub use traits::{Failed, Sink, Source};

@@ -1,7 +1,7 @@
 // What bytes come from and go to.
 ghost use Rattle.std.specs.Prelude.{◌≡◌, ℕ, ◌-◌, ◌<◌, ◌≤◌, Option, List, length, take, IfOk, IsOk, IsOkAnd, OnErr};
 ghost use Rattle.std.specs.Io.KnownBytes.{prepend_known, append_known, IsAtEnd};
-ghost use Rattle.devices.specs.Devices.{Rose};
+ghost use Rattle.devices.specs.Calls.{Rose};
 
 /// A device failed. It counted a fault.
 #[derive(Debug, Clone, Copy, PartialEq, Eq)]

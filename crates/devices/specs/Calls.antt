@@ -1,4 +1,4 @@
--- Counts of faults, and devices in memory.
+-- Counts of calls and of faults.
 use Rattle.std.specs.Prelude.{ℕ, ◌+◌, ◌-◌, ◌^◌, ◌≤◌, min}
 
 -- one more, up to the last number of 64 bits, where it stays
