@@ -7,11 +7,13 @@
 
 mod bytes_sink;
 mod bytes_source;
+mod put;
 mod real;
 mod schedule;
 mod traits;
 
 pub use bytes_sink::{BytesSink, NoMemory};
 pub use bytes_source::BytesSource;
+pub use put::put_all;
 pub use real::{RealSink, RealSource};
 pub use traits::{Failed, Sink, Source};
