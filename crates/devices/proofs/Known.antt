@@ -1,7 +1,7 @@
 -- Known bytes that grow and shrink, one call after another.
-use Rattle.std.proofs.Common.{◌≡◌, ℕ, ◌+◌, ◌-◌, List, ◌++◌, length, take, drop, Option, None, Some, refl, sym, ap, ◌∙◌, append_assoc}
+use Rattle.std.proofs.Common.{◌≡◌, ℕ, ◌+◌, ◌-◌, ◌≤◌, List, ◌++◌, length, take, drop, Option, None, Some, refl, sym, ap, ◌∙◌, append_assoc, length-append}
 use Rattle.std.proofs.Math.Seq.{take-add}
-use Rattle.std.proofs.lemmas.List.{take_rest}
+use Rattle.std.proofs.lemmas.List.{take_rest, length-take-le}
 use Rattle.std.specs.Io.KnownBytes.{append_known, prepend_known}
 
 pub append_known-append : (known : Option (List ℕ)) (xs ys : List ℕ) → append_known (append_known known xs) ys ≡ append_known known (xs ++ ys)
@@ -20,3 +20,10 @@ append_known-take before between after n m text first second =
     ∙ (ap (λ known. append_known known (take m (drop n text))) first
     ∙ (append_known-append before (take n text) (take m (drop n text))
     ∙ ap (λ bytes. append_known before bytes) (sym (take-add n m text)))))
+
+-- bytes were given, and then a front of the piece
+pub prepend_known-take : (before between after : Option (List ℕ)) (bytes piece : List ℕ) (n : ℕ) → n ≤ length piece → before ≡ prepend_known bytes between → between ≡ prepend_known (take n piece) after → (given : List ℕ) × (length given ≡ length bytes + n) × (before ≡ prepend_known given after)
+prepend_known-take before between after bytes piece n fits first second =
+    (bytes ++ take n piece,
+     length-append bytes (take n piece) ∙ ap (λ m. length bytes + m) (length-take-le n piece fits),
+     first ∙ (ap (λ known. prepend_known bytes known) second ∙ prepend_known-append bytes (take n piece) after))

@@ -8,6 +8,7 @@
 mod bytes_sink;
 mod bytes_source;
 mod put;
+mod read;
 mod real;
 mod schedule;
 mod traits;
@@ -15,5 +16,6 @@ mod traits;
 pub use bytes_sink::{BytesSink, NoMemory};
 pub use bytes_source::BytesSource;
 pub use put::put_all;
+pub use read::{Input, ReadFault, read_all};
 pub use real::{RealSink, RealSource};
 pub use traits::{Failed, Sink, Source};
