@@ -1,6 +1,6 @@
 -- What the calls answer is what the grammar says.
 use Rattle.std.proofs.Common.{◌≡◌, ◌≢◌, ℕ, zero, suc, ◌+◌, ◌-◌, ◌*◌, ◌<◌, ◌≤◌, Bool, true, false, cond, List, [], ◌∷◌, ◌++◌, length, get_or, take, drop, Option, Some, None, Result, Ok, Err, refl, sym, ◌∙◌, ap, subst, arith, inl, inr, ◌⊎◌, append_assoc, length-append, add-one}
-use Rattle.std.specs.Prelude.{slice_get, ◌==◌, IfOk, IfErr}
+use Rattle.std.specs.Prelude.{slice_get, ◌==◌, IfOk, IfErr, IsErrAnd}
 use Rattle.std.proofs.lemmas.Bool.Decides.{eqb_tells}
 use Rattle.std.proofs.Math.Seq.{take-length, take-append_seam, take-append-add}
 use Rattle.std.proofs.lemmas.List.{append-nil}
@@ -8,7 +8,7 @@ use Rattle.std.proofs.lemmas.Option.{slice_get_past}
 use Rattle.symmetry.specs.Vectors.{Vector}
 use Rattle.symmetry.specs.Groups.{Listing}
 use Rattle.symmetry.specs.Motions.{Motion}
-use Rattle.motions.specs.Views.{motion_of, parts}
+use Rattle.motions.specs.Views.{motion_of, parts, listing_of}
 use Rattle.triplets.specs.Rows.{motion_with, motion3_with, parts_with}
 use Rattle.triplets.specs.declared.fault.TextKind.{TextKind}
 use Rattle.triplets.specs.declared.fault.TextKind.TheVariants as kinds
@@ -105,6 +105,11 @@ answer r bytes h = record {
   fault = gives_fault r bytes h;
 }
 
+-- a fault that is passed on
+pub answer_passed : (e : TextFault) (r : Result Listed TextFault) (bytes : List ℕ) → IsErrAnd r (λ x. x ≡ e) → Refuses e (group_of bytes) → IsAnswer bytes r
+answer_passed e (Ok l) bytes h g = absurd h
+answer_passed e (Err x) bytes h g = answer (Err x) bytes (subst (λ y. Refuses y (group_of bytes)) (sym h) g)
+
 shown_only : (e : TextFault) (bytes : List ℕ) (g : Listing) → IsShownBy bytes e → IsGroupText bytes g → IsMemory e
 shown_only faults.NoMemory bytes g h i = tt
 shown_only (faults.At l c k) bytes g h i =
@@ -119,7 +124,7 @@ shown_of (faults.At l c k) bytes h = shown_fault bytes (record { line = l; colum
 pub answer_shown : (e : TextFault) (bytes : List ℕ) → IsShownBy bytes e → IsAnswer bytes (Err e)
 answer_shown e bytes h = record { found = tt; only = λ g i. shown_only e bytes g h i; fault = shown_of e bytes h }
 
-refuses_shown : (e : TextFault) (bytes : List ℕ) → Refuses e (text_run (Ok kept_start) bytes) → IsShownBy bytes e
+pub refuses_shown : (e : TextFault) (bytes : List ℕ) → Refuses e (text_run (Ok kept_start) bytes) → IsShownBy bytes e
 refuses_shown faults.NoMemory bytes h = tt
 refuses_shown (faults.At l c k) bytes h = fault_shown bytes (record { line = l; column = c; kind = k }) h
 

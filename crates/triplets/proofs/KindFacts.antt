@@ -19,6 +19,7 @@ use Rattle.triplets.specs.declared.part.Spot.TheVariants.{Begin, Signed, Digits,
 use Rattle.triplets.specs.declared.triplet.Nth.{Nth}
 use Rattle.triplets.specs.declared.triplet.Nth.TheVariants.{First, Second, Third}
 use Rattle.motions.specs.declared.motion.Motion3.{Motion3}
+use Rattle.motions.specs.Views.{motion_of}
 use Rattle.triplets.specs.declared.triplet.TripletReader.{TripletReader}
 use Rattle.triplets.specs.Marks.{mark}
 use Rattle.triplets.specs.Rows.{unused, uses, with_used, motion3_with}
@@ -490,7 +491,7 @@ pub not_good : (before : List ℕ) (s : TripletReader) → run (Ok start) before
 not_good before s w v h =
     let r = is_read before h.0 h.1 in
     let e : s ≡ r.last = going_is _ s (sym r.run_is ∙ w) in
-    let z : found h.0 ≡ no_triplet = sym r.value_is ∙ (ap value (sym e) ∙ v) in
+    let z : found r.motion ≡ no_triplet = sym r.value_is ∙ (ap value (sym e) ∙ v) in
     cc
 
 abbrev pub Tabled : Seen → (Axis → Bool) → Type 0 → ℕ → TextKind → Type 0
@@ -612,4 +613,4 @@ fault_kind before b s k w e =
     let h = agrees before s w in
     table_is before b k (fault_by (mark b) s (seen nothing_seen before) (λ a. stands a false before) (IsGood before) b k refl (mark_is b)
     (λ x. stands_used before x ∙ ap (uses x) h.used) h
-    (λ t v. (t, is_triplet before s t w v), λ v. not_good before s w v) e)
+    (λ t v. (motion_of t, is_triplet before s t w v), λ v. not_good before s w v) e)

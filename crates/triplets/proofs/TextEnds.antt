@@ -70,14 +70,18 @@ no_ending = None
 pub a_line : (k : Kept) (base : Listing) (n : ℕ) (before : List ℕ) (vs : List Vector) (o : Option Motion3) → InLine k base n before vs → ending k.place ≡ an_ending o → IsLine before (make_listing (operations_of o) vs)
 a_line k base n before vs o h e = is_line before (record { place = k.place; vectors = vs }) (make_listing (operations_of o) vs) h.run (ap (λ (x : Option (Option Motion3)). listing_by x vs) e)
 
-pub bad_end : (k : Kept) (base : Listing) (n : ℕ) (before : List ℕ) (vs : List Vector) (ls : List (List ℕ)) → InLine k base n before vs → ending k.place ≡ no_ending → IsOutcome (Err (fault_here k kinds.MissingPart)) base n ((before ++ []) ∷ ls)
+pub bad_line : (k : Kept) (base : Listing) (n : ℕ) (before : List ℕ) (vs : List Vector) → InLine k base n before vs → ending k.place ≡ no_ending → IsLineFault (before ++ []) (length before) kinds.MissingPart
+bad_line k base n before vs h e =
+    subst (λ (x : List ℕ). IsLineFault x (length before) kinds.MissingPart) (sym (append-nil before))
+    (end_fault before (record { place = k.place; vectors = vs }) h.run (ap (λ (x : Option (Option Motion3)). listing_by x vs) e))
+
+bad_end : (k : Kept) (base : Listing) (n : ℕ) (before : List ℕ) (vs : List Vector) (ls : List (List ℕ)) → InLine k base n before vs → ending k.place ≡ no_ending → IsOutcome (Err (fault_here k kinds.MissingPart)) base n ((before ++ []) ∷ ls)
 bad_end k base n before vs ls h e = (
   0,
   length before,
   omega (arith, h.line),
   h.column,
-  subst (λ (x : List ℕ). IsLineFault x (length before) kinds.MissingPart) (sym (append-nil before))
-      (end_fault before (record { place = k.place; vectors = vs }) h.run (ap (λ (x : Option (Option Motion3)). listing_by x vs) e)),
+  bad_line k base n before vs h e,
 )
 
 pub ended_is : (k : Kept) (base : Listing) (n : ℕ) (before : List ℕ) (vs : List Vector) (o : Option Motion3) → InLine k base n before vs → with_operation o k.listing ≡ listed_then base (make_listing (operations_of o) vs)

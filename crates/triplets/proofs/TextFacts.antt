@@ -37,12 +37,20 @@ pub text_fault : (text piece : List ℕ) (i : ℕ) (k : Kept) (f : Fault) → i 
     text_run (Ok kept_start) (text ++ piece) ≡ faulty f
 text_fault text piece i k f h w e = text_all text piece (i + 1) f (text_more text piece i k (faulty f) h w e)
 
+abbrev pub a_fault : TextFault → Option TextFault
+a_fault e = Some e
+
 -- before a fault
 pub stands_kept : (r : LineReader) (text : List ℕ) → Stands r text → r.fault ≡ None → text_run (Ok kept_start) text ≡ keeping (kept r)
 stands_kept r text h e = h.run_is ∙ ap (λ (o : Option TextFault). kept_or o (kept r)) e
 
 pub stands_nothing : (r : LineReader) (text piece : List ℕ) → Stands r text → r.fault ≡ None → text_run (Ok kept_start) (text ++ take 0 piece) ≡ keeping (kept r)
 stands_nothing r text piece h e = ap (text_run (Ok kept_start)) (append-nil text) ∙ stands_kept r text h e
+
+-- a fault that was answered is that of the text
+pub stands_refuses : (r : LineReader) (e : TextFault) (text : List ℕ) → r.fault ≡ a_fault e → Stands r text → Refuses e (text_run (Ok kept_start) text)
+stands_refuses r faults.NoMemory text h s = tt
+stands_refuses r (faults.At l c k) text h s = s.run_is ∙ ap (λ (o : Option TextFault). kept_or o (kept r)) h
 
 -- what a call answered
 
@@ -83,9 +91,6 @@ err_stands r q e b piece h n g f =
           ])
     ]
 
-abbrev pub a_fault : TextFault → Option TextFault
-a_fault e = Some e
-
 -- a fault answered before is answered again
 pub again : (r : LineReader) (e : TextFault) (text piece : List ℕ) → r.fault ≡ a_fault e → Stands r text → Refuses e (text_run (Ok kept_start) (text ++ piece))
 again r faults.NoMemory text piece h s = tt
@@ -102,10 +107,13 @@ again_stands r q (faults.At l c k) text piece h i n s = record {
   memory = λ z. s.memory (sym i ∙ z);
 }
 
+pub all_read : (text piece : List ℕ) (i : ℕ) (k : Kept) → i ≡ length piece → text_run (Ok kept_start) (text ++ take i piece) ≡ keeping k → text_run (Ok kept_start) (text ++ piece) ≡ keeping k
+all_read text piece i k e w = ap (λ (x : List ℕ). text_run (Ok kept_start) (text ++ x)) (sym (ap (λ m. take m piece) e ∙ take-length piece)) ∙ w
+
 -- the whole piece is read
 pub stands_all : (r q : LineReader) (text piece : List ℕ) (i : ℕ) → i ≡ length piece → text_run (Ok kept_start) (text ++ take i piece) ≡ keeping (kept q) → q.fault ≡ None → q.fed ≡ r.fed + length piece → Stands r text → Stands q (text ++ piece)
 stands_all r q text piece i e w f n s = record {
-  run_is = ap (λ (x : List ℕ). text_run (Ok kept_start) (text ++ x)) (sym (ap (λ m. take m piece) e ∙ take-length piece)) ∙ (w ∙ sym (ap (λ (o : Option TextFault). kept_or o (kept q)) f));
+  run_is = all_read text piece i (kept q) e w ∙ sym (ap (λ (o : Option TextFault). kept_or o (kept q)) f);
   fed = n ∙ (ap (λ m. m + length piece) s.fed ∙ sym (length-append text piece));
   memory = λ z. let y : no_fault ≡ a_fault faults.NoMemory = sym f ∙ z in cc;
 }

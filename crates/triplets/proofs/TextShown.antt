@@ -32,7 +32,7 @@ use Rattle.triplets.proofs.LineRuns.{IsLineRead, is_line_read}
 use Rattle.triplets.proofs.LineKinds.{line_kind}
 
 use Rattle.triplets.proofs.LinePlaces.{byte_fault, good_line_prefix}
-use Rattle.triplets.proofs.TextEnds.{InLine, make_listing, a_line, bad_end, front_nil, front_front, at_next_line, next_line, at_next_byte, next_byte}
+use Rattle.triplets.proofs.TextEnds.{InLine, make_listing, a_line, bad_line, front_nil, front_front, at_next_line, next_line, at_next_byte, next_byte}
 
 -- what is shown of these lines, where the one at n is the first
 abbrev IsShownSoFar : Result Kept Fault → ℕ → List (List ℕ) → Type 0
@@ -80,8 +80,7 @@ ShownAfter bs = (k : Kept) (base : Listing) (n : ℕ) (before : List ℕ) (vs : 
 shown_line : (o : Option (Option Motion3)) (bs : List ℕ) (k : Kept) (base : Listing) (n : ℕ) (before : List ℕ) (vs : List Vector) → ShownAfter bs → InLine k base n before vs → ending k.place ≡ o →
     IsShownSoFar (text_run (new_line (ended o k) k) bs) n ((before ++ []) ∷ lines_of bs)
 shown_line None bs k base n before vs further h e =
-    let t = bad_end k base n before vs (lines_of bs) h e in
-    subst (λ r. IsShownSoFar r n ((before ++ []) ∷ lines_of bs)) (sym (run_faulty (fault_here k kinds.MissingPart) bs)) (0, length before, t.2, t.3, (t.4, inr (some_line bs)))
+    subst (λ r. IsShownSoFar r n ((before ++ []) ∷ lines_of bs)) (sym (run_faulty (fault_here k kinds.MissingPart) bs)) (0, length before, omega (arith, h.line), h.column, (bad_line k base n before vs h e, inr (some_line bs)))
 shown_line (Some o) bs k base n before vs further h e =
     let a = make_listing (operations_of o) vs in
     let k' = at_next_line o k in

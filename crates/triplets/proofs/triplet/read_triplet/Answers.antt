@@ -33,7 +33,7 @@ returns-in-Some-clause-found c =
 
 pub returns-in-Some-clause-only : goal.returns-in-Some-clause-only
 returns-in-Some-clause-only c v h =
-    ap (λ (x : Motion3). Ok x) (one_value c.args.bytes.now c.loop-i.reader c.in-Some.value v (all_read c.loop-i.i c.args.bytes.now c.loop-i.reader (omega arith) c.loop-i.invariant.read) (sym c.value.ensures ∙ c.in-Some.is) h)
+    one_value c.args.bytes.now c.loop-i.reader c.in-Some.value v (all_read c.loop-i.i c.args.bytes.now c.loop-i.reader (omega arith) c.loop-i.invariant.read) (sym c.value.ensures ∙ c.in-Some.is) h
 
 pub returns-in-None-clause-only : goal.returns-in-None-clause-only
 returns-in-None-clause-only c v h =
