@@ -10,3 +10,4 @@ pub mod FrameLaws
 pub mod Signs
 pub mod Means
 pub mod ListLaws
+pub mod ListFacts
