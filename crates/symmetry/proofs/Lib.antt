@@ -11,3 +11,5 @@ pub mod Signs
 pub mod Means
 pub mod ListLaws
 pub mod ListFacts
+pub mod PlaneLattice
+pub mod HomeLaws
