@@ -1,6 +1,8 @@
 pub mod Bounds
+pub mod Divisors
 pub mod Equality
 pub mod Inverses
 pub mod MotionLaws
+pub mod PlaneFaults
 pub mod Signs
 pub mod Views

@@ -5,12 +5,14 @@
 // planes of an orientation.
 #![tactic(auto)]
 
+mod divisors;
 mod equality;
 mod index;
 mod inverses;
 mod listed;
 mod miller;
 mod motion;
+mod plane_fault;
 mod products;
 mod rows;
 mod space;
@@ -19,4 +21,5 @@ pub use index::INDEX;
 pub use listed::Listed;
 pub use miller::Miller;
 pub use motion::{Motion3, Sign};
+pub use plane_fault::PlaneFault;
 pub use rows::{shift, side};
