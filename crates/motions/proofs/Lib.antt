@@ -1,4 +1,5 @@
-pub mod Sides
-pub mod Negation
-pub mod Symbols
 pub mod Cofactors
+pub mod Indices
+pub mod Negation
+pub mod Sides
+pub mod Symbols
