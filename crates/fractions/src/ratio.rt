@@ -1,7 +1,7 @@
 // Fractions in lowest terms.
 ghost use Rattle.fractions.specs.Fraction.{IsFraction, IsInLowestTerms};
 
-use crate::euclid::greatest_common_divisor;
+use crate::euclid::signed_divisor;
 
 /// A fraction in lowest terms, its denominator at least 1: so each rational number is one `Ratio`.
 #[derive(Clone, Copy, PartialEq, Eq, Debug)]
@@ -29,9 +29,8 @@ impl Ratio {
         if den == 0 {
             return None;
         }
-        // With the sign of `den`, so that the new denominator is positive.
-        let divisor = greatest_common_divisor(num.unsigned_abs(), den.unsigned_abs()) as i128
-            * den.signum();
+        // It has the sign of `den`, so the new denominator is positive.
+        let divisor = signed_divisor(num, den);
         Some(Ratio {
             num: num / divisor,
             den: den / divisor,
