@@ -1,15 +1,14 @@
 -- What the code computes of the divisor and of the quotients by it: none of it overflows.
-use Rattle.std.proofs.Common.{◌≡◌, ℕ, suc, ◌/◌, ◌^◌, ◌<◌, ◌≤◌, sym, subst, ap, ◌∙◌, ℤ, pos, negsuc, ◌-ℤ◌, ◌≤ℤ◌, ◌<ℤ◌, nat_abs, arith, FitsSigned, to_z, of_z}
+use Rattle.std.proofs.Common.{◌≡◌, ℕ, suc, ◌^◌, ◌<◌, ◌≤◌, sym, subst, ap, ◌∙◌, ℤ, pos, negsuc, ◌-ℤ◌, ◌≤ℤ◌, ◌<ℤ◌, nat_abs, arith, FitsSigned, to_z, of_z}
 use Rattle.std.specs.Prelude.{int_div}
 use Rattle.std.specs.Int.{w128}
 use Rattle.std.proofs.lemmas.Int.{ints, to_z-of_z, quot_is, fits_signed_from_abs}
 use Rattle.std.proofs.lemmas.Nat.Gcd.{le_of_dvd}
-use Rattle.std.proofs.Math.Nat.{div-le_self}
 use Rattle.integers.specs.Size.{IsWithin}
 use Rattle.fractions.specs.Fraction.{Fraction}
-use Rattle.fractions.specs.LowestTerms.{gcd, signed_gcd, lowest_terms, IsLowestForm}
+use Rattle.fractions.specs.LowestTerms.{gcd, signed_gcd, lowest_terms, IsLowestForm, IsNoLarger}
 use Rattle.fractions.proofs.Gcd.{IsGcd-gcd}
-use Rattle.fractions.proofs.Lowest.{abs-neg, abs-signed_gcd, positive_size, positive_gcd, IsLowestForm-lowest_terms}
+use Rattle.fractions.proofs.Lowest.{abs-int_div-le, abs-signed_gcd, positive_size, positive_gcd, IsLowestForm-lowest_terms, IsNoLarger-lowest_terms}
 
 -- ---- the divisor
 
@@ -53,12 +52,6 @@ positive_divisor num (pos den) a b g h above = let k = divisor_is num (pos den) 
 positive_divisor num (negsuc den) a b g h above = absurd (omega (arith, ints))
 
 -- ---- the quotients
-
-abs-int_div-le : (a d : ℤ) → nat_abs (int_div a d) ≤ nat_abs a
-abs-int_div-le (pos a) (pos d) = div-le_self a d
-abs-int_div-le (pos a) (negsuc d) = let le = div-le_self a (suc d) in omega (arith, abs-neg (a / suc d))
-abs-int_div-le (negsuc a) (pos d) = let le = div-le_self (suc a) d in omega (arith, abs-neg (suc a / d))
-abs-int_div-le (negsuc a) (negsuc d) = div-le_self (suc a) (suc d)
 
 -- the numbers of the code, d with the divisor's sign
 pub record AreDivided (num den d : ℤ) : Type 0 where
@@ -121,3 +114,7 @@ coded_fraction_is num den d h =
 pub IsLowestForm-coded : (num den d : ℤ) → AreDivided num den d → IsLowestForm (coded_fraction num den d) num den
 IsLowestForm-coded num den d h =
     subst (λ (q : Fraction). IsLowestForm q num den) (sym (coded_fraction_is num den d h)) (IsLowestForm-lowest_terms num den h.nonzero)
+
+pub IsNoLarger-coded : (num den d : ℤ) → AreDivided num den d → IsNoLarger (coded_fraction num den d) num den
+IsNoLarger-coded num den d h =
+    subst (λ (q : Fraction). IsNoLarger q num den) (sym (coded_fraction_is num den d h)) (IsNoLarger-lowest_terms num den)

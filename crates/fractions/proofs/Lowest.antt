@@ -1,16 +1,16 @@
 -- Division by the greatest common divisor gives the lowest terms, and there is one such fraction.
-use Rattle.std.proofs.Common.{◌≡◌, ℕ, zero, suc, ◌+◌, ◌*◌, ◌%◌, ◌<◌, ◌≤◌, min, refl, sym, ap, subst, ◌∙◌, [], ◌∷◌, ℤ, pos, negsuc, ◌+ℤ◌, ◌*ℤ◌, ◌≤ℤ◌, neg_ℤ, nat_abs, arith}
+use Rattle.std.proofs.Common.{◌≡◌, ℕ, zero, suc, ◌+◌, ◌*◌, ◌/◌, ◌%◌, ◌<◌, ◌≤◌, min, refl, sym, ap, subst, ◌∙◌, [], ◌∷◌, ℤ, pos, negsuc, ◌+ℤ◌, ◌*ℤ◌, ◌≤ℤ◌, neg_ℤ, nat_abs, arith}
 use Rattle.std.specs.Prelude.{int_div, int_rem, unsigned_abs}
 use Rattle.std.specs.Int.{◌∣◌, int_signum, IsGcd}
 use Rattle.std.proofs.lemmas.Int.{ints, quot-rem}
 use Rattle.std.proofs.lemmas.Nat.Gcd.{dvd_antisymm, mod-eq-zero_of_dvd, le_of_dvd}
-use Rattle.std.proofs.Math.Nat.{dvd-mul_left, dvd-mul_right, mul-dvd-mul_right, dvd_of_mul-dvd-mul_right, eq-one_of_dvd-one, eq-zero_of_zero-dvd}
+use Rattle.std.proofs.Math.Nat.{div-le_self, dvd-mul_left, dvd-mul_right, mul-dvd-mul_right, dvd_of_mul-dvd-mul_right, eq-one_of_dvd-one, eq-zero_of_zero-dvd}
 use Rattle.integers.specs.Size.{Divides}
 use Rattle.integers.proofs.Ring.{abs-mul, add_zero, zero_mul, mul_neg, mul_right_cancel}
 use Rattle.integers.proofs.Solver.{Expr.{var, num as literal, neg, ◌⊕◌, ◌⊗◌}, linear, given}
 use Rattle.integers.proofs.Divisors.{Combined, combine}
 use Rattle.fractions.specs.Fraction.{Fraction, IsFraction, SameFraction, IsInLowestTerms}
-use Rattle.fractions.specs.LowestTerms.{gcd, signed_gcd, lowest_terms, IsLowestForm}
+use Rattle.fractions.specs.LowestTerms.{gcd, signed_gcd, lowest_terms, IsLowestForm, IsNoLarger}
 use Rattle.fractions.proofs.Gcd.{IsGcd-gcd}
 
 -- ---- the divisor
@@ -106,6 +106,18 @@ IsLowestForm-lowest_terms num den n =
           (size_of_product q.num d num g h.num_is size) (size_of_product q.den d den g h.den_is size) in_num in_den;
       same = same_number num den d q h;
     }
+
+-- a quotient is no larger than the number
+pub abs-int_div-le : (a d : ℤ) → nat_abs (int_div a d) ≤ nat_abs a
+abs-int_div-le (pos a) (pos d) = div-le_self a d
+abs-int_div-le (pos a) (negsuc d) = let le = div-le_self a (suc d) in omega (arith, abs-neg (a / suc d))
+abs-int_div-le (negsuc a) (pos d) = let le = div-le_self (suc a) d in omega (arith, abs-neg (suc a / d))
+abs-int_div-le (negsuc a) (negsuc d) = div-le_self (suc a) (suc d)
+
+pub IsNoLarger-lowest_terms : (num den : ℤ) → IsNoLarger (lowest_terms num den) num den
+unfolding lowest_terms
+IsNoLarger-lowest_terms num den =
+    record { num_size = abs-int_div-le num (signed_gcd num den); den_size = abs-int_div-le den (signed_gcd num den) }
 
 -- ---- no other
 

@@ -16,7 +16,7 @@ impl Ratio {
     ghost use Rattle.std.specs.Prelude.{◌≡◌, ◌^◌, ◌↔◌, pos, IsNone, IfSome};
     ghost use Rattle.integers.specs.Size.{IsWithin};
     ghost use Rattle.fractions.specs.FractionOf.{fraction_of};
-    ghost use Rattle.fractions.specs.LowestTerms.{lowest_terms, IsLowestForm};
+    ghost use Rattle.fractions.specs.LowestTerms.{lowest_terms, IsLowestForm, IsNoLarger};
 
     /// `num` over `den` in lowest terms, and `None` exactly at `den = 0`. Both are at most 2^120 in size.
     pub fn make(num: i128, den: i128) -> Option<Ratio>
@@ -25,6 +25,7 @@ impl Ratio {
         ensures none { IsNone result ↔ (den ≡ pos 0) }
         ensures some { IfSome result (λ r. IsLowestForm (fraction_of r) num den) }
         ensures exact { IfSome result (λ r. fraction_of r ≡ lowest_terms num den) }
+        ensures no_larger { IfSome result (λ r. IsNoLarger (fraction_of r) num den) }
     {
         if den == 0 {
             return None;

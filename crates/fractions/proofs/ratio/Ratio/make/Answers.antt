@@ -1,5 +1,5 @@
 use Rattle.std.proofs.Common.{rules, ◌≡◌, pos}
-use Rattle.fractions.proofs.Divisor.{can_divide_num, can_divide_den, coded_fraction_is, IsLowestForm-coded}
+use Rattle.fractions.proofs.Divisor.{can_divide_num, can_divide_den, coded_fraction_is, IsLowestForm-coded, IsNoLarger-coded}
 use Rattle.fractions.proofs.ratio.Ratio.make.Goals as goal
 
 pub nonzero_div-result : goal.nonzero_div-result
@@ -27,3 +27,8 @@ pub returns-clause-exact : goal.returns-clause-exact
 returns-clause-exact c =
     let nonzero : ¬ (c.args.den ≡ pos 0) = search rules in
     coded_fraction_is c.args.num c.args.den c.signed_divisor-divisor.result (assumption c)
+
+pub returns-clause-no_larger : goal.returns-clause-no_larger
+returns-clause-no_larger c =
+    let nonzero : ¬ (c.args.den ≡ pos 0) = search rules in
+    IsNoLarger-coded c.args.num c.args.den c.signed_divisor-divisor.result (assumption c)
