@@ -1,12 +1,13 @@
 // The reader of ratios.
-ghost use Rattle.std.specs.Prelude.{◌≡◌, ◌≤◌, ◌^◌, ◌<◌, length, pos, ◌<ℤ◌, IfOk};
+ghost use Rattle.std.specs.Prelude.{◌≡◌, ◌≤◌, ◌^◌, ◌<◌, length, pos, ◌<ℤ◌, IfOk, take_while};
 ghost use Rattle.std.specs.Result.{result_err};
+ghost use Rattle.std.specs.Char.{is_ascii_digit};
 ghost use Rattle.std.specs.Str.Parse.{AllDigits, digits_value};
 ghost use Rattle.integers.specs.Size.{IsWithin};
 ghost use Rattle.fractions.specs.FractionOf.{fraction_of};
 ghost use Rattle.fractions.specs.LowestTerms.{lowest_terms};
 ghost use Rattle.fractions.specs.WrittenRatio.{
-    digits_at, behind_digits, number_at, run_fault, numerator, numerator_place, numerator_end, denominator, denominator_behind, end_behind, fault_behind, ratio_end, ratio_fault
+    behind_digits, number_at, run_fault, numerator, numerator_place, numerator_end, denominator, denominator_behind, end_behind, fault_behind, ratio_end, ratio_fault
 };
 
 use crate::ratio::Ratio;
@@ -91,7 +92,7 @@ fn read_denominator(bytes: &[u8], slash: usize) -> Result<(i128, usize), Fractio
 fn read_digits(bytes: &[u8], place: usize) -> Result<(u64, usize), FractionFault>
     requires { place ≤ length bytes.now }
     ensures value { IfOk result (λ read. read.0 ≡ number_at bytes.now place) }
-    ensures small { IfOk result (λ read. read.0 < 10 ^ 18) }
+    ensures small { IfOk result (λ read. read.0 < 10 ^ MOST_DIGITS) }
     ensures end { IfOk result (λ read. read.1 ≡ behind_digits bytes.now place) }
     ensures within { IfOk result (λ read. read.1 ≤ length bytes.now) }
     ensures fault { result_err result ≡ run_fault bytes.now place }
@@ -108,7 +109,7 @@ fn read_digits(bytes: &[u8], place: usize) -> Result<(u64, usize), FractionFault
 
 // How many digits stand in front.
 fn digit_count(bytes: &[u8]) -> usize
-    ensures value { result ≡ length (digits_at bytes.now 0) }
+    ensures value { result ≡ length (take_while is_ascii_digit bytes.now) }
     ensures within { result ≤ length bytes.now }
 {
     bytes.iter().take_while(|byte| byte.is_ascii_digit()).count()
@@ -116,10 +117,10 @@ fn digit_count(bytes: &[u8]) -> usize
 
 // The number that the digits write.
 fn number(digits: &[u8]) -> u64
-    requires short { length digits.now ≤ 18 }
+    requires short { length digits.now ≤ MOST_DIGITS }
     requires digits { AllDigits 10 digits.now }
     ensures value { result ≡ digits_value 10 digits.now }
-    ensures small { result < 10 ^ 18 }
+    ensures small { result < 10 ^ MOST_DIGITS }
 {
     let mut number = 0;
     for digit in digits {
