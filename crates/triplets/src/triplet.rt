@@ -4,6 +4,7 @@ ghost use Rattle.motions.specs.Views.{motion_of};
 ghost use Rattle.symmetry.specs.Motions.{Motion};
 ghost use Rattle.triplets.specs.Grammar.{IsTriplet};
 ghost use Rattle.triplets.specs.Faults.{IsFault};
+ghost use Rattle.triplets.specs.Sizes.{IsTripletSmall};
 
 use fractions::Part;
 use motions::Motion3;
@@ -140,6 +141,7 @@ pub fn read_triplet(bytes: &[u8]) -> Result<Motion3, TripletFault>
     requires { length bytes.now ≤ 16777216 }
     ensures found { IfOk result (λ m. IsTriplet bytes.now (motion_of m)) }
     ensures only { (value : Motion) → IsTriplet bytes.now value → IsOkAnd result (λ m. motion_of m ≡ value) }
+    ensures small { IfOk result (λ m. IsTripletSmall (motion_of m)) }
     ensures fault { IfErr result (λ fault. (before : ℕ) × (fault.place ≡ before + 1) × IsFault bytes.now before fault.kind) }
 {
     let mut reader = TripletReader::new();
