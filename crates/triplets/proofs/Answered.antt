@@ -30,9 +30,10 @@ use Rattle.triplets.proofs.LineBegun.{line_going, line_stopped, lists, lists_not
 use Rattle.triplets.proofs.LineEnds.{is_line, is_line_prefix}
 use Rattle.triplets.proofs.LineRuns.{IsLineRead, is_line_read}
 use Rattle.triplets.proofs.LineKinds.{line_kind}
-
 use Rattle.triplets.specs.TextAnswers.{IsMemory, Lists, IsFaultOf, IsAnswer, IsShownBy, IsAnswerSoFar}
 use Rattle.triplets.proofs.LinePlaces.{one_line_value}
+use Rattle.triplets.specs.Sizes.{IsListingSmall}
+use Rattle.triplets.proofs.Sizes.{text_small}
 use Rattle.triplets.proofs.TextEnds.{IsOutcome, outcome_is}
 use Rattle.triplets.proofs.TextShown.{fault_shown, none_shown, shown_fault}
 
@@ -109,6 +110,11 @@ answer r bytes h = record {
 pub answer_passed : (e : TextFault) (r : Result Listed TextFault) (bytes : List ℕ) → IsErrAnd r (λ x. x ≡ e) → Refuses e (group_of bytes) → IsAnswer bytes r
 answer_passed e (Ok l) bytes h g = absurd h
 answer_passed e (Err x) bytes h g = answer (Err x) bytes (subst (λ y. Refuses y (group_of bytes)) (sym h) g)
+
+-- what is answered is small
+pub answer_small : (r : Result Listed TextFault) (bytes : List ℕ) → length bytes ≤ 16777216 → IsAnswer bytes r → IfOk r (λ l. IsListingSmall (listing_of l))
+answer_small (Ok l) bytes h i = text_small bytes (listing_of l) h i.found
+answer_small (Err e) bytes h i = tt
 
 shown_only : (e : TextFault) (bytes : List ℕ) (g : Listing) → IsShownBy bytes e → IsGroupText bytes g → IsMemory e
 shown_only faults.NoMemory bytes g h i = tt

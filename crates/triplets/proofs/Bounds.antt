@@ -36,7 +36,7 @@ pub more_room : (n : ℕ) (r : rows.Row) → IsRowWithin n r → IsRowWithin (n 
 more_room n r h = omega arith
 
 -- a number with a sign moves by at most itself
-moved_size : (z : ℤ) (s : Sign) (v : ℕ) → nat_abs (z +ℤ signed s v) ≤ nat_abs z + v
+pub moved_size : (z : ℤ) (s : Sign) (v : ℕ) → nat_abs (z +ℤ signed s v) ≤ nat_abs z + v
 moved_size (pos m) Plus v = omega (arith, ints)
 moved_size (negsuc m) Plus v = omega (arith, ints)
 moved_size (pos m) Minus v = omega (arith, ints)
@@ -50,7 +50,7 @@ entry_room n Z v r h = omega arith
 shift_room : (n : ℕ) (s : Sign) (v : ℕ) (r : rows.Row) → v < 1000 * unit → IsRowWithin n r → IsRowWithin (n + 1) (with_shift s v r)
 shift_room n s v r b h = let most = moved_size r.shift s v in omega arith
 
-parts_small : (d : Denominator) (v : ℕ) → v < 1000 → parts d * v < 1000 * unit
+pub parts_small : (d : Denominator) (v : ℕ) → v < 1000 → parts d * v < 1000 * unit
 parts_small One v h = omega arith
 parts_small Two v h = omega arith
 parts_small Three v h = omega arith

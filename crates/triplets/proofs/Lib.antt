@@ -5,6 +5,7 @@ pub mod Partials
 pub mod Wholes
 pub mod KindFacts
 pub mod Bounds
+pub mod Sizes
 pub mod Ends
 pub mod LineBounds
 pub mod TextRuns

@@ -8,6 +8,7 @@ pub mod TripletReading
 pub mod Lines
 pub mod LineFaults
 pub mod LineReading
+pub mod Sizes
 pub mod Texts
 pub mod TextAnswers
 pub mod PlaceBounds

@@ -19,5 +19,5 @@ pub use group::read_group;
 pub use text::LineReader;
 pub use triplet::read_triplet;
 
-
-
+#[cfg(test)]
+mod tests;
