@@ -3,10 +3,9 @@ ghost use Rattle.std.specs.Prelude.{◌≡◌, ℕ, ◌-◌, ◌<◌, ◌≤◌,
 ghost use Rattle.devices.specs.Calls.{next_count, Rose};
 ghost use Rattle.devices.specs.Memory.{Supply, new_supply, least};
 
-use std::marker::Model;
-
 use crate::schedule::Schedule;
 use crate::traits::{Failed, Source};
+use std::marker::Model;
 
 /// A source of bytes in memory, which fails at listed calls.
 #[derive(Drop)]
@@ -24,11 +23,11 @@ impl Model for BytesSource {
     ghost Value = { Supply };
 
     ghost view = { λ s. record {
-        left = drop s.place s.bytes.items;
-        piece = s.piece;
-        failing = s.schedule.failing.items;
-        calls = s.schedule.calls;
-        faults = s.schedule.faults.0;
+      left = drop s.place s.bytes.items;
+      piece = s.piece;
+      failing = s.schedule.failing.items;
+      calls = s.schedule.calls;
+      faults = s.schedule.faults.0;
     } };
 
     ghost invariant = { λ s. (1 ≤ s.piece) × (s.place ≤ length s.bytes.items) };

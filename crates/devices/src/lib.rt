@@ -7,10 +7,13 @@
 
 mod bytes_sink;
 mod bytes_source;
+mod faults;
 mod put;
 mod read;
 mod real;
 mod schedule;
+#[cfg(test)]
+mod tests;
 mod traits;
 
 pub use bytes_sink::{BytesSink, NoMemory};

@@ -1,11 +1,12 @@
 // The real devices: the trusted edge. They tell nothing of their bytes.
 ghost use Rattle.std.specs.Prelude.{◌≡◌, None};
+ghost use Rattle.std.specs.Io.{WritesAtMost};
 
+use crate::faults::Faults;
+use crate::traits::{Failed, Sink, Source};
+use std::io;
 use std::io::{Read, Write};
 use std::marker::Model;
-
-use crate::schedule::Faults;
-use crate::traits::{Failed, Sink, Source};
 
 /// A reader of std, as standard input. Contracts see its count of faults.
 #[derive(Drop)]
@@ -84,17 +85,20 @@ impl<W: Write> Sink for RealSink<W> {
 
     ghost Takes = { λ _ _. ⊥ };
 
-    /// Each error of the writer is a fault, also one that comes where the bytes are flushed, and so is a write that
-    /// took nothing of a piece that is not empty. Nothing stays behind in a buffer of the writer.
+    /// Each error of the writer is a fault, and so is a write that took nothing of a piece that is not empty.
     fn put(&mut self, piece: &[u8]) -> Result<usize, Failed> {
-        match self.writer.write(piece) {
-            Ok(taken) if taken > 0 || piece.is_empty() => {
-                match self.writer.flush() {
-                    Ok(()) => Ok(taken),
-                    Err(_) => Err(self.faults.count()),
-                }
-            }
+        match write_through(&mut self.writer, piece) {
+            Ok(taken) if taken > 0 || piece.is_empty() => Ok(taken),
             _ => Err(self.faults.count()),
         }
     }
+}
+
+// A writer that keeps bytes back would lose them, or hide its error, where the program ends: so each write is flushed.
+fn write_through<W: Write>(writer: &mut W, piece: &[u8]) -> io::Result<usize>
+    ensures { WritesAtMost result piece.now }
+{
+    let taken = writer.write(piece)?;
+    writer.flush()?;
+    Ok(taken)
 }
