@@ -1,5 +1,5 @@
 // The list of a set of motions: one for each set, and of the whole set modulo the plane lattice.
-ghost use Rattle.std.specs.Prelude.{◌≡◌, List, ⊤};
+ghost use Rattle.std.specs.Prelude.{◌≡◌, ◌↔◌, List, ⊤};
 ghost use Rattle.symmetry.specs.Vectors.{Vector};
 ghost use Rattle.symmetry.specs.Motions.{Motion};
 ghost use Rattle.symmetry.specs.Planes.{Height, IsCoprime, IsHeight};
@@ -17,12 +17,12 @@ pub fn lists_agree()
         IsListOf (SameModulo g) g.ops (IsAtHome f) (InAll g r) ns → ms ≡ ns }
 {}
 
-/// The sets that rows tell have the same lists.
+/// The stabiliser, and the motions that map every plane to itself, have the lists of the sets that rows tell.
 pub fn lists_by_rows()
     ensures stabiliser { (g : Listing) (r : Vector) (f : Basis) (s : Height) (ms : List Motion) → IsGroup g → IsCoprime r → IsHeight s →
-        IsListOf (SameModulo g) g.ops (IsAtHome f) (InRowStabiliser g r s) ms → IsListOf (SameModulo g) g.ops (IsAtHome f) (InStabiliser g r s) ms }
+        IsListOf (SameModulo g) g.ops (IsAtHome f) (InRowStabiliser g r s) ms ↔ IsListOf (SameModulo g) g.ops (IsAtHome f) (InStabiliser g r s) ms }
     ensures all { (g : Listing) (r : Vector) (f : Basis) (ms : List Motion) → IsGroup g → IsCoprime r →
-        IsListOf (SameModulo g) g.ops (IsAtHome f) (InRowAll g r) ms → IsListOf (SameModulo g) g.ops (IsAtHome f) (InAll g r) ms }
+        IsListOf (SameModulo g) g.ops (IsAtHome f) (InRowAll g r) ms ↔ IsListOf (SameModulo g) g.ops (IsAtHome f) (InAll g r) ms }
 {}
 
 /// In a frame each motion differs by the plane lattice from exactly one motion at home, which is in the stabiliser of a plane,
