@@ -8,7 +8,18 @@ ghost use Rattle.fractions.specs.FractionOf.{fraction_of};
 ghost use Rattle.fractions.specs.Fraction.{IsFractionWithin};
 ghost use Rattle.fractions.specs.LowestTerms.{lowest_terms, IsLowestForm};
 ghost use Rattle.fractions.specs.WrittenRatio.{
-    behind_digits, number_at, run_fault, numerator, numerator_place, numerator_end, denominator, denominator_behind, end_behind, fault_behind, ratio_end, ratio_fault
+  behind_digits,
+  number_at,
+  run_fault,
+  numerator,
+  numerator_place,
+  numerator_end,
+  denominator,
+  denominator_behind,
+  end_behind,
+  fault_behind,
+  ratio_end,
+  ratio_fault,
 };
 
 use crate::ratio::Ratio;
@@ -116,7 +127,10 @@ fn digit_count(bytes: &[u8]) -> usize
     ensures value { result ≡ length (take_while is_ascii_digit bytes.now) }
     ensures within { result ≤ length bytes.now }
 {
-    bytes.iter().take_while(|byte| byte.is_ascii_digit()).count()
+    bytes
+        .iter()
+        .take_while(|byte| byte.is_ascii_digit())
+        .count()
 }
 
 // The number that the digits write.
