@@ -9,6 +9,6 @@ mod check;
 mod lists;
 mod traits;
 
-pub use check::GroupFault;
+pub use check::{GroupFault, check_group};
 pub use lists::find;
 pub use traits::{Motion, Quotient};
