@@ -1,4 +1,6 @@
 pub mod Faults
+pub mod Firsts
 pub mod Items
+pub mod Kept
 pub mod Positions
 pub mod Sameness

@@ -1,5 +1,5 @@
 -- Lists of motions, read modulo shifts.
-use Rattle.std.specs.Prelude.{ℕ, ◌<◌, List, length, slice_index_or, Contains}
+use Rattle.std.specs.Prelude.{ℕ, ◌<◌, List, [], ◌∷◌, ◌++◌, length, slice_index_or, Any, Contains}
 use Rattle.quotient.specs.Kind.{Kind, IsSame}
 
 -- some motion of the list is the same as m
@@ -13,3 +13,9 @@ pub record IsFirstSame (K : Kind) (list : List K.Motion) (m : K.Motion) (i : ℕ
   pub within : i < length list
   pub same : IsSame K m (slice_index_or list i K.one)
   pub before : (k : ℕ) → k < i → ¬ IsSame K m (slice_index_or list k K.one)
+
+-- of a list, read from the left, the items that are the same as no earlier one, in their order
+pub data AreFirst {A : Type 0} (Same : A → A → Type 0) : List A → List A → Type 0 where
+  none : AreFirst Same [] []
+  kept : (list firsts : List A) (x : A) → AreFirst Same list firsts → ¬ Any (Same x) list → AreFirst Same (list ++ x ∷ []) (firsts ++ x ∷ [])
+  left_out : (list firsts : List A) (x : A) → AreFirst Same list firsts → Any (Same x) list → AreFirst Same (list ++ x ∷ []) firsts

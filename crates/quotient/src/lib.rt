@@ -10,5 +10,5 @@ mod lists;
 mod traits;
 
 pub use check::{GroupFault, check_group};
-pub use lists::find;
+pub use lists::{NoMemory, distinct, find};
 pub use traits::{Motion, Quotient};
