@@ -27,7 +27,7 @@ use Rattle.triplets.specs.Denominators.{first_digit, further_digit}
 use Rattle.triplets.specs.PartReading.{begin, settled, part_step, on_blank, on_sign, on_letter, on_digit, on_slash, on_new_letter_at, below_or, with_letter, with_spot}
 use Rattle.triplets.specs.TripletReading.{start, with_part, in_part, next_part, comma_at, on_comma, early_comma, hash_kind, value_at, value, step, advance, run}
 use Rattle.triplets.specs.Grammar.{Blank, space, tab, carriage_return, blank_byte, sign_byte, letter_byte, Digit, digit_value, IsTriplet}
-use Rattle.triplets.specs.Faults.{IsGood, IsPrefixOfGood, is_digit, is_blank, is_letter, last_mark, last_other, digits_at_end, stands, Row, IsLetter, IsRepeated, HasKind}
+use Rattle.triplets.specs.Faults.{IsGood, IsPrefixOfGood, is_digit, is_blank, is_letter, last_mark, last_other, digits_at_end, stands, TableRow, IsLetter, IsRepeated, HasKind}
 use Rattle.triplets.proofs.Bytes.{IsMark, mark_is, mark_letter, mark_digit}
 use Rattle.triplets.proofs.Partials.{fine, ok_is, err_is, passed, met, below_is}
 use Rattle.triplets.proofs.Wholes.{going, stopped, going_is, PartStep, part_step_is, run_stopped, found, is_triplet, is_read, IsRead}
@@ -73,10 +73,10 @@ Whole s G = ((t : Motion3) → value s ≡ found t → G) × (value s ≡ no_tri
 
 -- the comma where the part is not whole
 pub after_comma : (S : Axis → Bool) (o c : ℕ) →
-    Row ((a : Axis) × IsTrue (is_letter a 44) × IsTrue (S a)) kinds.Repeated kinds.UnknownSign (
-    Row (IsLetter 44 × (1 ≤ c)) kinds.Coefficient kinds.UnknownSign (
-    Row (IsTrue (is_digit 44) × (o ≡ 47)) kinds.Denominator kinds.UnknownSign (
-    Row (IsTrue (is_digit 44) × (3 ≤ c)) kinds.Coefficient kinds.UnknownSign (
+    TableRow ((a : Axis) × IsTrue (is_letter a 44) × IsTrue (S a)) kinds.Repeated kinds.UnknownSign (
+    TableRow (IsLetter 44 × (1 ≤ c)) kinds.Coefficient kinds.UnknownSign (
+    TableRow (IsTrue (is_digit 44) × (o ≡ 47)) kinds.Denominator kinds.UnknownSign (
+    TableRow (IsTrue (is_digit 44) × (3 ≤ c)) kinds.Coefficient kinds.UnknownSign (
     kinds.UnknownSign ≡ kinds.UnknownSign))))
 after_comma S o c =
     inr (

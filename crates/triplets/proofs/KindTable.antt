@@ -27,7 +27,7 @@ use Rattle.triplets.specs.Denominators.{first_digit, further_digit}
 use Rattle.triplets.specs.PartReading.{begin, settled, part_step, on_blank, on_sign, on_letter, on_digit, on_slash, on_new_letter_at, below_or, with_letter, with_spot}
 use Rattle.triplets.specs.TripletReading.{start, with_part, in_part, next_part, comma_at, on_comma, early_comma, hash_kind, value_at, value, step, advance, run}
 use Rattle.triplets.specs.Grammar.{Blank, space, tab, carriage_return, blank_byte, sign_byte, letter_byte, Digit, digit_value, IsTriplet}
-use Rattle.triplets.specs.Faults.{IsGood, IsPrefixOfGood, is_digit, is_blank, is_letter, last_mark, last_other, digits_at_end, stands, Row, IsLetter, IsRepeated, HasKind}
+use Rattle.triplets.specs.Faults.{IsGood, IsPrefixOfGood, is_digit, is_blank, is_letter, last_mark, last_other, digits_at_end, stands, TableRow, IsLetter, IsRepeated, HasKind}
 use Rattle.triplets.proofs.Bytes.{IsMark, mark_is, mark_letter, mark_digit}
 use Rattle.triplets.proofs.Partials.{fine, ok_is, err_is, passed, met, below_is}
 use Rattle.triplets.proofs.Wholes.{going, stopped, going_is, PartStep, part_step_is, run_stopped, found, is_triplet, is_read, IsRead}
@@ -35,13 +35,13 @@ use Rattle.triplets.proofs.Seen.{Seen, nothing_seen, seen, seen_step, seen_blank
 
 abbrev pub KindOf : (m o c : ℕ) → (Axis → Bool) → Type 0 → ℕ → TextKind → Type 0
 KindOf m o c S G b kind =
-    Row ((b ≡ 35) × ¬ G) kinds.MissingPart kind (
-    Row ((b ≡ 44) × G) kinds.ExtraPart kind (
-    Row ((b ≡ 44) × (m ≡ 44)) kinds.Empty kind (
-    Row ((a : Axis) × IsTrue (is_letter a b) × IsTrue (S a)) kinds.Repeated kind (
-    Row (IsLetter b × (1 ≤ c)) kinds.Coefficient kind (
-    Row (IsTrue (is_digit b) × (o ≡ 47)) kinds.Denominator kind (
-    Row (IsTrue (is_digit b) × (3 ≤ c)) kinds.Coefficient kind (
+    TableRow ((b ≡ 35) × ¬ G) kinds.MissingPart kind (
+    TableRow ((b ≡ 44) × G) kinds.ExtraPart kind (
+    TableRow ((b ≡ 44) × (m ≡ 44)) kinds.Empty kind (
+    TableRow ((a : Axis) × IsTrue (is_letter a b) × IsTrue (S a)) kinds.Repeated kind (
+    TableRow (IsLetter b × (1 ≤ c)) kinds.Coefficient kind (
+    TableRow (IsTrue (is_digit b) × (o ≡ 47)) kinds.Denominator kind (
+    TableRow (IsTrue (is_digit b) × (3 ≤ c)) kinds.Coefficient kind (
     kind ≡ kinds.UnknownSign)))))))
 
 pub table_is : (before : List ℕ) (b : ℕ) (k : TextKind) → KindOf (last_mark 44 before) (last_other 0 before) (digits_at_end 0 before) (λ a. stands a false before) (IsGood before) b k → HasKind before b k
@@ -164,9 +164,9 @@ below_err v (Some d) p k e = absurd cc
 
 -- at a letter that does not stand in the part
 pub new_letter_fault : (spot : Spot) (r : rows.Row) (u : Used) (g : Sign) (f : Seen) (a : Axis) (c : Bool) (k : TextKind) → SpotAgrees spot f → on_new_letter_at a spot (at r u g spot) ≡ part_stopped k →
-    Row (IsLetter (letter_byte a c) × (1 ≤ f.count)) kinds.Coefficient k (
-    Row (IsTrue (is_digit (letter_byte a c)) × (f.other ≡ 47)) kinds.Denominator k (
-    Row (IsTrue (is_digit (letter_byte a c)) × (3 ≤ f.count)) kinds.Coefficient k (
+    TableRow (IsLetter (letter_byte a c) × (1 ≤ f.count)) kinds.Coefficient k (
+    TableRow (IsTrue (is_digit (letter_byte a c)) × (f.other ≡ 47)) kinds.Denominator k (
+    TableRow (IsTrue (is_digit (letter_byte a c)) × (3 ≤ f.count)) kinds.Coefficient k (
     k ≡ kinds.UnknownSign)))
 new_letter_fault Begin r u g f a c k h w = not_ok _ k w
 new_letter_fault Signed r u g f a c k h w = not_ok _ k w
@@ -230,8 +230,8 @@ digit_fault spot r u g f S G d k h w =
     )
   where
     digit_rows : (spot : Spot) (r : rows.Row) (u : Used) (g : Sign) (f : Seen) (d : Digit) (k : TextKind) → SpotAgrees spot f → on_digit (digit_value d) (at r u g spot) ≡ part_stopped k →
-        Row (IsTrue (is_digit d.byte) × (f.other ≡ 47)) kinds.Denominator k (
-        Row (IsTrue (is_digit d.byte) × (3 ≤ f.count)) kinds.Coefficient k (
+        TableRow (IsTrue (is_digit d.byte) × (f.other ≡ 47)) kinds.Denominator k (
+        TableRow (IsTrue (is_digit d.byte) × (3 ≤ f.count)) kinds.Coefficient k (
         k ≡ kinds.UnknownSign))
     digit_rows Begin r u g f d k h w = not_ok _ k w
     digit_rows Signed r u g f d k h w = not_ok _ k w

@@ -35,7 +35,7 @@ use Rattle.triplets.specs.PartReading.{begin, settled, part_step, on_blank, on_s
 use Rattle.triplets.specs.TripletReading.{start, with_part, in_part, next_part, comma_at, on_comma, early_comma, value, step}
 use Rattle.triplets.specs.Grammar.{Blank, space, tab, carriage_return, blank_byte, sign_byte, letter_byte, Digit, digit_value}
 use Rattle.triplets.specs.LineReading.{opened, in_operation, in_coordinate, next_coordinate, coordinate_comma, closed_at, on_close, is_digits, behind_number, coordinate_sign, vector_step, start_step, comment_behind, operation_step, closed_step, behind_step, place_step, completed, with_vector, LineState, line_start, at_place, line_step, line_advance, line_run}
-use Rattle.triplets.specs.Faults.{is_digit, is_blank, is_letter, last_mark, last_other, digits_at_end, Row, IsLetter}
+use Rattle.triplets.specs.Faults.{is_digit, is_blank, is_letter, last_mark, last_other, digits_at_end, TableRow, IsLetter}
 use Rattle.triplets.specs.LineFaults.{last_bracket, commas, line_stands, is_end_of_part, IsFresh, HasLineKind}
 use Rattle.triplets.proofs.Bytes.{IsMark, mark_is, mark_letter, mark_digit}
 use Rattle.triplets.proofs.Partials.{fine, ok_is, err_is, passed, met, below_is}
@@ -49,10 +49,10 @@ use Rattle.triplets.proofs.LineSeen.{LineSeen, line_seen_step, line_seen, line_s
 
 abbrev pub Suffix : (o c : ℕ) → (Axis → Bool) → ℕ → TextKind → Type 0
 Suffix o c S b k =
-    Row ((a : Axis) × IsTrue (is_letter a b) × IsTrue (S a)) kinds.Repeated k (
-    Row (IsLetter b × (1 ≤ c)) kinds.Coefficient k (
-    Row (IsTrue (is_digit b) × (o ≡ 47)) kinds.Denominator k (
-    Row (IsTrue (is_digit b) × (3 ≤ c)) kinds.Coefficient k (
+    TableRow ((a : Axis) × IsTrue (is_letter a b) × IsTrue (S a)) kinds.Repeated k (
+    TableRow (IsLetter b × (1 ≤ c)) kinds.Coefficient k (
+    TableRow (IsTrue (is_digit b) × (o ≡ 47)) kinds.Denominator k (
+    TableRow (IsTrue (is_digit b) × (3 ≤ c)) kinds.Coefficient k (
     k ≡ kinds.UnknownSign))))
 
 abbrev pub Fresh : ℕ → ℕ → Type 0
@@ -60,10 +60,10 @@ Fresh m n = (m ≡ 44) ⊎ ((m ≡ 40) ⊎ ((m ≡ 41) × (n ≡ 0)))
 
 abbrev pub LineKindOf : LineSeen → (Axis → Bool) → ℕ → TextKind → Type 0
 LineKindOf f S b k =
-    Row (b ≡ 35) kinds.MissingPart k (
-    Row ((b ≡ 41) × (f.bracket ≡ 40) × IsTrue (is_digit f.mark)) kinds.MissingPart k (
-    Row ((b ≡ 44) × (f.commas ≡ 2) × IsTrue (is_end_of_part f.mark)) kinds.ExtraPart k (
-    Row ((b ≡ 44) × Fresh f.mark f.commas) kinds.Empty k (
+    TableRow (b ≡ 35) kinds.MissingPart k (
+    TableRow ((b ≡ 41) × (f.bracket ≡ 40) × IsTrue (is_digit f.mark)) kinds.MissingPart k (
+    TableRow ((b ≡ 44) × (f.commas ≡ 2) × IsTrue (is_end_of_part f.mark)) kinds.ExtraPart k (
+    TableRow ((b ≡ 44) × Fresh f.mark f.commas) kinds.Empty k (
     Suffix f.other f.count S b k))))
 
 pub suffix_of : (m o c : ℕ) (S : Axis → Bool) (G : Type 0) (b : ℕ) (k : TextKind) → b ≢ 35 → b ≢ 44 → KindOf m o c S G b k → Suffix o c S b k
@@ -144,7 +144,7 @@ abbrev pub comma : ℕ
 comma = 44
 
 pub early_rest : (spot : Spot) (g : Seen) (f : LineSeen) (S : Axis → Bool) → SpotAgrees spot g → SameMark f.mark f.commas g.mark →
-    Row ((comma ≡ 44) × Fresh f.mark f.commas) kinds.Empty (early_comma spot) (Suffix f.other f.count S 44 (early_comma spot))
+    TableRow ((comma ≡ 44) × Fresh f.mark f.commas) kinds.Empty (early_comma spot) (Suffix f.other f.count S 44 (early_comma spot))
 early_rest Begin g f S h m = inl ((refl, is_fresh _ _ _ m h.0), refl)
 early_rest Signed g f S h m = inr ((λ e. not_fresh _ _ _ m h.0 e.1), after_comma S f.other f.count)
 early_rest (Digits n v) g f S h m = inr ((λ e. not_fresh _ _ _ m h.0 e.1), after_comma S f.other f.count)
@@ -222,7 +222,7 @@ no_used f S x s u = s x ∙ (ap (uses x) u ∙ none x)
     none Z = refl
 
 pub letter_rows : (spot : Spot) (g : Seen) (f : LineSeen) (a : Axis) (c : Bool) (k : TextKind) → SpotAgrees spot g → f.count ≡ g.count → k ≡ behind_number spot →
-    Row (IsLetter (letter_byte a c) × (1 ≤ f.count)) kinds.Coefficient k (Row (IsTrue (is_digit (letter_byte a c)) × (f.other ≡ 47)) kinds.Denominator k (Row (IsTrue (is_digit (letter_byte a c)) × (3 ≤ f.count)) kinds.Coefficient k (k ≡ kinds.UnknownSign)))
+    TableRow (IsLetter (letter_byte a c) × (1 ≤ f.count)) kinds.Coefficient k (TableRow (IsTrue (is_digit (letter_byte a c)) × (f.other ≡ 47)) kinds.Denominator k (TableRow (IsTrue (is_digit (letter_byte a c)) × (3 ≤ f.count)) kinds.Coefficient k (k ≡ kinds.UnknownSign)))
 letter_rows Begin g f a c k h n e = inr ((λ x. omega (arith, x.1, h.1, n)), inr ((λ x. apart _ x.0 (letter_bounds a c).3), inr ((λ x. apart _ x.0 (letter_bounds a c).3), e)))
 letter_rows Signed g f a c k h n e = inr ((λ x. omega (arith, x.1, h.1, n)), inr ((λ x. apart _ x.0 (letter_bounds a c).3), inr ((λ x. apart _ x.0 (letter_bounds a c).3), e)))
 letter_rows (Digits m v) g f a c k h n e = inl (((a, letter_self a c), omega (arith, h.1, h.3, n)), e)

@@ -35,7 +35,7 @@ use Rattle.triplets.specs.PartReading.{begin, settled, part_step, on_blank, on_s
 use Rattle.triplets.specs.TripletReading.{start, with_part, in_part, next_part, comma_at, on_comma, early_comma, value, step}
 use Rattle.triplets.specs.Grammar.{Blank, space, tab, carriage_return, blank_byte, sign_byte, letter_byte, Digit, digit_value}
 use Rattle.triplets.specs.LineReading.{opened, in_operation, in_coordinate, next_coordinate, coordinate_comma, closed_at, on_close, is_digits, behind_number, coordinate_sign, vector_step, start_step, comment_behind, operation_step, closed_step, behind_step, place_step, completed, with_vector, LineState, line_start, at_place, line_step, line_advance, line_run}
-use Rattle.triplets.specs.Faults.{is_digit, is_blank, is_letter, last_mark, last_other, digits_at_end, Row, IsLetter}
+use Rattle.triplets.specs.Faults.{is_digit, is_blank, is_letter, last_mark, last_other, digits_at_end, TableRow, IsLetter}
 use Rattle.triplets.specs.LineFaults.{last_bracket, commas, line_stands, is_end_of_part, IsFresh, HasLineKind}
 use Rattle.triplets.proofs.Bytes.{IsMark, mark_is, mark_letter, mark_digit}
 use Rattle.triplets.proofs.Partials.{fine, ok_is, err_is, passed, met, below_is}

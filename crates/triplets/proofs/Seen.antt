@@ -27,7 +27,7 @@ use Rattle.triplets.specs.Denominators.{first_digit, further_digit}
 use Rattle.triplets.specs.PartReading.{begin, settled, part_step, on_blank, on_sign, on_letter, on_digit, on_slash, on_new_letter_at, below_or, with_letter, with_spot}
 use Rattle.triplets.specs.TripletReading.{start, with_part, in_part, next_part, comma_at, on_comma, early_comma, hash_kind, value_at, value, step, advance, run}
 use Rattle.triplets.specs.Grammar.{Blank, space, tab, carriage_return, blank_byte, sign_byte, letter_byte, Digit, digit_value, IsTriplet}
-use Rattle.triplets.specs.Faults.{IsGood, IsPrefixOfGood, is_digit, is_blank, is_letter, last_mark, last_other, digits_at_end, stands, Row, IsLetter, IsRepeated, HasKind}
+use Rattle.triplets.specs.Faults.{IsGood, IsPrefixOfGood, is_digit, is_blank, is_letter, last_mark, last_other, digits_at_end, stands, TableRow, IsLetter, IsRepeated, HasKind}
 use Rattle.triplets.proofs.Bytes.{IsMark, mark_is, mark_letter, mark_digit}
 use Rattle.triplets.proofs.Partials.{fine, ok_is, err_is, passed, met, below_is}
 use Rattle.triplets.proofs.Wholes.{going, stopped, going_is, PartStep, part_step_is, run_stopped, found, is_triplet, is_read, IsRead}
