@@ -1,10 +1,8 @@
 -- The numbers that a triplet or a group text gives are small.
-use Rattle.std.proofs.Common.{◌≡◌, ℕ, zero, suc, ◌+◌, ◌*◌, ◌<◌, ◌≤◌, Bool, true, false, cond, List, [], ◌∷◌, ◌++◌, length, Option, Some, None, ℤ, pos, negsuc, neg_ℤ, ◌+ℤ◌, refl, sym, ◌∙◌, ap, subst, arith, length-append}
+use Rattle.std.proofs.Common.{ℕ, zero, suc, ◌+◌, ◌*◌, ◌<◌, ◌≤◌, Bool, true, false, cond, List, [], ◌∷◌, ◌++◌, length, ℤ, sym, ◌∙◌, ap, subst, arith, length-append}
 use Rattle.std.specs.Prelude.{◌^◌, ◌==◌, nat_abs, All}
 use Rattle.std.proofs.lemmas.Int.{ints}
 use Rattle.std.proofs.lemmas.List.Elements.{All-append, All-nil}
-use Rattle.integers.specs.Size.{IsWithin}
-use Rattle.symmetry.specs.Vectors.{Vector}
 use Rattle.symmetry.specs.Motions.{Motion}
 use Rattle.symmetry.specs.Groups.{Listing}
 use Rattle.symmetry.specs.Sizes.{IsVectorWithin}
@@ -15,8 +13,8 @@ use Rattle.triplets.specs.declared.marks.Axis.TheVariants.{X, Y, Z}
 use Rattle.triplets.specs.declared.part.Row.{Row}
 use Rattle.triplets.specs.Rows.{signed, with_entry, with_shift, zero_row, motion_with}
 use Rattle.triplets.specs.Denominators.{unit, parts}
-use Rattle.triplets.specs.Grammar.{Digit, digit_value, digits_text, Numerator, decimal, numerator_text, numerator_value, Term, letter, multiple, whole, fraction, term_text, with_term, Lead, bare, sign, more, lead_text, lead_row, lead_sign, sign_byte, blanks_text, Blank, Written, part_text, part_row, IsTriplet}
-use Rattle.triplets.specs.Lines.{Coordinate, coordinate_text, coordinate_value, Centring, centring_text, centring_value, Centrings, one, further, centrings_text, centrings_value, Form, empty, operation, row, form_text, form_value, label_text, comment_text, IsLine}
+use Rattle.triplets.specs.Grammar.{Digit, digit_value, Numerator, decimal, numerator_value, Term, letter, multiple, whole, fraction, term_text, with_term, Lead, bare, sign, more, lead_text, lead_row, lead_sign, sign_byte, blanks_text, Written, part_text, part_row, IsTriplet}
+use Rattle.triplets.specs.Lines.{coordinate_text, Centring, centring_text, centring_value, Centrings, one, further, centrings_text, centrings_value, Form, empty, operation, row, form_text, form_value, label_text, comment_text, IsLine}
 use Rattle.triplets.specs.Texts.{lines_of, with_front, listed_then, nothing_listed, AreLines, IsGroupText}
 use Rattle.triplets.specs.Sizes.{IsTripletSmall, IsListingSmall}
 use Rattle.triplets.proofs.Bounds.{moved_size, parts_small}
