@@ -11,8 +11,8 @@ use Rattle.triplets.specs.Texts.{lines_of, nothing_listed, listed_then, AreLines
 use Rattle.triplets.specs.TextReading.{Kept, kept_start, text_run, group_of, Gives, Refuses}
 use Rattle.triplets.specs.TextAnswers.{IsMemory, Lists, IsFaultOf, IsAnswer, IsShownBy, IsAnswerSoFar}
 use Rattle.triplets.proofs.LinePlaces.{one_line_value}
-use Rattle.triplets.specs.Sizes.{IsListingSmall}
-use Rattle.triplets.proofs.Sizes.{text_small}
+use Rattle.motions.specs.ListedSizes.{IsListedSmall}
+use Rattle.triplets.proofs.Sizes.{text_small, listed_small}
 use Rattle.triplets.proofs.TextEnds.{IsOutcome, outcome_is}
 use Rattle.triplets.proofs.TextShown.{fault_shown, none_shown, shown_fault}
 
@@ -91,8 +91,8 @@ answer_passed e (Ok l) bytes h g = absurd h
 answer_passed e (Err x) bytes h g = answer (Err x) bytes (subst (λ y. Refuses y (group_of bytes)) (sym h) g)
 
 -- what is answered is small
-pub answer_small : (r : Result Listed TextFault) (bytes : List ℕ) → length bytes ≤ 16777216 → IsAnswer bytes r → IfOk r (λ l. IsListingSmall (listing_of l))
-answer_small (Ok l) bytes h i = text_small bytes (listing_of l) h i.found
+pub answer_small : (r : Result Listed TextFault) (bytes : List ℕ) → length bytes ≤ 16777216 → IsAnswer bytes r → IfOk r (λ l. IsListedSmall 9 l)
+answer_small (Ok l) bytes h i = listed_small l (text_small bytes (listing_of l) h i.found)
 answer_small (Err e) bytes h i = tt
 
 shown_only : (e : TextFault) (bytes : List ℕ) (g : Listing) → IsShownBy bytes e → IsGroupText bytes g → IsMemory e
