@@ -1,3 +1,4 @@
+pub mod Bytes
 pub mod Marks
 pub mod Denominators
 pub mod Rows
@@ -8,7 +9,6 @@ pub mod TripletReading
 pub mod Lines
 pub mod LineFaults
 pub mod LineReading
-pub mod Sizes
 pub mod Texts
 pub mod TextAnswers
 pub mod PlaceBounds
