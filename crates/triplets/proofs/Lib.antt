@@ -1,0 +1,2 @@
+mod Terms
+mod WritingSamples

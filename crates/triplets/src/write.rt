@@ -1,0 +1,92 @@
+// Motions written as coordinate triplets.
+ghost use Rattle.std.specs.Prelude.{◌≡◌, ◌∷◌, [], ◌++◌, ◌==◌, IfOk, OnOk, length};
+ghost use Rattle.std.specs.Str.Parse.{without_leading_plus};
+ghost use Rattle.motions.specs.Views.{motion_of, vector_of};
+ghost use Rattle.triplets.specs.Writing.{coefficient_text, letter_term, number_term, placed, row_text, terms_text, triplet_text};
+
+use itoa::Buffer;
+use std::alloc::{AllocError, Global};
+
+use fractions::Part;
+use motions::Motion3;
+
+/// Memory has run out.
+pub type NoMemory = AllocError;
+
+/// Writes the coordinate triplet of a motion in its one written form, such as `-x+1/2,y,-z`.
+pub fn write_triplet(alloc: Global, m: &Motion3) -> Result<Vec<u8>, NoMemory>
+    ensures { IfOk result (λ text. text.items ≡ triplet_text (motion_of m.now)) }
+{
+    let mut text = Vec::new(alloc);
+    push_triplet(&mut text, m)?;
+    Ok(text)
+}
+
+fn push_triplet(text: &mut Vec<u8>, m: &Motion3) -> Result<(), NoMemory>
+    ensures { OnOk result (text.new.items ≡ text.old.items ++ triplet_text (motion_of m.now)) }
+{
+    push_row(text, &m.w[0], m.t[0])?;
+    text.push(b',')?;
+    push_row(text, &m.w[1], m.t[1])?;
+    text.push(b',')?;
+    push_row(text, &m.w[2], m.t[2])
+}
+
+fn push_row(text: &mut Vec<u8>, row: &[i64; 3], shift: Part) -> Result<(), NoMemory>
+    ensures { OnOk result (text.new.items ≡ text.old.items ++ row_text (vector_of row.now) shift.0) }
+{
+    let start = text.len();
+    push_terms(text, row, shift)?;
+    if text.len() == start {
+        text.push(b'0')?;
+    }
+    Ok(())
+}
+
+fn push_terms(text: &mut Vec<u8>, row: &[i64; 3], shift: Part) -> Result<(), NoMemory>
+    ensures { OnOk result (text.new.items
+        ≡ text.old.items ++ without_leading_plus (terms_text (vector_of row.now) shift.0)) }
+{
+    let start = text.len();
+    push_letter(text, start, row[0], b'x')?;
+    push_letter(text, start, row[1], b'y')?;
+    push_letter(text, start, row[2], b'z')?;
+    push_number(text, start, shift)
+}
+
+// Appends the term of a coefficient to the part that begins at `start`.
+fn push_letter(text: &mut Vec<u8>, start: usize, coefficient: i64, letter: u8) -> Result<(), NoMemory>
+    ensures { OnOk result (text.new.items
+        ≡ text.old.items ++ placed (length text.old.items == start) (letter_term coefficient (letter ∷ []))) }
+{
+    if coefficient == 0 {
+        return Ok(());
+    }
+    if coefficient > 0 && text.len() != start {
+        text.push(b'+')?;
+    }
+    push_coefficient(text, coefficient)?;
+    text.push(letter)?;
+    Ok(())
+}
+
+fn push_coefficient(text: &mut Vec<u8>, coefficient: i64) -> Result<(), NoMemory>
+    ensures { OnOk result (text.new.items ≡ text.old.items ++ coefficient_text coefficient) }
+{
+    match coefficient {
+        1 => {}
+        -1 => text.push(b'-')?,
+        _ => {
+            let mut buffer = Buffer::new();
+            text.extend_from_slice(buffer.format(coefficient).as_bytes())?;
+        }
+    }
+    Ok(())
+}
+
+fn push_number(text: &mut Vec<u8>, start: usize, shift: Part) -> Result<(), NoMemory>
+    ensures { OnOk result (text.new.items
+        ≡ text.old.items ++ placed (length text.old.items == start) (number_term shift.0)) }
+{
+    Ok(())
+}
