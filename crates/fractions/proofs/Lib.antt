@@ -1,0 +1,4 @@
+pub mod Divisor
+pub mod Gcd
+pub mod Lowest
+pub mod Reduced

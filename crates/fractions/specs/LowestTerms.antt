@@ -1,6 +1,5 @@
 -- The lowest terms of a fraction.
-use Rattle.std.specs.Prelude.{ℕ, zero, suc, ◌%◌, ℤ, pos, ◌*ℤ◌, int_div, unsigned_abs}
-use Rattle.std.specs.Int.{int_signum}
+use Rattle.std.specs.Prelude.{ℕ, zero, suc, ◌%◌, ◌≤◌, ℤ, pos, negsuc, neg_ℤ, int_div, unsigned_abs}
 use Rattle.fractions.specs.Fraction.{Fraction, IsFraction, SameFraction, IsInLowestTerms}
 
 -- Euclid's remainders, of which there are no more than the steps
@@ -15,7 +14,8 @@ gcd a b = gcd_in (suc b) a b
 
 -- that of two whole numbers, with the sign of the second
 unfoldable pub signed_gcd : ℤ → ℤ → ℤ
-signed_gcd num den = int_signum den *ℤ pos (gcd (unsigned_abs num) (unsigned_abs den))
+signed_gcd num (pos den) = pos (gcd (unsigned_abs num) den)
+signed_gcd num (negsuc den) = neg_ℤ (pos (gcd (unsigned_abs num) (suc den)))
 
 -- num over den, both divided by it: the sign goes to the numerator
 unfoldable pub lowest_terms : ℤ → ℤ → Fraction
@@ -26,3 +26,8 @@ pub record IsLowestForm (q : Fraction) (num den : ℤ) : Type 0 where
   pub positive : IsFraction q
   pub lowest : IsInLowestTerms q
   pub same : SameFraction q (record { num = num; den = den })
+
+-- neither number of q is larger in size than that of num over den
+pub record IsNoLarger (q : Fraction) (num den : ℤ) : Type 0 where
+  pub num_size : unsigned_abs q.num ≤ unsigned_abs num
+  pub den_size : unsigned_abs q.den ≤ unsigned_abs den

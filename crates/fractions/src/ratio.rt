@@ -1,7 +1,7 @@
 // Fractions in lowest terms.
 ghost use Rattle.fractions.specs.Fraction.{IsFraction, IsInLowestTerms};
 
-use crate::euclid::greatest_common_divisor;
+use crate::euclid::signed_divisor;
 
 /// A fraction in lowest terms, its denominator at least 1: so each rational number is one `Ratio`.
 #[derive(Clone, Copy, PartialEq, Eq, Debug)]
@@ -16,7 +16,7 @@ impl Ratio {
     ghost use Rattle.std.specs.Prelude.{◌≡◌, ◌^◌, ◌↔◌, pos, IsNone, IfSome};
     ghost use Rattle.integers.specs.Size.{IsWithin};
     ghost use Rattle.fractions.specs.FractionOf.{fraction_of};
-    ghost use Rattle.fractions.specs.LowestTerms.{lowest_terms, IsLowestForm};
+    ghost use Rattle.fractions.specs.LowestTerms.{lowest_terms, IsLowestForm, IsNoLarger};
 
     /// `num` over `den` in lowest terms, and `None` exactly at `den = 0`. Both are at most 2^120 in size.
     pub fn make(num: i128, den: i128) -> Option<Ratio>
@@ -25,13 +25,13 @@ impl Ratio {
         ensures none { IsNone result ↔ (den ≡ pos 0) }
         ensures some { IfSome result (λ r. IsLowestForm (fraction_of r) num den) }
         ensures exact { IfSome result (λ r. fraction_of r ≡ lowest_terms num den) }
+        ensures no_larger { IfSome result (λ r. IsNoLarger (fraction_of r) num den) }
     {
         if den == 0 {
             return None;
         }
-        // With the sign of `den`, so that the new denominator is positive.
-        let divisor = greatest_common_divisor(num.unsigned_abs(), den.unsigned_abs()) as i128
-            * den.signum();
+        // It has the sign of `den`, so the new denominator is positive.
+        let divisor = signed_divisor(num, den);
         Some(Ratio {
             num: num / divisor,
             den: den / divisor,

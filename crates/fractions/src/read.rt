@@ -1,9 +1,13 @@
 // The reader of ratios.
-ghost use Rattle.std.specs.Prelude.{◌≡◌, ◌≤◌, length, IfOk};
+ghost use Rattle.std.specs.Prelude.{◌≡◌, ◌≤◌, ◌^◌, ◌<◌, length, pos, ◌<ℤ◌, IfOk};
 ghost use Rattle.std.specs.Result.{result_err};
+ghost use Rattle.std.specs.Str.Parse.{AllDigits, digits_value};
+ghost use Rattle.integers.specs.Size.{IsWithin};
 ghost use Rattle.fractions.specs.FractionOf.{fraction_of};
 ghost use Rattle.fractions.specs.LowestTerms.{lowest_terms};
-ghost use Rattle.fractions.specs.WrittenRatio.{numerator, denominator, ratio_end, ratio_fault};
+ghost use Rattle.fractions.specs.WrittenRatio.{
+    digits_at, behind_digits, number_at, run_fault, numerator, numerator_place, numerator_end, denominator, denominator_behind, end_behind, fault_behind, ratio_end, ratio_fault
+};
 
 use crate::ratio::Ratio;
 
@@ -33,5 +37,93 @@ pub fn read_ratio(bytes: &[u8], at: usize) -> Result<(Ratio, usize), FractionFau
     ensures within { IfOk result (λ read. read.1 ≤ length bytes.now) }
     ensures fault { result_err result ≡ ratio_fault bytes.now at }
 {
-    Err(FractionFault::NoDigit(at))
+    let (num, slash) = read_numerator(bytes, at)?;
+    let (den, end) = read_denominator(bytes, slash)?;
+    Ok((Ratio::make(num, den).unwrap(), end))
+}
+
+// The numerator with its sign, and the index behind it.
+fn read_numerator(bytes: &[u8], at: usize) -> Result<(i128, usize), FractionFault>
+    requires { at ≤ length bytes.now }
+    ensures value { IfOk result (λ read. read.0 ≡ numerator bytes.now at) }
+    ensures small { IfOk result (λ read. IsWithin (2 ^ 120) read.0) }
+    ensures end { IfOk result (λ read. read.1 ≡ numerator_end bytes.now at) }
+    ensures within { IfOk result (λ read. read.1 ≤ length bytes.now) }
+    ensures fault { result_err result ≡ run_fault bytes.now (numerator_place bytes.now at) }
+{
+    match bytes.get(at) {
+        Some(b'-') => {
+            let (size, end) = read_digits(bytes, at + 1)?;
+            Ok((-i128::from(size), end))
+        }
+        Some(b'+') => {
+            let (size, end) = read_digits(bytes, at + 1)?;
+            Ok((i128::from(size), end))
+        }
+        _ => {
+            let (size, end) = read_digits(bytes, at)?;
+            Ok((i128::from(size), end))
+        }
+    }
+}
+
+// The denominator behind a slash, or 1 where no slash stands, and the index behind it.
+fn read_denominator(bytes: &[u8], slash: usize) -> Result<(i128, usize), FractionFault>
+    requires { slash ≤ length bytes.now }
+    ensures value { IfOk result (λ read. read.0 ≡ denominator_behind bytes.now slash) }
+    ensures small { IfOk result (λ read. IsWithin (2 ^ 120) read.0) }
+    ensures positive { IfOk result (λ read. pos 0 <ℤ read.0) }
+    ensures end { IfOk result (λ read. read.1 ≡ end_behind bytes.now slash) }
+    ensures within { IfOk result (λ read. read.1 ≤ length bytes.now) }
+    ensures fault { result_err result ≡ fault_behind bytes.now slash }
+{
+    if bytes.get(slash) != Some(&b'/') {
+        return Ok((1, slash));
+    }
+    let (den, end) = read_digits(bytes, slash + 1)?;
+    if den == 0 {
+        return Err(FractionFault::ZeroDenominator(slash + 1));
+    }
+    Ok((i128::from(den), end))
+}
+
+// The number that the run of digits at `place` writes, and the index behind it.
+fn read_digits(bytes: &[u8], place: usize) -> Result<(u64, usize), FractionFault>
+    requires { place ≤ length bytes.now }
+    ensures value { IfOk result (λ read. read.0 ≡ number_at bytes.now place) }
+    ensures small { IfOk result (λ read. read.0 < 10 ^ 18) }
+    ensures end { IfOk result (λ read. read.1 ≡ behind_digits bytes.now place) }
+    ensures within { IfOk result (λ read. read.1 ≤ length bytes.now) }
+    ensures fault { result_err result ≡ run_fault bytes.now place }
+{
+    let count = digit_count(&bytes[place..]);
+    if count == 0 {
+        return Err(FractionFault::NoDigit(place));
+    }
+    if count > MOST_DIGITS {
+        return Err(FractionFault::TooLong(place + MOST_DIGITS));
+    }
+    Ok((number(&bytes[place..place + count]), place + count))
+}
+
+// How many digits stand in front.
+fn digit_count(bytes: &[u8]) -> usize
+    ensures value { result ≡ length (digits_at bytes.now 0) }
+    ensures within { result ≤ length bytes.now }
+{
+    bytes.iter().take_while(|byte| byte.is_ascii_digit()).count()
+}
+
+// The number that the digits write.
+fn number(digits: &[u8]) -> u64
+    requires short { length digits.now ≤ 18 }
+    requires digits { AllDigits 10 digits.now }
+    ensures value { result ≡ digits_value 10 digits.now }
+    ensures small { result < 10 ^ 18 }
+{
+    let mut number = 0;
+    for digit in digits {
+        number = number * 10 + u64::from(*digit - b'0');
+    }
+    number
 }
