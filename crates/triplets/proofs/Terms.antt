@@ -6,7 +6,7 @@ use Rattle.std.specs.Str.Parse.{without_leading_plus}
 use Rattle.std.proofs.lemmas.Bool.{eq-eqb, ne_eqb}
 use Rattle.std.proofs.lemmas.Str.Parse.{without_leading_plus_none}
 use Rattle.std.proofs.lemmas.List.{get_or_append_left}
-use Rattle.triplets.specs.Writing.{coefficient_text, further_term, letter_term, number_term, number_text, terms_text, placed, or_zero}
+use Rattle.triplets.specs.Writing.{coefficient_text, further_term, letter_term, number_term, number_text, terms_text, placed, plus_text, or_zero}
 use Rattle.symmetry.specs.Vectors.{Vector}
 
 -- a text that is none, or shows without its plus
@@ -91,6 +91,21 @@ number_shown (pos (suc n)) = inr (number_text_shows (pos (suc n)))
 number_shown (negsuc n) =
     inr (omega (arith, number_text_shows (negsuc n), ap length (number_text_has_no_plus (negsuc n))))
 
+placed-number : (first : Bool) (t : ℤ) → ¬ (t ≡ pos 0) → placed first (number_term t) ≡ plus_text first t ++ number_text t
+placed-number first (pos zero) h = absurd (h refl)
+placed-number true (pos (suc n)) h = refl
+placed-number false (pos (suc n)) h = refl
+placed-number true (negsuc n) h = number_text_has_no_plus (negsuc n)
+placed-number false (negsuc n) h = refl
+
+-- its plus, where it has one, and then its text
+pub number_appended : (base text : List ℕ) (first : Bool) (t : ℤ) → ¬ (t ≡ pos 0) → text ≡ base ++ plus_text first t
+    → text ++ number_text t ≡ base ++ placed first (number_term t)
+number_appended base text first t h e =
+    ap (λ s. s ++ number_text t) e
+    ∙ (append_assoc base (plus_text first t) (number_text t)
+    ∙ ap (λ s. base ++ s) (sym (placed-number first t h)))
+
 same_length : (a b n : ℕ) → a ≡ b + n → (a == b) ≡ (n == 0)
 same_length a b zero e = eq-eqb a b (omega arith)
 same_length a b (suc n) e = ne_eqb a b (λ h. omega arith) ∙ sym (ne_eqb (suc n) 0 (λ h. omega arith))
@@ -102,7 +117,7 @@ pub one_more : (base terms term text : List ℕ) (start : ℕ) → start ≡ len
 one_more base terms term text start s h e =
     let bare : List ℕ = without_leading_plus terms in
     let first : (length text == start) ≡ (length bare == 0) =
-        same_length (length text) start (length bare) (omega (arith, ap length e, length-append base bare)) in
+    same_length (length text) start (length bare) (omega (arith, ap length e, length-append base bare)) in
     ap (λ v. text ++ placed v term) first
     ∙ (ap (λ t. t ++ placed (length bare == 0) term) e
     ∙ (append_assoc base bare (placed (length bare == 0) term)
@@ -123,7 +138,7 @@ four_terms r t base one two three four start s e f g k =
     let xy_shown : IsShown (x ++ y) = shown-append x y x_shown (letter_shown r.y 121) in
     let xyz_shown : IsShown (x ++ y ++ z) = shown-append (x ++ y) z xy_shown (letter_shown r.z 122) in
     let first : one ≡ base ++ without_leading_plus x =
-        e ∙ ap (λ v. base ++ placed v x) (eq-eqb (length base) start (sym s)) in
+    e ∙ ap (λ v. base ++ placed v x) (eq-eqb (length base) start (sym s)) in
     let second : two ≡ base ++ without_leading_plus (x ++ y) = f ∙ one_more base x y one start s x_shown first in
     let third : three ≡ base ++ without_leading_plus (x ++ y ++ z) = g ∙ one_more base (x ++ y) z two start s xy_shown second in
     k ∙ one_more base (x ++ y ++ z) (number_term t) three start s xyz_shown third

@@ -26,34 +26,34 @@ unfolding digits gcd_in gcd signed_gcd lowest_terms
 identity = refl
 
 threefold : triplet_text (motion
-      (row (negsuc 0) (pos 1) (pos 0))
-      (row (negsuc 0) (pos 0) (pos 0))
-      (row (pos 0) (pos 0) (pos 1))
-      origin)
+    (row (negsuc 0) (pos 1) (pos 0))
+    (row (negsuc 0) (pos 0) (pos 0))
+    (row (pos 0) (pos 0) (pos 1))
+    origin)
     ≡ codes "-x+y,-x,z"
 unfolding digits gcd_in gcd signed_gcd lowest_terms
 threefold = refl
 
 glide : triplet_text (motion
-      (row (pos 1) (pos 0) (pos 0))
-      (row (pos 0) (negsuc 0) (pos 0))
-      (row (pos 0) (pos 0) (pos 1))
-      (row (pos 0) (edges (pos 1) (pos 2)) (edges (negsuc 0) (pos 2))))
+    (row (pos 1) (pos 0) (pos 0))
+    (row (pos 0) (negsuc 0) (pos 0))
+    (row (pos 0) (pos 0) (pos 1))
+    (row (pos 0) (edges (pos 1) (pos 2)) (edges (negsuc 0) (pos 2))))
     ≡ codes "x,-y+1/2,z-1/2"
 unfolding digits gcd_in gcd signed_gcd lowest_terms
 glide = refl
 
 whole_edges : triplet_text (motion
-      (row (negsuc 0) (pos 0) (pos 0))
-      (row (pos 0) (negsuc 0) (pos 0))
-      (row (pos 0) (pos 0) (negsuc 0))
-      (row (neg_ℤ UNIT) UNIT (pos 0)))
+    (row (negsuc 0) (pos 0) (pos 0))
+    (row (pos 0) (negsuc 0) (pos 0))
+    (row (pos 0) (pos 0) (negsuc 0))
+    (row (neg_ℤ UNIT) UNIT (pos 0)))
     ≡ codes "-x-1,-y+1,-z"
 unfolding digits gcd_in gcd signed_gcd lowest_terms
 whole_edges = refl
 
 no_term : triplet_text (motion
-      (row (pos 1) (pos 0) (pos 0)) (row (pos 0) (pos 1) (pos 0)) (row (pos 0) (pos 0) (pos 0)) origin)
+    (row (pos 1) (pos 0) (pos 0)) (row (pos 0) (pos 1) (pos 0)) (row (pos 0) (pos 0) (pos 0)) origin)
     ≡ codes "x,y,0"
 unfolding digits gcd_in gcd signed_gcd lowest_terms
 no_term = refl

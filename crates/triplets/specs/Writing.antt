@@ -52,6 +52,12 @@ triplet_text m =
     row_text m.matrix.second m.shift.y ++ codes "," ++
     row_text m.matrix.third m.shift.z
 
+-- the `+` of a term that is not 0, the first of its part or a further one
+abbrev pub plus_text : Bool → ℤ → List ℕ
+plus_text true c = []
+plus_text false (pos n) = codes "+"
+plus_text false (negsuc n) = []
+
 -- a term as it stands in its part, the first or a further one
 abbrev pub placed : Bool → List ℕ → List ℕ
 placed true text = without_leading_plus text

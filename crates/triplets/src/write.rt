@@ -1,14 +1,16 @@
 // Motions written as coordinate triplets.
 ghost use Rattle.std.specs.Prelude.{◌≡◌, ◌∷◌, [], ◌++◌, ◌==◌, IfOk, OnOk, length};
 ghost use Rattle.std.specs.Str.Parse.{without_leading_plus};
+ghost use Rattle.fractions.specs.FractionOf.{fraction_of};
+ghost use Rattle.fractions.specs.LowestTerms.{lowest_terms};
+ghost use Rattle.fractions.specs.RatioText.{ratio_text};
 ghost use Rattle.motions.specs.Views.{motion_of, vector_of};
-ghost use Rattle.triplets.specs.Writing.{coefficient_text, letter_term, number_term, placed, row_text, terms_text, triplet_text};
+ghost use Rattle.triplets.specs.Writing.{coefficient_text, letter_term, number_term, placed, plus_text, row_text, terms_text, triplet_text};
 
+use fractions::{Part, Ratio, UNIT};
 use itoa::Buffer;
-use std::alloc::{AllocError, Global};
-
-use fractions::Part;
 use motions::Motion3;
+use std::alloc::{AllocError, Global};
 
 /// Memory has run out.
 pub type NoMemory = AllocError;
@@ -55,16 +57,19 @@ fn push_terms(text: &mut Vec<u8>, row: &[i64; 3], shift: Part) -> Result<(), NoM
 }
 
 // Appends the term of a coefficient to the part that begins at `start`.
-fn push_letter(text: &mut Vec<u8>, start: usize, coefficient: i64, letter: u8) -> Result<(), NoMemory>
+fn push_letter(
+    text: &mut Vec<u8>,
+    start: usize,
+    coefficient: i64,
+    letter: u8,
+) -> Result<(), NoMemory>
     ensures { OnOk result (text.new.items
         ≡ text.old.items ++ placed (length text.old.items == start) (letter_term coefficient (letter ∷ []))) }
 {
     if coefficient == 0 {
         return Ok(());
     }
-    if coefficient > 0 && text.len() != start {
-        text.push(b'+')?;
-    }
+    push_plus(text, start, coefficient)?;
     push_coefficient(text, coefficient)?;
     text.push(letter)?;
     Ok(())
@@ -84,9 +89,46 @@ fn push_coefficient(text: &mut Vec<u8>, coefficient: i64) -> Result<(), NoMemory
     Ok(())
 }
 
+// Appends the `+` of a term, which a negative term and the first of a part do without.
+fn push_plus(text: &mut Vec<u8>, start: usize, number: i64) -> Result<(), NoMemory>
+    ensures { OnOk result (text.new.items ≡ text.old.items ++ plus_text (length text.old.items == start) number) }
+{
+    if number >= 0 && text.len() != start {
+        text.push(b'+')?;
+    }
+    Ok(())
+}
+
+// Appends the term of a number of parts to the part that begins at `start`.
 fn push_number(text: &mut Vec<u8>, start: usize, shift: Part) -> Result<(), NoMemory>
     ensures { OnOk result (text.new.items
         ≡ text.old.items ++ placed (length text.old.items == start) (number_term shift.0)) }
 {
+    if shift.0 == 0 {
+        return Ok(());
+    }
+    push_plus(text, start, shift.0)?;
+    push_ratio(text, edges(shift))
+}
+
+// The part as a ratio of the cell edge.
+fn edges(shift: Part) -> Ratio
+    ensures { fraction_of result ≡ lowest_terms shift.0 UNIT }
+{
+    match Ratio::make(i128::from(shift.0), i128::from(UNIT)) {
+        Some(ratio) => ratio,
+        None => unreachable!(),
+    }
+}
+
+fn push_ratio(text: &mut Vec<u8>, ratio: Ratio) -> Result<(), NoMemory>
+    ensures { OnOk result (text.new.items ≡ text.old.items ++ ratio_text (fraction_of ratio)) }
+{
+    let mut buffer = Buffer::new();
+    text.extend_from_slice(buffer.format(ratio.num()).as_bytes())?;
+    if ratio.den() > 1 {
+        text.push(b'/')?;
+        text.extend_from_slice(buffer.format(ratio.den()).as_bytes())?;
+    }
     Ok(())
 }

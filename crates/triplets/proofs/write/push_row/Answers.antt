@@ -5,7 +5,7 @@ use Rattle.triplets.proofs.write.push_row.Goals as goal
 pub returns-in_ok-push : goal.returns-in_ok-push
 returns-in_ok-push c =
     let same : length c.push_terms.new.text.items ≡ length c.args.text.now.items =
-      sym (c.len.ensures ∙ c.push_terms.new.text.ok.0) ∙ (c.if-len-start.true ∙ (c.len-start.ensures ∙ c.args.text.now.ok.0)) in
+    sym (c.len.ensures ∙ c.push_terms.new.text.ok.0) ∙ (c.if-len-start.true ∙ (c.len-start.ensures ∙ c.args.text.now.ok.0)) in
     c.in_ok-push.ensures.items ∙ or_zero-none _ _ _ c.in_ok-push_terms.ensures same
 
 pub returns-else-len-start : goal.returns-else-len-start
