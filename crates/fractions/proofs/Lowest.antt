@@ -60,7 +60,7 @@ quotients num den =
 same_number : (num den d : ℤ) (q : Fraction) → AreQuotients num den d q → SameFraction q (record { num = num; den = den })
 same_number num den d q h =
     linear (q.num ∷ q.den ∷ num ∷ den ∷ d ∷ []) (var 0 ⊗ var 3) (var 2 ⊗ var 1)
-        (given (var 1) (var 0 ⊗ var 4) (var 2) ∷ given (neg (var 0)) (var 1 ⊗ var 4) (var 3) ∷ []) tt (h.num_is, (h.den_is, tt))
+    (given (var 1) (var 0 ⊗ var 4) (var 2) ∷ given (neg (var 0)) (var 1 ⊗ var 4) (var 3) ∷ []) tt (h.num_is, (h.den_is, tt))
 
 -- a number divided by one of its sign is positive
 positive_quotient : (m num den : ℤ) → ¬ (den ≡ pos 0) → m *ℤ signed_gcd num den ≡ den → pos 1 ≤ℤ m
@@ -132,9 +132,9 @@ divides_den q r lowest same =
     let k = r.num *ℤ c.u +ℤ r.den *ℤ c.v in
     let one : pos c.gcd ≡ pos 1 = ap pos (lowest c.gcd (Divides-abs c.gcd q.num c.first) (Divides-abs c.gcd q.den c.second)) in
     let e : r.den ≡ q.den *ℤ k =
-        linear (q.num ∷ q.den ∷ r.num ∷ r.den ∷ c.u ∷ c.v ∷ []) (var 3) (var 1 ⊗ (var 2 ⊗ var 4 ⊕ var 3 ⊗ var 5))
-            (given (neg (var 3)) (var 0 ⊗ var 4 ⊕ var 1 ⊗ var 5) (literal (pos 1)) ∷ given (var 4) (var 0 ⊗ var 3) (var 2 ⊗ var 1) ∷ [])
-            tt (c.is ∙ one, (same, tt)) in
+    linear (q.num ∷ q.den ∷ r.num ∷ r.den ∷ c.u ∷ c.v ∷ []) (var 3) (var 1 ⊗ (var 2 ⊗ var 4 ⊕ var 3 ⊗ var 5))
+    (given (neg (var 3)) (var 0 ⊗ var 4 ⊕ var 1 ⊗ var 5) (literal (pos 1)) ∷ given (var 4) (var 0 ⊗ var 3) (var 2 ⊗ var 1) ∷ [])
+    tt (c.is ∙ one, (same, tt)) in
     subst (λ (n : ℕ). nat_abs q.den ∣ n) (sym (ap nat_abs e ∙ abs-mul q.den k)) (dvd-mul_right (nat_abs q.den) (nat_abs k))
 
 same_positive : (m n : ℤ) → pos 1 ≤ℤ m → pos 1 ≤ℤ n → nat_abs m ≡ nat_abs n → m ≡ n
