@@ -30,7 +30,6 @@ use Rattle.triplets.proofs.LineBegun.{line_going, line_stopped, lists, lists_not
 use Rattle.triplets.proofs.LineEnds.{is_line, is_line_prefix}
 use Rattle.triplets.proofs.LineRuns.{IsLineRead, is_line_read}
 use Rattle.triplets.proofs.LineKinds.{line_kind}
-
 use Rattle.triplets.specs.TextAnswers.{IsMemory, Lists, IsFaultOf, IsAnswer, IsShownBy, IsAnswerSoFar}
 use Rattle.triplets.proofs.LinePlaces.{one_line_value}
 use Rattle.triplets.specs.Sizes.{IsListingSmall}

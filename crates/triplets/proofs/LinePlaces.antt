@@ -101,4 +101,3 @@ byte_fault before rest b s k w e =
       kind_is = subst (λ x. HasLineKindAt x (slice_get (before ++ b ∷ rest) (length before)) k) (sym (take_front before (b ∷ rest)))
           (subst (λ x. HasLineKindAt before x k) (sym (get_front before rest b)) (line_kind before b s k w e));
     }
-

@@ -30,7 +30,6 @@ use Rattle.triplets.proofs.LineBegun.{line_going, line_stopped, lists, lists_not
 use Rattle.triplets.proofs.LineEnds.{is_line, is_line_prefix}
 use Rattle.triplets.proofs.LineRuns.{IsLineRead, is_line_read}
 use Rattle.triplets.proofs.LineKinds.{line_kind}
-
 use Rattle.triplets.proofs.LinePlaces.{one_line_value, line_more, no_line_prefix, not_good_line, end_fault, byte_fault, good_line_prefix}
 
 -- what a text gives whose lines before listing this
@@ -188,4 +187,3 @@ outcome_all (b ∷ bs) k base n before vs h = outcome_byte (b == 10) b bs k base
 pub outcome_is : (bytes : List ℕ) → IsOutcome (group_of bytes) nothing_listed 1 (lines_of bytes)
 outcome_is bytes = subst (λ ls. IsOutcome (group_of bytes) nothing_listed 1 ls) (front_nil bytes)
     (outcome_all bytes kept_start nothing_listed 1 [] [] (record { ops = refl; centrings = refl; line = refl; column = refl; run = refl }))
-

@@ -30,7 +30,6 @@ use Rattle.triplets.proofs.LineBegun.{line_going, line_stopped, lists, lists_not
 use Rattle.triplets.proofs.LineEnds.{is_line, is_line_prefix}
 use Rattle.triplets.proofs.LineRuns.{IsLineRead, is_line_read}
 use Rattle.triplets.proofs.LineKinds.{line_kind}
-
 use Rattle.triplets.proofs.LinePlaces.{byte_fault, good_line_prefix}
 use Rattle.triplets.proofs.TextEnds.{InLine, make_listing, a_line, bad_line, front_nil, front_front, at_next_line, next_line, at_next_byte, next_byte}
 

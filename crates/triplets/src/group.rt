@@ -4,11 +4,10 @@ ghost use Rattle.motions.specs.Views.{listing_of};
 ghost use Rattle.triplets.specs.Sizes.{IsListingSmall};
 ghost use Rattle.triplets.specs.TextAnswers.{IsAnswer};
 
-use motions::Listed;
-use std::alloc::Global;
-
 use crate::fault::TextFault;
 use crate::text::LineReader;
+use motions::Listed;
+use std::alloc::Global;
 
 /// Reads a group text: what it lists, or the first bad line, its column and what is wrong there.
 pub fn read_group(alloc: Global, bytes: &[u8]) -> Result<Listed, TextFault>

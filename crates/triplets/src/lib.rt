@@ -22,3 +22,6 @@ pub use group::read_group;
 pub use text::LineReader;
 pub use triplet::read_triplet;
 pub use write::{NoMemory, write_triplet};
+
+#[cfg(test)]
+mod tests;

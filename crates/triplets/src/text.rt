@@ -2,12 +2,11 @@
 ghost use Rattle.std.specs.Prelude.{◌≤◌, ◌+◌};
 ghost use Rattle.triplets.specs.PlaceBounds.{IsPlaceWithin, IsPlaceWithin-prop};
 
-use motions::Listed;
-use std::alloc::Global;
-
 use crate::fault::{TextFault, TextKind};
 use crate::line::LinePlace;
 use crate::marks::mark_of;
+use motions::Listed;
+use std::alloc::Global;
 
 /// Reads a group text that comes in pieces, cut anywhere.
 ///

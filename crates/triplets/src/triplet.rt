@@ -6,12 +6,11 @@ ghost use Rattle.triplets.specs.Grammar.{IsTriplet};
 ghost use Rattle.triplets.specs.Faults.{IsFault};
 ghost use Rattle.triplets.specs.Sizes.{IsTripletSmall};
 
-use fractions::Part;
-use motions::Motion3;
-
 use crate::fault::{TextKind, TripletFault};
 use crate::marks::{Mark, mark_of};
 use crate::part::{PartReader, Row, Spot};
+use fractions::Part;
+use motions::Motion3;
 
 /// Which part is being read.
 #[derive(Clone, Copy, Debug, PartialEq, Eq)]

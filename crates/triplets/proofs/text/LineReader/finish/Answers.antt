@@ -9,7 +9,7 @@ pub returns-in-Some-clause-answer : goal.returns-in-Some-clause-answer
 returns-in-Some-clause-answer c text h = answer_shown c.in-Some.fault text (refuses_shown c.in-Some.fault text (stands_refuses c.args.self c.in-Some.fault text c.in-Some.is h))
 
 pub returns-in_err-end_line-clause-answer : goal.returns-in_err-end_line-clause-answer
-returns-in_err-end_line-clause-answer c text h = 
+returns-in_err-end_line-clause-answer c text h =
     answer_passed c.in_err-end_line.field-0.0 c.from_residual.result text c.from_residual.ensures.1
     (subst (Refuses c.in_err-end_line.field-0.0) (sym (ap outcome (stands_kept c.args.self text h c.in_default.is))) c.in_err-end_line.ensures.value)
 
