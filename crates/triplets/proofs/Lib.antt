@@ -19,4 +19,8 @@ pub mod TextEnds
 pub mod TextShown
 pub mod Answered
 mod Terms
+mod NumberTrees
+mod TermTrees
+mod PartTrees
+mod TripletTrees
 mod WritingSamples

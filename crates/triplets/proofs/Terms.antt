@@ -45,6 +45,12 @@ without_leading_plus-cons : (v : Bool) (b : ℕ) (bs c : List ℕ) → drop (con
 without_leading_plus-cons true b bs c = refl
 without_leading_plus-cons false b bs c = refl
 
+-- behind what shows stands what follows
+pub without_leading_plus-more : (a b : List ℕ) → 0 < length (without_leading_plus a)
+    → without_leading_plus (a ++ b) ≡ without_leading_plus a ++ b
+without_leading_plus-more [] b h = absurd (omega arith)
+without_leading_plus-more (a ∷ as_) b h = without_leading_plus-cons (a == 43) a as_ b
+
 placed-further : (n : ℕ) (text : List ℕ) → 0 < n → placed (n == 0) text ≡ text
 placed-further n text h = ap (λ v. placed v text) (ne_eqb n 0 (λ e. omega arith))
 

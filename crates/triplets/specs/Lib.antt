@@ -14,3 +14,4 @@ pub mod TextAnswers
 pub mod PlaceBounds
 pub mod TextReading
 pub mod Writing
+pub mod Writable

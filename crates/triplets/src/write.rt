@@ -5,6 +5,7 @@ ghost use Rattle.fractions.specs.FractionOf.{fraction_of};
 ghost use Rattle.fractions.specs.LowestTerms.{lowest_terms};
 ghost use Rattle.fractions.specs.RatioText.{ratio_text};
 ghost use Rattle.motions.specs.Views.{motion_of, vector_of};
+ghost use Rattle.triplets.specs.Writable.{IsTripletOf, IsWritable};
 ghost use Rattle.triplets.specs.Writing.{coefficient_text, letter_term, number_term, placed, plus_text, row_text, terms_text, triplet_text};
 
 use fractions::{Part, Ratio, UNIT};
@@ -17,7 +18,8 @@ pub type NoMemory = AllocError;
 
 /// Writes the coordinate triplet of a motion in its one written form, such as `-x+1/2,y,-z`.
 pub fn write_triplet(alloc: Global, m: &Motion3) -> Result<Vec<u8>, NoMemory>
-    ensures { IfOk result (λ text. text.items ≡ triplet_text (motion_of m.now)) }
+    ensures form { IfOk result (λ text. text.items ≡ triplet_text (motion_of m.now)) }
+    ensures law { IfOk result (λ text. IsWritable (motion_of m.now) → IsTripletOf text.items (motion_of m.now)) }
 {
     let mut text = Vec::new(alloc);
     push_triplet(&mut text, m)?;
