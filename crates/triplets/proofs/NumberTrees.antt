@@ -67,12 +67,12 @@ three_digit_number n low high =
 
 pub numerator_tree : (n : ℕ) → n ≤ 999 → WritesNumber n
 numerator_tree n h = elim (cases_lt n 10) [
-    inl below ↦ one_digit_number n below
+  | inl below ↦ one_digit_number n below
   | inr above ↦ elim (cases_lt n 100) [
-        inl below ↦ two_digit_number n above below
-      | inr far ↦ three_digit_number n far (omega arith)
-    ]
+    | inl below ↦ two_digit_number n above below
+    | inr far ↦ three_digit_number n far (omega arith)
   ]
+]
 
 -- ---- denominators
 
@@ -103,7 +103,7 @@ any_denotes : (n : ℕ) → is_denoted n ≡ true → unit % n ≡ 0 → Denotes
 unfolding is_denoted
 any_denotes n h e =
     let some : list_any (λ d. denominator_value d == n) denominators ≡ true =
-        ap (λ b. if b then list_any (λ d. denominator_value d == n) denominators else true) (sym (eq-eqb (unit % n) 0 e)) ∙ h in
+    ap (λ b. if b then list_any (λ d. denominator_value d == n) denominators else true) (sym (eq-eqb (unit % n) 0 e)) ∙ h in
     let found = Any-from_list_any (λ d. denominator_value d == n) denominators some in
     record { by = found.1; value = eqb-true (denominator_value found.1) n found.4 }
 

@@ -38,44 +38,36 @@ pub record IsTerm (text : List ℕ) (add : Row → Row) (use_letter : Used → U
 abbrev pub IsLetter : Axis → ℤ → Type 0
 IsLetter a c = IsTerm (letter_term c (letter_byte a false ∷ [])) (with_entry a c) (with_used a) (λ u. uses a u ≡ false)
 
+-- a letter with its sign alone
+single : (s : Sign) (a : Axis) (c : ℤ) → signed s 1 ≡ c → letter_term c (letter_byte a false ∷ []) ≡ sign_byte s ∷ letter_byte a false ∷ []
+    → IsLetter a c
+single s a c value text = record {
+  sign = s;
+  term = letter a false;
+  text_is = text;
+  row_is = λ r. ap (λ v. with_entry a v r) value;
+  letters_are = λ u. refl;
+  new = λ u free. free;
+}
+
+-- a letter with a digit from 2 on
+multiplied : (s : Sign) (a : Axis) (c : ℤ) (n : ℕ) → suc (suc n) < 10 → signed s (suc (suc n)) ≡ c
+    → letter_term c (letter_byte a false ∷ []) ≡ sign_byte s ∷ (decimal_text (suc (suc n)) ++ letter_byte a false ∷ []) → IsLetter a c
+multiplied s a c n below value text = record {
+  sign = s;
+  term = multiple (digit (suc (suc n)) below) (omega arith) a false;
+  text_is = text ∙ ap (λ ds. sign_byte s ∷ (ds ++ letter_byte a false ∷ [])) (decimal_digit (suc (suc n)) below);
+  row_is = λ r. ap (λ v. with_entry a v r) (ap (signed s) (digit-value (suc (suc n)) below) ∙ value);
+  letters_are = λ u. refl;
+  new = λ u free. free;
+}
+
 pub letter_tree : (a : Axis) (c : ℤ) → IsWithin 9 c → ¬ (c ≡ pos 0) → IsLetter a c
 letter_tree a (pos zero) h n = absurd (n refl)
-letter_tree a (pos (suc zero)) h n = record {
-  sign = Plus;
-  term = letter a false;
-  text_is = refl;
-  row_is = λ r. refl;
-  letters_are = λ u. refl;
-  new = λ u free. free;
-}
-letter_tree a (pos (suc (suc n))) h _ =
-    let below : suc (suc n) < 10 = omega (arith, h.most) in
-    record {
-      sign = Plus;
-      term = multiple (digit (suc (suc n)) below) (omega arith) a false;
-      text_is = ap (λ ds. 43 ∷ (ds ++ letter_byte a false ∷ [])) (decimal_digit (suc (suc n)) below);
-      row_is = λ r. ap (λ v. with_entry a (pos v) r) (digit-value (suc (suc n)) below);
-      letters_are = λ u. refl;
-      new = λ u free. free;
-    }
-letter_tree a (negsuc zero) h n = record {
-  sign = Minus;
-  term = letter a false;
-  text_is = refl;
-  row_is = λ r. refl;
-  letters_are = λ u. refl;
-  new = λ u free. free;
-}
-letter_tree a (negsuc (suc n)) h _ =
-    let below : suc (suc n) < 10 = omega (arith, h.most) in
-    record {
-      sign = Minus;
-      term = multiple (digit (suc (suc n)) below) (omega arith) a false;
-      text_is = ap (λ ds. 45 ∷ (ds ++ letter_byte a false ∷ [])) (decimal_digit (suc (suc n)) below);
-      row_is = λ r. ap (λ v. with_entry a (neg_ℤ (pos v)) r) (digit-value (suc (suc n)) below);
-      letters_are = λ u. refl;
-      new = λ u free. free;
-    }
+letter_tree a (pos (suc zero)) h n = single Plus a (pos 1) refl refl
+letter_tree a (pos (suc (suc n))) h _ = multiplied Plus a (pos (suc (suc n))) n (omega (arith, h.most)) refl refl
+letter_tree a (negsuc zero) h n = single Minus a (negsuc 0) refl refl
+letter_tree a (negsuc (suc n)) h _ = multiplied Minus a (negsuc (suc n)) n (omega (arith, h.most)) refl refl
 
 -- ---- numbers
 

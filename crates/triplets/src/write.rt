@@ -1,4 +1,4 @@
-// Motions written as coordinate triplets.
+// The writer of triplets.
 ghost use Rattle.std.specs.Prelude.{◌≡◌, ◌∷◌, [], ◌++◌, ◌==◌, IfOk, OnOk, length};
 ghost use Rattle.std.specs.Str.Parse.{without_leading_plus};
 ghost use Rattle.fractions.specs.FractionOf.{fraction_of};
@@ -13,10 +13,14 @@ use itoa::Buffer;
 use motions::Motion3;
 use std::alloc::{AllocError, Global};
 
-/// Memory has run out.
+/// Memory ran out.
 pub type NoMemory = AllocError;
 
-/// Writes the coordinate triplet of a motion in its one written form, such as `-x+1/2,y,-z`.
+/// The coordinate triplet of a motion in its one written form, such as `-x+1/2,y,-z`.
+///
+/// Each part has its letters in the order x, y, z, then its number in lowest terms of the cell edge, and no blanks.
+/// A motion with matrix entries at most 9 in size and numerators at most 999 in size is what the reader reads of it.
+/// The notation is that of International Tables, Volume A.
 pub fn write_triplet(alloc: Global, m: &Motion3) -> Result<Vec<u8>, NoMemory>
     ensures form { IfOk result (λ text. text.items ≡ triplet_text (motion_of m.now)) }
     ensures law { IfOk result (λ text. IsWritable (motion_of m.now) → IsTripletOf text.items (motion_of m.now)) }
@@ -110,11 +114,11 @@ fn push_number(text: &mut Vec<u8>, start: usize, shift: Part) -> Result<(), NoMe
         return Ok(());
     }
     push_plus(text, start, shift.0)?;
-    push_ratio(text, edges(shift))
+    push_ratio(text, ratio_of(shift))
 }
 
-// The part as a ratio of the cell edge.
-fn edges(shift: Part) -> Ratio
+// A number of parts as a ratio of the cell edge.
+fn ratio_of(shift: Part) -> Ratio
     ensures { fraction_of result ≡ lowest_terms shift.0 UNIT }
 {
     match Ratio::make(i128::from(shift.0), i128::from(UNIT)) {
@@ -133,4 +137,36 @@ fn push_ratio(text: &mut Vec<u8>, ratio: Ratio) -> Result<(), NoMemory>
         text.extend_from_slice(buffer.format(ratio.den()).as_bytes())?;
     }
     Ok(())
+}
+
+#[cfg(test)]
+mod tests {
+    use super::*;
+
+    #[test]
+    fn a_motion_has_its_text(rt: HostRuntime) -> Result<(), AllocError> {
+        let rows = [
+            (
+                [[-1, 1, 0], [-1, 0, 0], [0, 0, 1]],
+                [0, UNIT / 2, -UNIT / 3],
+                "-x+y,-x+1/2,z-1/3",
+            ),
+            (
+                [[0, 0, 0], [2, 0, -12], [0, 1, 0]],
+                [0, 0, 3 * UNIT],
+                "0,2x-12z,y+3",
+            ),
+            (
+                [[i64::MIN, 0, 0], [0, 0, 0], [0, i64::MAX, 0]],
+                [0, i64::MIN, 0],
+                "-9223372036854775808x,-1152921504606846976/3,9223372036854775807y",
+            ),
+        ];
+        for (w, [x, y, z], text) in rows {
+            let t = [Part(x), Part(y), Part(z)];
+            let written = write_triplet(rt.alloc(), &Motion3 { w, t })?;
+            assert_eq!(rt; written.as_slice(), text.as_bytes(), "{text}");
+        }
+        Ok(())
+    }
 }

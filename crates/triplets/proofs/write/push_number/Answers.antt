@@ -13,4 +13,4 @@ returns c =
     let signed = simp to_z-of_z at c.in_ok-push_plus.ensures in
     let before = c.push_plus.new.text.items in
     IfOk-equal c.push_ratio.result _ _ _ c.push_ratio.ensures
-    (ap (λ q. before ++ ratio_text q) c.edges.ensures ∙ number_appended _ before _ shift not_zero signed)
+    (ap (λ q. before ++ ratio_text q) c.ratio_of.ensures ∙ number_appended _ before _ shift not_zero signed)
