@@ -3,6 +3,8 @@ pub mod PartRuns
 pub mod Written
 pub mod Partials
 pub mod Wholes
+pub mod Seen
+pub mod KindTable
 pub mod KindFacts
 pub mod Bounds
 pub mod Sizes
@@ -13,6 +15,7 @@ pub mod TextFacts
 pub mod LineBegun
 pub mod LineEnds
 pub mod LineRuns
+pub mod LineSeen
 pub mod LineKinds
 pub mod LinePlaces
 pub mod TextEnds

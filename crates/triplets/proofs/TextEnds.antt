@@ -32,12 +32,12 @@ use Rattle.triplets.proofs.LineRuns.{IsLineRead, is_line_read}
 use Rattle.triplets.proofs.LineKinds.{line_kind}
 use Rattle.triplets.proofs.LinePlaces.{one_line_value, line_more, no_line_prefix, not_good_line, end_fault, byte_fault, good_line_prefix}
 
--- what a text gives whose lines before listing this
+-- what a text gives whose lines before list this
 abbrev pub IsOutcome : Result Listing Fault → Listing → ℕ → List (List ℕ) → Type 0
 IsOutcome (Ok listing) base n lines = (a : Listing) × AreLines lines a × (listing ≡ listed_then base a)
 IsOutcome (Err f) base n lines = (i : ℕ) × (before : ℕ) × (f.line ≡ n + i) × (f.column ≡ before + 1) × IsFirstBad lines i before f.kind
 
--- what is kept in a line: the lines before listing base, and what the line listing so far are its vectors
+-- what is kept in a line: the lines before list base, and the line lists its vectors so far
 pub record InLine (k : Kept) (base : Listing) (n : ℕ) (before : List ℕ) (vs : List Vector) : Type 0 where
   pub ops : k.listing.ops ≡ base.ops
   pub centrings : k.listing.centrings ≡ base.centrings ++ vs
