@@ -1,14 +1,14 @@
 -- Division by the greatest common divisor gives the lowest terms, and there is one such fraction.
-use Rattle.std.proofs.Common.{◌≡◌, ℕ, zero, suc, ◌+◌, ◌*◌, ◌/◌, ◌%◌, ◌<◌, ◌≤◌, min, refl, sym, ap, subst, ◌∙◌, [], ◌∷◌, ℤ, pos, negsuc, ◌+ℤ◌, ◌*ℤ◌, ◌≤ℤ◌, neg_ℤ, nat_abs, arith}
-use Rattle.std.specs.Prelude.{int_div, int_rem, unsigned_abs}
-use Rattle.std.specs.Int.{◌∣◌, int_signum, IsGcd}
+use Rattle.std.proofs.Common.{◌≡◌, ℕ, zero, suc, ◌*◌, ◌/◌, ◌%◌, ◌<◌, ◌≤◌, refl, sym, ap, subst, ◌∙◌, [], ◌∷◌, ℤ, pos, negsuc, ◌+ℤ◌, ◌*ℤ◌, ◌≤ℤ◌, neg_ℤ, nat_abs, arith}
+use Rattle.std.specs.Prelude.{int_div, int_rem}
+use Rattle.std.specs.Int.{◌∣◌, IsGcd}
 use Rattle.std.proofs.lemmas.Int.{ints, quot-rem}
-use Rattle.std.proofs.lemmas.Nat.Gcd.{dvd_antisymm, mod-eq-zero_of_dvd, le_of_dvd}
+use Rattle.std.proofs.lemmas.Nat.Gcd.{dvd_antisymm, mod-eq-zero_of_dvd}
 use Rattle.std.proofs.Math.Nat.{div-le_self, dvd-mul_left, dvd-mul_right, mul-dvd-mul_right, dvd_of_mul-dvd-mul_right, eq-one_of_dvd-one, eq-zero_of_zero-dvd}
 use Rattle.integers.specs.Size.{Divides}
 use Rattle.integers.proofs.Ring.{abs-mul, add_zero, zero_mul, mul_neg, mul_right_cancel}
 use Rattle.integers.proofs.Solver.{Expr.{var, num as literal, neg, ◌⊕◌, ◌⊗◌}, linear, given}
-use Rattle.integers.proofs.Divisors.{Combined, combine}
+use Rattle.integers.proofs.Divisors.{combine}
 use Rattle.fractions.specs.Fraction.{Fraction, IsFraction, SameFraction, IsInLowestTerms}
 use Rattle.fractions.specs.LowestTerms.{gcd, signed_gcd, lowest_terms, IsLowestForm, IsNoLarger}
 use Rattle.fractions.proofs.Gcd.{IsGcd-gcd}
