@@ -68,7 +68,7 @@ first_term Plus t text new e = record {
 first_term Minus t text new e = record {
   tree = record { lead = signed_lead [] Minus []; last = t; after = []; good = tt; new = new };
   shows = subst (λ (u : List ℕ). 0 < length (without_leading_plus u)) (sym e) (omega arith);
-  text_is = ap without_leading_plus e ∙ ap (λ ts. 45 ∷ ts) (sym (append-nil (term_text t)));
+  text_is = ap without_leading_plus e ∙ ap (λ ts. sign_byte Minus ∷ ts) (sym (append-nil (term_text t)));
   row_is = refl;
   letters_are = refl;
 }

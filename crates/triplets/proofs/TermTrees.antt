@@ -18,6 +18,7 @@ use Rattle.triplets.specs.declared.denominator.Denominator.{Denominator}
 use Rattle.triplets.specs.declared.denominator.Denominator.TheVariants.{One, Two, Three, Four, Six, Eight, Twelve, TwentyFour}
 use Rattle.triplets.specs.declared.part.Row.{Row}
 use Rattle.triplets.specs.declared.part.Used.{Used}
+use Rattle.triplets.specs.Bytes.{slash}
 use Rattle.triplets.specs.Rows.{signed, with_entry, with_shift, uses, with_used}
 use Rattle.triplets.specs.Denominators.{unit, denominator_value, denominator_text, parts}
 use Rattle.triplets.specs.Grammar.{sign_byte, letter_byte, Numerator, numerator_text, numerator_value, Term, letter, multiple, whole, fraction, term_text, with_term, with_letters, IsNew}
@@ -84,7 +85,7 @@ div-div g n above h =
 -- what stands behind the numerator
 below : Denominator → List ℕ
 below One = []
-below d = 47 ∷ denominator_text d
+below d = slash ∷ denominator_text d
 
 below_is : (d : Denominator) → below_text (pos (denominator_value d)) ≡ below d
 unfolding digits below
@@ -147,7 +148,7 @@ abs-neg : (k : ℕ) → nat_abs (neg_ℤ (pos k)) ≡ k
 abs-neg zero = refl
 abs-neg (suc k) = refl
 
-signed_decimal-neg : (k : ℕ) → 0 < k → signed_decimal (neg_ℤ (pos k)) ≡ 45 ∷ decimal_text k
+signed_decimal-neg : (k : ℕ) → 0 < k → signed_decimal (neg_ℤ (pos k)) ≡ sign_byte Minus ∷ decimal_text k
 signed_decimal-neg zero h = absurd (omega arith)
 signed_decimal-neg (suc k) h = refl
 
@@ -164,7 +165,7 @@ number_tree (pos (suc n)) h _ =
     record {
       sign = Plus;
       term = o.term;
-      text_is = ap (λ ts. 43 ∷ ts) (sym o.text);
+      text_is = ap (λ ts. sign_byte Plus ∷ ts) (sym o.text);
       row_is = o.row_is Plus;
       letters_are = o.letters_are;
       new = λ u free. o.new u;
@@ -178,7 +179,7 @@ number_tree (negsuc n) h _ =
     record {
       sign = Minus;
       term = o.term;
-      text_is = ap (λ ts. ts ++ below_text (pos (unit / g))) minus ∙ ap (λ ts. 45 ∷ ts) (sym o.text);
+      text_is = ap (λ ts. ts ++ below_text (pos (unit / g))) minus ∙ ap (λ ts. sign_byte Minus ∷ ts) (sym o.text);
       row_is = o.row_is Minus;
       letters_are = o.letters_are;
       new = λ u free. o.new u;

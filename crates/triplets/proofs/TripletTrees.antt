@@ -2,6 +2,7 @@
 use Rattle.std.proofs.Common.{◌≡◌, ℕ, List, [], ◌∷◌, ◌++◌, refl, sym, ap, subst, ◌∙◌, append_assoc}
 use Rattle.symmetry.specs.Motions.{Motion}
 use Rattle.triplets.specs.declared.part.Row.{Row}
+use Rattle.triplets.specs.Bytes.{comma}
 use Rattle.triplets.specs.Rows.{motion_with}
 use Rattle.triplets.specs.Grammar.{IsTriplet, part_text, part_row}
 use Rattle.triplets.specs.Writing.{triplet_text}
@@ -10,7 +11,7 @@ use Rattle.triplets.proofs.PartTrees.{WritesRow, row_tree}
 use Rattle.triplets.proofs.Wholes.{is_read}
 use Rattle.triplets.proofs.Ends.{one_value}
 
-joined : (a b c : List ℕ) → a ++ 44 ∷ [] ++ b ++ 44 ∷ [] ++ c ≡ a ++ (44 ∷ (b ++ (44 ∷ c)))
+joined : (a b c : List ℕ) → a ++ comma ∷ [] ++ b ++ comma ∷ [] ++ c ≡ a ++ (comma ∷ (b ++ (comma ∷ c)))
 joined a b c = simp append_assoc
 
 IsTriplet-triplet_text : (m : Motion) → IsWritable m → IsTriplet (triplet_text m) m
@@ -22,7 +23,7 @@ IsTriplet-triplet_text m h =
       one = one.tree;
       two = two.tree;
       three = three.tree;
-      text = (λ i. one.text_is i ++ 44 ∷ [] ++ two.text_is i ++ 44 ∷ [] ++ three.text_is i)
+      text = (λ i. one.text_is i ++ comma ∷ [] ++ two.text_is i ++ comma ∷ [] ++ three.text_is i)
           ∙ joined (part_text one.tree) (part_text two.tree) (part_text three.tree);
       rows = λ i. motion_with (sym one.row_is i) (sym two.row_is i) (sym three.row_is i);
     }
