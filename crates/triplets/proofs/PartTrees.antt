@@ -1,5 +1,5 @@
 -- The trees of the grammar that write the parts of a triplet.
-use Rattle.std.proofs.Common.{◌≡◌, ◌⊎◌, inl, inr, ℕ, zero, suc, ◌+◌, ◌<◌, ◌≤◌, Bool, true, false, List, [], ◌∷◌, ◌++◌, length, ℤ, pos, negsuc, ◌+ℤ◌, refl, sym, ap, subst, ◌∙◌, arith, append_assoc, length-append}
+use Rattle.std.proofs.Common.{◌≡◌, ◌⊎◌, inl, inr, ℕ, zero, suc, ◌<◌, false, List, [], ◌∷◌, ◌++◌, length, ℤ, pos, negsuc, ◌+ℤ◌, refl, sym, ap, subst, ◌∙◌, arith, append_assoc, length-append}
 use Rattle.std.specs.Str.Parse.{without_leading_plus}
 use Rattle.std.proofs.lemmas.List.{append-nil}
 use Rattle.integers.specs.Size.{IsWithin}
@@ -15,7 +15,7 @@ use Rattle.motions.specs.declared.motion.Sign.TheVariants.{Plus, Minus}
 use Rattle.triplets.specs.declared.part.Row.{Row}
 use Rattle.triplets.specs.declared.part.Used.{Used}
 use Rattle.triplets.specs.Rows.{zero_row, unused, with_entry, uses, with_used}
-use Rattle.triplets.specs.Grammar.{sign_byte, letter_byte, Term, whole, Lead, bare, sign as signed_lead, more, lead_text, lead_letters, blanks_text, letter, multiple, fraction, term_text, with_term, with_letters, IsNew, Written, part_text, part_row}
+use Rattle.triplets.specs.Grammar.{sign_byte, letter_byte, Term, whole, bare, sign as signed_lead, more, lead_text, lead_letters, blanks_text, letter, multiple, fraction, term_text, with_term, with_letters, IsNew, Written, part_text, part_row}
 use Rattle.triplets.specs.Writing.{letter_term, number_term, terms_text, or_zero, row_text}
 use Rattle.triplets.proofs.Terms.{without_leading_plus-more}
 use Rattle.triplets.proofs.NumberTrees.{digit}

@@ -1,5 +1,5 @@
 -- The trees of the grammar that write the terms of a part.
-use Rattle.std.proofs.Common.{◌≡◌, ℕ, zero, suc, ◌+◌, ◌-◌, ◌*◌, ◌/◌, ◌<◌, ◌≤◌, Bool, true, false, List, [], ◌∷◌, ◌++◌, ℤ, pos, negsuc, ◌+ℤ◌, neg_ℤ, nat_abs, refl, sym, ap, subst, ◌∙◌, arith}
+use Rattle.std.proofs.Common.{◌≡◌, ℕ, zero, suc, ◌*◌, ◌/◌, ◌<◌, ◌≤◌, false, List, [], ◌∷◌, ◌++◌, ℤ, pos, negsuc, ◌+ℤ◌, neg_ℤ, nat_abs, refl, sym, ap, subst, ◌∙◌, arith}
 use Rattle.std.specs.Int.{◌∣◌}
 use Rattle.std.specs.Fmt.{digits, decimal as decimal_text, signed_decimal}
 use Rattle.std.proofs.lemmas.Fmt.{decimal_digit}
@@ -8,10 +8,9 @@ use Rattle.std.proofs.Math.Nat.{dvd-mul_left, mul-div_cancel, mul-div_cancel', p
 use Rattle.integers.specs.Size.{IsWithin}
 use Rattle.fractions.specs.declared.part.TheConstants.{UNIT}
 use Rattle.fractions.specs.LowestTerms.{gcd, signed_gcd, lowest_terms}
-use Rattle.fractions.specs.RatioText.{ratio_text, denominator_text as below_text}
+use Rattle.fractions.specs.RatioText.{denominator_text as below_text}
 use Rattle.fractions.proofs.Gcd.{IsGcd-gcd}
 use Rattle.triplets.specs.declared.marks.Axis.{Axis}
-use Rattle.triplets.specs.declared.marks.Axis.TheVariants.{X, Y, Z}
 use Rattle.motions.specs.declared.motion.Sign.{Sign}
 use Rattle.motions.specs.declared.motion.Sign.TheVariants.{Plus, Minus}
 use Rattle.triplets.specs.declared.denominator.Denominator.{Denominator}
@@ -22,8 +21,8 @@ use Rattle.triplets.specs.Bytes.{slash}
 use Rattle.triplets.specs.Rows.{signed, with_entry, with_shift, uses, with_used}
 use Rattle.triplets.specs.Denominators.{unit, denominator_value, denominator_text, parts}
 use Rattle.triplets.specs.Grammar.{sign_byte, letter_byte, Numerator, numerator_text, numerator_value, Term, letter, multiple, whole, fraction, term_text, with_term, with_letters, IsNew}
-use Rattle.triplets.specs.Writing.{letter_term, number_term, number_text}
-use Rattle.triplets.proofs.NumberTrees.{digit, digit-value, WritesNumber, numerator_tree, Denotes, denominator_tree}
+use Rattle.triplets.specs.Writing.{letter_term, number_term}
+use Rattle.triplets.proofs.NumberTrees.{digit, digit-value, numerator_tree, denominator_tree}
 
 -- the text is a sign and a term, which adds this to a row and to the letters of a part where the letters leave it free
 pub record IsTerm (text : List ℕ) (add : Row → Row) (use_letter : Used → Used) (IsFree : Used → Type 0) : Type 0 where

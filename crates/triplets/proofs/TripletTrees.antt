@@ -1,13 +1,12 @@
 -- What `write_triplet` writes of a motion that the grammar can say is a triplet with that value alone.
-use Rattle.std.proofs.Common.{◌≡◌, ℕ, List, [], ◌∷◌, ◌++◌, refl, sym, ap, subst, ◌∙◌, append_assoc}
+use Rattle.std.proofs.Common.{◌≡◌, ℕ, List, [], ◌∷◌, ◌++◌, sym, ◌∙◌, append_assoc}
 use Rattle.symmetry.specs.Motions.{Motion}
-use Rattle.triplets.specs.declared.part.Row.{Row}
 use Rattle.triplets.specs.Bytes.{comma}
 use Rattle.triplets.specs.Rows.{motion_with}
-use Rattle.triplets.specs.Grammar.{IsTriplet, part_text, part_row}
+use Rattle.triplets.specs.Grammar.{IsTriplet, part_text}
 use Rattle.triplets.specs.Writing.{triplet_text}
 use Rattle.triplets.specs.Writable.{IsWritable, IsTripletOf}
-use Rattle.triplets.proofs.PartTrees.{WritesRow, row_tree}
+use Rattle.triplets.proofs.PartTrees.{row_tree}
 use Rattle.triplets.proofs.Wholes.{is_read}
 use Rattle.triplets.proofs.Ends.{one_value}
 

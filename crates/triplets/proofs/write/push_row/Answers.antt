@@ -1,4 +1,4 @@
-use Rattle.std.proofs.Common.{◌∙◌, ◌≡◌, length, sym, arith}
+use Rattle.std.proofs.Common.{◌∙◌, ◌≡◌, length, sym}
 use Rattle.triplets.proofs.Terms.{or_zero-none, or_zero-some}
 use Rattle.triplets.proofs.write.push_row.Goals as goal
 

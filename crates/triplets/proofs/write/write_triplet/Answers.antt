@@ -1,4 +1,4 @@
-use Rattle.std.proofs.Common.{rules, ◌∙◌, ◌≡◌, sym, ap, subst, List, ℕ}
+use Rattle.std.proofs.Common.{rules, ◌≡◌, sym, subst, List, ℕ}
 use Rattle.motions.specs.Views.{motion_of}
 use Rattle.triplets.specs.Writing.{triplet_text}
 use Rattle.triplets.specs.Writable.{IsTripletOf}
