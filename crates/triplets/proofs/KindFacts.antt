@@ -1,18 +1,12 @@
 -- The kind of a fault of a triplet.
-use Rattle.std.proofs.Common.{◌≡◌, ◌≢◌, ℕ, suc, ◌+◌, ◌-◌, ◌*◌, ◌<◌, ◌≤◌, Bool, true, false, cond, List, [], ◌∷◌, ◌++◌, length, Option, Some, None, Result, Ok, Err, refl, sym, ◌∙◌, ap, subst, arith, inl, inr, ◌⊎◌}
-use Rattle.std.specs.Prelude.{IsTrue, nat_le, nat_lt, ◌==◌, ◌&&◌, ◌||◌, if◌then◌else◌}
-use Rattle.std.proofs.lemmas.Bool.Decides.{nat_tests, eqb_tells}
+use Rattle.std.proofs.Common.{◌≡◌, ◌≢◌, ℕ, ◌≤◌, Bool, true, false, List, Option, Some, None, Result, Ok, Err, refl, sym, ◌∙◌, ap, subst, arith, inl, inr}
+use Rattle.std.specs.Prelude.{IsTrue}
 use Rattle.triplets.specs.declared.marks.Axis.{Axis}
 use Rattle.triplets.specs.declared.marks.Axis.TheVariants.{X, Y, Z}
-use Rattle.motions.specs.declared.motion.Sign.{Sign}
-use Rattle.motions.specs.declared.motion.Sign.TheVariants.{Plus, Minus}
-use Rattle.triplets.specs.declared.part.Used.{Used}
-use Rattle.triplets.specs.declared.denominator.Denominator.{Denominator}
 use Rattle.triplets.specs.declared.fault.TextKind.{TextKind}
 use Rattle.triplets.specs.declared.fault.TextKind.TheVariants as kinds
 use Rattle.triplets.specs.declared.marks.Mark.{Mark}
 use Rattle.triplets.specs.declared.marks.Mark.TheVariants as marks
-use Rattle.triplets.specs.declared.part.Row as rows
 use Rattle.triplets.specs.declared.part.PartReader.{PartReader}
 use Rattle.triplets.specs.declared.part.Spot.{Spot}
 use Rattle.triplets.specs.declared.part.Spot.TheVariants.{Begin, Signed, Digits, Divided, Below, Behind}
@@ -22,17 +16,14 @@ use Rattle.motions.specs.declared.motion.Motion3.{Motion3}
 use Rattle.motions.specs.Views.{motion_of}
 use Rattle.triplets.specs.declared.triplet.TripletReader.{TripletReader}
 use Rattle.triplets.specs.Marks.{mark}
-use Rattle.triplets.specs.Rows.{unused, uses, with_used, motion3_with}
-use Rattle.triplets.specs.Denominators.{first_digit, further_digit}
-use Rattle.triplets.specs.PartReading.{begin, settled, part_step, on_blank, on_sign, on_letter, on_digit, on_slash, on_new_letter_at, below_or, with_letter, with_spot}
-use Rattle.triplets.specs.TripletReading.{start, with_part, in_part, next_part, comma_at, on_comma, early_comma, hash_kind, value_at, value, step, advance, run}
-use Rattle.triplets.specs.Grammar.{Blank, space, tab, carriage_return, blank_byte, sign_byte, letter_byte, Digit, digit_value, IsTriplet}
-use Rattle.triplets.specs.Faults.{IsGood, IsPrefixOfGood, is_digit, is_blank, is_letter, last_mark, last_other, digits_at_end, stands, TableRow, IsLetter, IsRepeated, HasKind}
-use Rattle.triplets.proofs.Bytes.{IsMark, mark_is, mark_letter, mark_digit}
-use Rattle.triplets.proofs.Partials.{fine, ok_is, err_is, passed, met, below_is}
-use Rattle.triplets.proofs.Wholes.{going, stopped, going_is, PartStep, part_step_is, run_stopped, found, is_triplet, is_read, IsRead}
-use Rattle.triplets.proofs.Seen.{Seen, nothing_seen, seen, seen_step, seen_blank, seen_sign, seen_letter, digit_true, digit_not_blank, digit_not_comma, digit_not_letter, seen_digit, SpotAgrees, Agrees, agree_at, blank_bounds, sign_bounds, letter_bounds, at, agrees_blank, agrees_sign, agrees_letter, agrees_digit, agrees_slash, along, agrees_part, agrees_begin, agrees_comma, agrees_in_part, agrees_by, stopped_runs, agrees_on, agrees_run, agrees}
-use Rattle.triplets.proofs.KindTable.{KindOf, table_is, two_cases, letter_cases, letter_self, letter_one, digit_of, silent, apart, silent_at, no_letter, no_digit, unknown, part_stopped, err_kind, not_ok, unmet, not_passed, below_err, new_letter_fault, letter_fault_by, three_of, digit_fault, blank_fault, sign_fault, slash_fault}
+use Rattle.triplets.specs.Rows.{uses, motion3_with}
+use Rattle.triplets.specs.PartReading.{settled, on_digit}
+use Rattle.triplets.specs.TripletReading.{start, in_part, next_part, comma_at, early_comma, hash_kind, value_at, value, step, run}
+use Rattle.triplets.specs.Faults.{IsGood, is_digit, is_letter, stands, TableRow, IsLetter, HasKind}
+use Rattle.triplets.proofs.Bytes.{IsMark, mark_is}
+use Rattle.triplets.proofs.Wholes.{going, stopped, going_is, found, is_triplet, is_read}
+use Rattle.triplets.proofs.Seen.{Seen, nothing_seen, seen, SpotAgrees, Agrees, agrees}
+use Rattle.triplets.proofs.KindTable.{KindOf, table_is, silent, apart, unknown, part_stopped, err_kind, letter_fault_by, digit_fault, blank_fault, sign_fault, slash_fault}
 
 pub stopped_is : (k l : TextKind) → stopped k ≡ stopped l → l ≡ k
 stopped_is k l e = cc

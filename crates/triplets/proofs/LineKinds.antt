@@ -1,18 +1,12 @@
 -- The kind of a fault of a line.
-use Rattle.std.proofs.Common.{◌≡◌, ◌≢◌, ℕ, suc, ◌+◌, ◌-◌, ◌*◌, ◌<◌, ◌≤◌, Bool, true, false, cond, List, [], ◌∷◌, ◌++◌, length, Option, Some, None, Result, Ok, Err, ℤ, refl, sym, ◌∙◌, ap, subst, arith, inl, inr, ◌⊎◌}
-use Rattle.std.specs.Prelude.{IsTrue, nat_le, nat_lt, ◌==◌, ◌&&◌, ◌||◌, if◌then◌else◌}
-use Rattle.std.proofs.lemmas.Bool.Decides.{nat_tests, eqb_tells}
+use Rattle.std.proofs.Common.{◌≡◌, ◌≢◌, ℕ, ◌≤◌, Bool, true, false, cond, List, Option, Some, None, Result, Ok, Err, refl, sym, ◌∙◌, ap, subst, arith, inl, inr, ◌⊎◌}
+use Rattle.std.specs.Prelude.{IsTrue, ◌&&◌}
 use Rattle.symmetry.specs.Vectors.{Vector}
-use Rattle.symmetry.specs.Groups.{Listing}
-use Rattle.symmetry.specs.Motions.{Motion}
-use Rattle.motions.specs.Views.{motion_of, parts}
-use Rattle.triplets.specs.Rows.{motion_with, motion3_with, parts_with}
 use Rattle.triplets.specs.declared.marks.Axis.{Axis}
 use Rattle.triplets.specs.declared.marks.Axis.TheVariants.{X, Y, Z}
 use Rattle.motions.specs.declared.motion.Sign.{Sign}
 use Rattle.motions.specs.declared.motion.Sign.TheVariants.{Plus, Minus}
 use Rattle.triplets.specs.declared.part.Used.{Used}
-use Rattle.triplets.specs.declared.denominator.Denominator.{Denominator}
 use Rattle.triplets.specs.declared.fault.TextKind.{TextKind}
 use Rattle.triplets.specs.declared.fault.TextKind.TheVariants as kinds
 use Rattle.triplets.specs.declared.marks.Mark.{Mark}
@@ -30,22 +24,21 @@ use Rattle.triplets.specs.declared.line.VectorReader.{VectorReader}
 use Rattle.triplets.specs.declared.line.LinePlace.{LinePlace}
 use Rattle.triplets.specs.declared.line.LinePlace.TheVariants as places
 use Rattle.triplets.specs.Marks.{mark}
-use Rattle.triplets.specs.Rows.{unused, uses, with_used}
-use Rattle.triplets.specs.PartReading.{begin, settled, part_step, on_blank, on_sign, on_sign_at, on_letter, on_digit, on_slash, on_new_letter_at, below_or, with_letter, with_spot, with_sign}
-use Rattle.triplets.specs.TripletReading.{start, with_part, in_part, next_part, comma_at, on_comma, early_comma, value, step}
-use Rattle.triplets.specs.Grammar.{Blank, space, tab, carriage_return, blank_byte, sign_byte, letter_byte, Digit, digit_value}
-use Rattle.triplets.specs.LineReading.{opened, in_operation, in_coordinate, next_coordinate, coordinate_comma, closed_at, on_close, is_digits, behind_number, coordinate_sign, vector_step, start_step, comment_behind, operation_step, closed_step, behind_step, place_step, completed, with_vector, LineState, line_start, at_place, line_step, line_advance, line_run}
-use Rattle.triplets.specs.Faults.{is_digit, is_blank, is_letter, last_mark, last_other, digits_at_end, TableRow, IsLetter}
-use Rattle.triplets.specs.LineFaults.{last_bracket, commas, line_stands, is_end_of_part, IsFresh, HasLineKind}
-use Rattle.triplets.proofs.Bytes.{IsMark, mark_is, mark_letter, mark_digit}
-use Rattle.triplets.proofs.Partials.{fine, ok_is, err_is, passed, met, below_is}
-use Rattle.triplets.proofs.Wholes.{going, stopped, going_is, found, PartStep, part_step_is}
-use Rattle.triplets.proofs.Seen.{Seen, nothing_seen, seen_step, seen_blank, seen_sign, seen_letter, seen_digit, SpotAgrees, Agrees, agrees_part, agrees_by, letter_bounds, sign_bounds, digit_true, digit_not_letter, at}
-use Rattle.triplets.proofs.KindFacts.{fault_by, Tabled, Whole, after_comma, no_letter_44, no_letter_35, stopped_is, no_triplet}
-use Rattle.triplets.proofs.KindTable.{KindOf, new_letter_fault, digit_fault, silent, unknown, no_letter, no_digit, apart, letter_self, part_stopped, err_kind, blank_fault, slash_fault}
-use Rattle.triplets.proofs.LineBounds.{placed, placed_is}
-use Rattle.triplets.proofs.LineBegun.{line_going, line_stopped, run_line_stopped, state_of, going_line_is, Placed, placed_by, no_place}
-use Rattle.triplets.proofs.LineSeen.{LineSeen, line_seen_step, line_seen, line_seen_start, l_blank, l_sign, l_letter, digit_not, l_digit, SameMark, Follows, follow_blank, follow_sign, follow_letter, lmade, smade, follow_digit, follow_slash, in_a_part, follow_by, Stays, stays_at, stays_by, settles, spot_of, settles_blank, settles_sign, settles_letter, settles_digit, settles_slash, sign_no_end, sign_no_digit, letter_end, digit_end, mark_at, ends_by, digits_by, index, PartKnown, known_step, known_comma, known_open, known_label, Between, LineAgrees, to_place, bracket_same, not_bracket, op_in_part, op_comma, op_step, from_start_step, in_op_step, used_at, used_by, vec_moved, vec_by, unlabel, vec_sign, vec_comma, between_close, vec_closed, vec_close, vec_step, between_blank, blank_keeps, shut_step, row_step, place_agrees, run_by, run_agrees, line_agrees}
+use Rattle.triplets.specs.Rows.{unused, uses}
+use Rattle.triplets.specs.PartReading.{settled, part_step, on_digit}
+use Rattle.triplets.specs.TripletReading.{start, next_part, comma_at, early_comma, value, step}
+use Rattle.triplets.specs.Grammar.{Blank, space, tab, carriage_return, blank_byte, sign_byte, letter_byte, Digit}
+use Rattle.triplets.specs.LineReading.{in_operation, in_coordinate, next_coordinate, coordinate_comma, closed_at, is_digits, behind_number, coordinate_sign, vector_step, start_step, comment_behind, operation_step, closed_step, behind_step, place_step, completed, with_vector, LineState, line_start, at_place, line_step, line_run}
+use Rattle.triplets.specs.Faults.{is_digit, is_letter, TableRow, IsLetter}
+use Rattle.triplets.specs.LineFaults.{line_stands, is_end_of_part, HasLineKind}
+use Rattle.triplets.proofs.Bytes.{IsMark, mark_is}
+use Rattle.triplets.proofs.Wholes.{stopped, found}
+use Rattle.triplets.proofs.Seen.{Seen, SpotAgrees, letter_bounds, digit_not_letter, at}
+use Rattle.triplets.proofs.KindFacts.{fault_by, Tabled, after_comma, no_triplet}
+use Rattle.triplets.proofs.KindTable.{KindOf, digit_fault, silent, unknown, apart, letter_self, part_stopped, blank_fault, slash_fault}
+use Rattle.triplets.proofs.LineBounds.{placed}
+use Rattle.triplets.proofs.LineBegun.{line_going, line_stopped}
+use Rattle.triplets.proofs.LineSeen.{LineSeen, line_seen, line_seen_start, SameMark, smade, settles, PartKnown, Between, LineAgrees, line_agrees}
 
 abbrev pub Suffix : (o c : ℕ) → (Axis → Bool) → ℕ → TextKind → Type 0
 Suffix o c S b k =

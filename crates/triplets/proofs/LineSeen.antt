@@ -1,18 +1,12 @@
 -- What stands before a place in a line, as the reader knows it.
-use Rattle.std.proofs.Common.{◌≡◌, ◌≢◌, ℕ, suc, ◌+◌, ◌-◌, ◌*◌, ◌<◌, ◌≤◌, Bool, true, false, cond, List, [], ◌∷◌, ◌++◌, length, Option, Some, None, Result, Ok, Err, ℤ, refl, sym, ◌∙◌, ap, subst, arith, inl, inr, ◌⊎◌}
-use Rattle.std.specs.Prelude.{IsTrue, nat_le, nat_lt, ◌==◌, ◌&&◌, ◌||◌, if◌then◌else◌}
-use Rattle.std.proofs.lemmas.Bool.Decides.{nat_tests, eqb_tells}
-use Rattle.symmetry.specs.Vectors.{Vector}
-use Rattle.symmetry.specs.Groups.{Listing}
-use Rattle.symmetry.specs.Motions.{Motion}
-use Rattle.motions.specs.Views.{motion_of, parts}
-use Rattle.triplets.specs.Rows.{motion_with, motion3_with, parts_with}
+use Rattle.std.proofs.Common.{◌≡◌, ◌≢◌, ℕ, ◌+◌, ◌*◌, ◌<◌, Bool, true, false, cond, List, [], ◌∷◌, Option, Some, None, Result, Ok, Err, ℤ, refl, sym, ◌∙◌, ap, subst, arith, inl, inr, ◌⊎◌}
+use Rattle.std.specs.Prelude.{◌==◌, ◌&&◌, ◌||◌, if◌then◌else◌}
+use Rattle.std.proofs.lemmas.Bool.Decides.{nat_tests}
 use Rattle.triplets.specs.declared.marks.Axis.{Axis}
 use Rattle.triplets.specs.declared.marks.Axis.TheVariants.{X, Y, Z}
 use Rattle.motions.specs.declared.motion.Sign.{Sign}
 use Rattle.motions.specs.declared.motion.Sign.TheVariants.{Plus, Minus}
 use Rattle.triplets.specs.declared.part.Used.{Used}
-use Rattle.triplets.specs.declared.denominator.Denominator.{Denominator}
 use Rattle.triplets.specs.declared.fault.TextKind.{TextKind}
 use Rattle.triplets.specs.declared.fault.TextKind.TheVariants as kinds
 use Rattle.triplets.specs.declared.marks.Mark.{Mark}
@@ -30,21 +24,18 @@ use Rattle.triplets.specs.declared.line.VectorReader.{VectorReader}
 use Rattle.triplets.specs.declared.line.LinePlace.{LinePlace}
 use Rattle.triplets.specs.declared.line.LinePlace.TheVariants as places
 use Rattle.triplets.specs.Marks.{mark}
-use Rattle.triplets.specs.Rows.{unused, uses, with_used}
-use Rattle.triplets.specs.PartReading.{begin, settled, part_step, on_blank, on_sign, on_sign_at, on_letter, on_digit, on_slash, on_new_letter_at, below_or, with_letter, with_spot, with_sign}
-use Rattle.triplets.specs.TripletReading.{start, with_part, in_part, next_part, comma_at, on_comma, early_comma, value, step}
-use Rattle.triplets.specs.Grammar.{Blank, space, tab, carriage_return, blank_byte, sign_byte, letter_byte, Digit, digit_value}
-use Rattle.triplets.specs.LineReading.{opened, in_operation, in_coordinate, next_coordinate, coordinate_comma, closed_at, on_close, is_digits, behind_number, coordinate_sign, vector_step, start_step, comment_behind, operation_step, closed_step, behind_step, place_step, completed, with_vector, LineState, line_start, at_place, line_step, line_advance, line_run}
-use Rattle.triplets.specs.Faults.{is_digit, is_blank, is_letter, last_mark, last_other, digits_at_end, TableRow, IsLetter}
-use Rattle.triplets.specs.LineFaults.{last_bracket, commas, line_stands, is_end_of_part, IsFresh, HasLineKind}
-use Rattle.triplets.proofs.Bytes.{IsMark, mark_is, mark_letter, mark_digit}
+use Rattle.triplets.specs.Rows.{unused, with_used}
+use Rattle.triplets.specs.PartReading.{begin, settled, part_step, on_blank, on_sign, on_sign_at, on_digit, on_slash, on_new_letter_at, with_letter, with_sign}
+use Rattle.triplets.specs.TripletReading.{start, in_part, next_part, comma_at, value, step}
+use Rattle.triplets.specs.Grammar.{Blank, space, tab, carriage_return, blank_byte, sign_byte, letter_byte, Digit}
+use Rattle.triplets.specs.LineReading.{opened, in_operation, in_coordinate, next_coordinate, coordinate_comma, closed_at, is_digits, coordinate_sign, vector_step, start_step, comment_behind, operation_step, closed_step, behind_step, place_step, completed, with_vector, LineState, line_start, line_step, line_run}
+use Rattle.triplets.specs.Faults.{is_digit, is_blank, is_letter, last_mark, last_other, digits_at_end}
+use Rattle.triplets.specs.LineFaults.{last_bracket, commas, line_stands, is_end_of_part}
+use Rattle.triplets.proofs.Bytes.{IsMark, mark_is}
 use Rattle.triplets.proofs.Partials.{fine, ok_is, err_is, passed, met, below_is}
-use Rattle.triplets.proofs.Wholes.{going, stopped, going_is, found, PartStep, part_step_is}
-use Rattle.triplets.proofs.Seen.{Seen, nothing_seen, seen_step, seen_blank, seen_sign, seen_letter, seen_digit, SpotAgrees, Agrees, agrees_part, agrees_by, letter_bounds, sign_bounds, digit_true, digit_not_letter, at}
-use Rattle.triplets.proofs.KindFacts.{fault_by, Tabled, Whole, after_comma, no_letter_44, no_letter_35, stopped_is, no_triplet}
-use Rattle.triplets.proofs.KindTable.{KindOf, new_letter_fault, digit_fault, silent, unknown, no_letter, no_digit, apart, letter_self, part_stopped, err_kind, blank_fault, slash_fault}
+use Rattle.triplets.proofs.Seen.{Seen, nothing_seen, seen_step, seen_digit, Agrees, agrees_part, digit_true, digit_not_letter, at}
 use Rattle.triplets.proofs.LineBounds.{placed, placed_is}
-use Rattle.triplets.proofs.LineBegun.{line_going, line_stopped, run_line_stopped, state_of, going_line_is, Placed, placed_by, no_place}
+use Rattle.triplets.proofs.LineBegun.{line_going, run_line_stopped, going_line_is, placed_by, no_place}
 
 -- what stands before, in words
 pub record LineSeen : Type 0 where

@@ -9,7 +9,6 @@ pub mod TripletReading
 pub mod Lines
 pub mod LineFaults
 pub mod LineReading
-pub mod Sizes
 pub mod Texts
 pub mod TextAnswers
 pub mod PlaceBounds

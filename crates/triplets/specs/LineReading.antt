@@ -1,9 +1,9 @@
 -- What the reader of a line does.
-use Rattle.std.specs.Prelude.{◌≡◌, ℕ, ◌*◌, ◌+◌, Bool, true, false, ◌&&◌, if◌then◌else◌, List, [], ◌∷◌, ◌++◌, Option, Some, None, Result, Ok, Err, ℤ, pos}
+use Rattle.std.specs.Prelude.{ℕ, Bool, true, false, ◌&&◌, if◌then◌else◌, List, [], ◌∷◌, ◌++◌, Option, Some, None, Result, Ok, Err, ℤ, pos}
 use Rattle.triplets.specs.declared.marks.Mark.{Mark}
 use Rattle.triplets.specs.declared.marks.Mark.TheVariants as marks
 use Rattle.motions.specs.declared.motion.Sign.{Sign}
-use Rattle.motions.specs.declared.motion.Sign.TheVariants.{Plus, Minus}
+use Rattle.motions.specs.declared.motion.Sign.TheVariants.{Plus}
 use Rattle.triplets.specs.declared.fault.TextKind.{TextKind}
 use Rattle.triplets.specs.declared.fault.TextKind.TheVariants as kinds
 use Rattle.triplets.specs.declared.part.PartReader.{PartReader}

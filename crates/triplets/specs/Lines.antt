@@ -1,10 +1,9 @@
 -- The grammar of a line.
-use Rattle.std.specs.Prelude.{◌≡◌, ℕ, suc, ◌+◌, ◌-◌, ◌*◌, ◌≤◌, ℤ, Bool, true, false, List, [], ◌∷◌, ◌++◌, map, length, Option, Some, None}
+use Rattle.std.specs.Prelude.{◌≡◌, ℕ, ℤ, List, [], ◌∷◌, ◌++◌, Option, Some, None}
 use Rattle.triplets.specs.Bytes.{opening, closing, comma, plus_sign, hash}
-use Rattle.triplets.specs.declared.denominator.Denominator.{Denominator}
 use Rattle.symmetry.specs.Vectors.{Vector}
 use Rattle.symmetry.specs.Groups.{Listing}
-use Rattle.triplets.specs.Grammar.{Blank, blanks_text, Digit, Numerator, numerator_text, Term, letter, multiple, whole, fraction, Lead, bare, sign, more, Written, part_text, part_row}
+use Rattle.triplets.specs.Grammar.{Blank, blanks_text, Numerator, numerator_text, Term, letter, multiple, whole, fraction, Lead, bare, sign, more, Written, part_text, part_row}
 use Rattle.triplets.specs.Rows.{motion_with}
 
 -- at most a sign

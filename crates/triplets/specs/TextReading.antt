@@ -1,6 +1,5 @@
 -- What the reader of a group text does.
-use Rattle.std.specs.Prelude.{◌≡◌, ℕ, ◌+◌, ◌≤◌, ◌==◌, if◌then◌else◌, List, [], ◌∷◌, ◌++◌, length, Option, Some, None, Result, Ok, Err}
-use Rattle.triplets.specs.declared.marks.Mark.{Mark}
+use Rattle.std.specs.Prelude.{◌≡◌, ℕ, ◌+◌, ◌==◌, if◌then◌else◌, List, [], ◌∷◌, ◌++◌, length, Option, Some, None, Result, Ok, Err}
 use Rattle.triplets.specs.declared.fault.TextKind.{TextKind}
 use Rattle.triplets.specs.declared.fault.TextKind.TheVariants as kinds
 use Rattle.motions.specs.declared.motion.Motion3.{Motion3}
@@ -10,12 +9,11 @@ use Rattle.triplets.specs.declared.line.LinePlace.TheVariants as places
 use Rattle.triplets.specs.declared.fault.TextFault.{TextFault}
 use Rattle.triplets.specs.declared.fault.TextFault.TheVariants as faults
 use Rattle.triplets.specs.declared.text.LineReader.{LineReader}
-use Rattle.motions.specs.declared.listed.Listed.{Listed}
 use Rattle.triplets.specs.Marks.{mark}
 use Rattle.symmetry.specs.Groups.{Listing}
-use Rattle.motions.specs.Views.{motion_of, parts, listing_of}
+use Rattle.motions.specs.Views.{listing_of}
 use Rattle.triplets.specs.LineReading.{place_step, completed, with_vector, ending, operations_of}
-use Rattle.triplets.specs.Texts.{Fault, nothing_listed, IsTextFault}
+use Rattle.triplets.specs.Texts.{Fault, nothing_listed}
 
 -- what is kept of the text so far
 pub record Kept : Type 0 where
