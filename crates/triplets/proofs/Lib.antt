@@ -21,3 +21,9 @@ pub mod LinePlaces
 pub mod TextEnds
 pub mod TextShown
 pub mod Answered
+mod Terms
+mod NumberTrees
+mod TermTrees
+mod PartTrees
+mod TripletTrees
+mod WritingSamples

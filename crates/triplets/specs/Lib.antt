@@ -13,3 +13,5 @@ pub mod Texts
 pub mod TextAnswers
 pub mod PlaceBounds
 pub mod TextReading
+pub mod Writing
+pub mod Writable
