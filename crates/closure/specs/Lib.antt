@@ -1,3 +1,5 @@
 pub mod Residues
 pub mod Fineness
 pub mod Lattices
+pub mod Operations
+pub mod Groups

@@ -4,8 +4,10 @@
 // `Group` is a group modulo its lattice, made exactly from the lists that are one.
 #![tactic(auto)]
 
+mod group;
 mod lattice;
 mod limits;
 
+pub use group::Group;
 pub use lattice::{Lattice, LatticeFault};
 pub use limits::{MAX_ENTRY, MAX_OPERATIONS, MAX_RESIDUES};
