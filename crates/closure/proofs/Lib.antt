@@ -1,0 +1,4 @@
+pub mod Remainders
+pub mod ResidueLaws
+pub mod Spans
+pub mod ListLaws

@@ -1,9 +1,9 @@
 -- Lattices with too many residues.
-use Rattle.std.specs.Prelude.{ℕ, ◌<◌, List, [], length}
+use Rattle.std.specs.Prelude.{◌<◌, All, AllPairs, List, [], length}
 use Rattle.closure.specs.declared.limits.TheConstants.{MAX_RESIDUES}
 use Rattle.symmetry.specs.Vectors.{Vector, minus}
 use Rattle.symmetry.specs.Groups.{Listing, IsInLattice}
-use Rattle.closure.specs.Residues.{IsWhole, vector_at}
+use Rattle.closure.specs.Residues.{IsWhole}
 
 -- what the vectors list: no operations, and these as centring vectors
 abbrev pub centrings_alone : List Vector → Listing
@@ -13,5 +13,5 @@ centrings_alone vectors = record { ops = []; centrings = vectors }
 pub record IsTooFine (g : Listing) : Type 0 where
   pub members : List Vector
   pub many : MAX_RESIDUES < length members
-  pub inside : (k : ℕ) → k < length members → IsInLattice g (vector_at members k)
-  pub apart : (j k : ℕ) → j < k → k < length members → ¬ IsWhole (minus (vector_at members j) (vector_at members k))
+  pub inside : All (IsInLattice g) members
+  pub apart : AllPairs (λ v w. ¬ IsWhole (minus v w)) members

@@ -1,4 +1,5 @@
 pub mod Residues
+pub mod Spans
 pub mod Fineness
 pub mod Lattices
 pub mod Operations

@@ -1,5 +1,5 @@
 -- Residues of vectors modulo whole cell edges.
-use Rattle.std.specs.Prelude.{◌≡◌, ℕ, ℤ, pos, ◌<◌, ◌≤ℤ◌, ◌<ℤ◌, Bool, IsTrue, ◌&&◌, ◌||◌, List, length, slice_index_or, int_lt, unsigned_abs}
+use Rattle.std.specs.Prelude.{◌≡◌, ℤ, pos, ◌≤ℤ◌, ◌<ℤ◌, Bool, IsTrue, ◌&&◌, ◌||◌, List, length, AllPairs, int_lt, unsigned_abs}
 use Rattle.std.specs.List.{list_any}
 use Rattle.std.specs.Ordering.{int_eq}
 use Rattle.fractions.specs.declared.part.Part.{Part}
@@ -50,10 +50,6 @@ pub record IsResidue (r : List Part) : Type 0 where
 abbrev pub is_before : Vector → Vector → Bool
 is_before v w = int_lt v.x w.x || (int_eq v.x w.x && (int_lt v.y w.y || (int_eq v.y w.y && int_lt v.z w.z)))
 
--- the vector at a place of a list
-abbrev pub vector_at : List Vector → ℕ → Vector
-vector_at vs k = slice_index_or vs k origin
-
 -- each vector comes before all that stand behind it
 abbrev pub AreInOrder : List Vector → Type 0
-AreInOrder vs = (j k : ℕ) → j < k → k < length vs → IsTrue (is_before (vector_at vs j) (vector_at vs k))
+AreInOrder vs = AllPairs (λ v w. IsTrue (is_before v w)) vs
