@@ -2,3 +2,4 @@ pub mod Remainders
 pub mod ResidueLaws
 pub mod Spans
 pub mod ListLaws
+pub mod Cosets

@@ -89,3 +89,11 @@ pub residue-plus : (u v w : Vector) → residue u ≡ residue v → residue (plu
 residue-plus u v w e =
     residue-same (plus u w) (plus v w)
     (subst IsWhole (minus-exchange u v w w) (whole-plus (minus u v) (minus w w) (whole_from_residues u v e) (subst IsWhole (sym (minus-same w)) whole-origin)))
+
+minus-minus : (u v w : Vector) → opposite (minus v w) ≡ minus (minus u v) (minus u w)
+unfolding plus multiple
+minus-minus u v w = vector_path (omega (arith, ints)) (omega (arith, ints)) (omega (arith, ints))
+
+pub residue-minus : (u v w : Vector) → residue v ≡ residue w → residue (minus u v) ≡ residue (minus u w)
+residue-minus u v w e =
+    residue-same (minus u v) (minus u w) (subst IsWhole (minus-minus u v w) (whole-opposite (minus v w) (whole_from_residues v w e)))
