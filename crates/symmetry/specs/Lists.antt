@@ -41,6 +41,14 @@ pub record ListsInPlane (g : Listing) (r : Vector) (S : Motion → Type 0) (ms :
   pub listed : (k : ℕ) → k < length ms → S (motion_at ms k)
   pub once : (m : Motion) → S m → ExactlyOne ms (DiffersInPlane g r m)
 
+-- the motion differs by the plane lattice from exactly one motion of the set that is at home
+pub record HasOneAtHome (g : Listing) (r : Vector) (IsHome S : Motion → Type 0) (m : Motion) : Type 0 where
+  pub companion : Motion
+  pub in_set : S companion
+  pub is_home : IsHome companion
+  pub differs : DiffersInPlane g r m companion
+  pub only : (n : Motion) → S n → IsHome n → DiffersInPlane g r m n → companion ≡ n
+
 -- the scanning operations: the listed operations that keep the orientation, each once modulo L
 pub record AreScanning (g : Listing) (r : Vector) (ms : List Motion) : Type 0 where
   pub listed : (k : ℕ) → k < length ms → IsMember g (motion_at ms k) × KeepsOrientation r (motion_at ms k)

@@ -1,0 +1,36 @@
+// The list of a set of motions: one for each set, and of the whole set modulo the plane lattice.
+ghost use Rattle.std.specs.Prelude.{◌≡◌, List, ⊤};
+ghost use Rattle.symmetry.specs.Vectors.{Vector};
+ghost use Rattle.symmetry.specs.Motions.{Motion};
+ghost use Rattle.symmetry.specs.Planes.{Height};
+ghost use Rattle.symmetry.specs.Groups.{InAll, InStabiliser, Listing, SameModulo};
+ghost use Rattle.symmetry.specs.Frames.{Basis, IsAtHome, IsFrame};
+ghost use Rattle.symmetry.specs.Lists.{HasOneAtHome, IsListOf, ListsInPlane};
+
+/// Two lists of the stabiliser of a plane, or of the motions that map every plane to itself, are equal: a set has one list.
+pub fn lists_agree()
+    ensures stabiliser { (g : Listing) (r : Vector) (f : Basis) (s : Height) (ms : List Motion) (ns : List Motion) →
+        IsListOf (SameModulo g) g.ops (IsAtHome f) (InStabiliser g r s) ms →
+        IsListOf (SameModulo g) g.ops (IsAtHome f) (InStabiliser g r s) ns → ms ≡ ns }
+    ensures all { (g : Listing) (r : Vector) (f : Basis) (ms : List Motion) (ns : List Motion) →
+        IsListOf (SameModulo g) g.ops (IsAtHome f) (InAll g r) ms →
+        IsListOf (SameModulo g) g.ops (IsAtHome f) (InAll g r) ns → ms ≡ ns }
+{}
+
+/// In a frame each motion differs by the plane lattice from exactly one motion at home, which is in the stabiliser of a plane,
+/// or among those that map every plane to itself, where the motion is.
+pub fn one_is_at_home()
+    ensures motion { (g : Listing) (r : Vector) (f : Basis) → IsFrame g r f → (m : Motion) → HasOneAtHome g r (IsAtHome f) (λ _. ⊤) m }
+    ensures stabiliser { (g : Listing) (r : Vector) (f : Basis) (s : Height) → IsFrame g r f → (m : Motion) → InStabiliser g r s m →
+        HasOneAtHome g r (IsAtHome f) (InStabiliser g r s) m }
+    ensures all { (g : Listing) (r : Vector) (f : Basis) → IsFrame g r f → (m : Motion) → InAll g r m →
+        HasOneAtHome g r (IsAtHome f) (InAll g r) m }
+{}
+
+/// So their lists list them modulo the plane lattice.
+pub fn lists_in_plane()
+    ensures stabiliser { (g : Listing) (r : Vector) (f : Basis) (s : Height) (ms : List Motion) → IsFrame g r f →
+        IsListOf (SameModulo g) g.ops (IsAtHome f) (InStabiliser g r s) ms → ListsInPlane g r (InStabiliser g r s) ms }
+    ensures all { (g : Listing) (r : Vector) (f : Basis) (ms : List Motion) → IsFrame g r f →
+        IsListOf (SameModulo g) g.ops (IsAtHome f) (InAll g r) ms → ListsInPlane g r (InAll g r) ms }
+{}
