@@ -5,6 +5,10 @@
 // names the first thing that is wrong with any other.
 #![tactic(auto)]
 
+mod check;
+mod lists;
 mod traits;
 
+pub use check::{GroupFault, check_group};
+pub use lists::find;
 pub use traits::{Motion, Quotient};
