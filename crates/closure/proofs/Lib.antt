@@ -3,3 +3,5 @@ pub mod ResidueLaws
 pub mod Spans
 pub mod ListLaws
 pub mod Cosets
+pub mod Membership
+pub mod Growth

@@ -5,10 +5,7 @@ use Rattle.symmetry.specs.Groups.{Listing, IsInLattice}
 use Rattle.motions.specs.declared.motion.Motion3.{Motion3}
 use Rattle.motions.specs.Views.{parts, motion_of}
 use Rattle.closure.specs.declared.lattice.Lattice.{Lattice}
-use Rattle.closure.specs.declared.lattice.LatticeFault.{LatticeFault}
-use Rattle.closure.specs.declared.lattice.LatticeFault.TheVariants.{TooFine, NoMemory}
 use Rattle.closure.specs.Residues.{residue}
-use Rattle.closure.specs.Fineness.{IsTooFine}
 
 -- its residues, in order
 abbrev pub residues_of : Lattice → List Vector
@@ -21,11 +18,6 @@ InLattice lattice v = Contains (residues_of lattice) (residue v)
 -- the Lattice is the lattice of what is listed
 abbrev pub IsLatticeOf : Listing → Lattice → Type 0
 IsLatticeOf g lattice = (v : Vector) → InLattice lattice v ↔ IsInLattice g v
-
--- why there is no Lattice of what is listed; want of memory has no cause
-abbrev pub IsLatticeFault : Listing → LatticeFault → Type 0
-IsLatticeFault g TooFine = IsTooFine g
-IsLatticeFault g NoMemory = Unit {0}
 
 -- the motion is the translation by a vector of the lattice
 pub record IsLatticeShift (lattice : Lattice) (m : Motion3) : Type 0 where

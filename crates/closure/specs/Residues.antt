@@ -26,7 +26,7 @@ residue v = record { x = reduced_parts v.x; y = reduced_parts v.y; z = reduced_p
 
 -- whether the residue of the vector is listed
 abbrev pub has_residue : List Vector → Vector → Bool
-has_residue rs v = list_any (same_vector (residue v)) rs
+has_residue rs v = list_any (λ r. same_vector r (residue v)) rs
 
 -- the listed residues are a group modulo whole edges
 pub record IsResidueGroup (rs : List Vector) : Type 0 where

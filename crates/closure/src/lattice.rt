@@ -10,6 +10,9 @@ use std::alloc::Global;
 
 use fractions::Part;
 
+use crate::lattice_fault::LatticeFault;
+use crate::residues::add_vector;
+
 /// A translation lattice that holds all whole vectors, as the set of its residues modulo whole cell edges.
 ///
 /// There are at most [`MAX_RESIDUES`](crate::MAX_RESIDUES) of them. Vectors are counted in parts of the edges.
@@ -22,17 +25,9 @@ pub struct Lattice {
     pub ghost few: { vec_len residues ≤ MAX_RESIDUES },
 }
 
-/// Why vectors make no [`Lattice`].
-#[derive(Clone, Copy, PartialEq, Eq, Debug)]
-pub enum LatticeFault {
-    /// There are more than [`MAX_RESIDUES`](crate::MAX_RESIDUES) residues.
-    TooFine,
-    /// There is no memory.
-    NoMemory,
-}
-
 impl Lattice {
-    ghost use Rattle.closure.specs.Lattices.{residues_of, IsLatticeOf, IsLatticeFault};
+    ghost use Rattle.closure.specs.Faults.{IsLatticeFault};
+    ghost use Rattle.closure.specs.Lattices.{residues_of, IsLatticeOf};
 
     /// The lattice of all sums of whole multiples of the cell edges and these vectors, whose entries are at most
     /// 2^40 parts in size.
@@ -45,9 +40,13 @@ impl Lattice {
         ensures fine { IfOk result (λ _. ¬ IsTooFine (centrings_alone (map parts vectors.now))) }
         ensures fault { IfErr result (IsLatticeFault (centrings_alone (map parts vectors.now))) }
     {
-        let _ = vectors;
-        let _ = alloc;
-        Err(LatticeFault::NoMemory)
+        let mut residues = Vec::new(alloc);
+        residues.push([Part(0), Part(0), Part(0)])?;
+        for v in vectors {
+            add_vector(&mut residues, v)?;
+        }
+        residues.sort()?;
+        Ok(Lattice { residues })
     }
 
     /// The residues, with entries from 0 to below [`UNIT`](fractions::UNIT), in lexicographic order.

@@ -6,8 +6,11 @@
 
 mod group;
 mod lattice;
+mod lattice_fault;
 mod limits;
+mod residues;
 
 pub use group::Group;
-pub use lattice::{Lattice, LatticeFault};
+pub use lattice::Lattice;
+pub use lattice_fault::LatticeFault;
 pub use limits::{MAX_ENTRY, MAX_OPERATIONS, MAX_RESIDUES};
