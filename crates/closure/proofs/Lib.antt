@@ -5,3 +5,4 @@ pub mod ListLaws
 pub mod Cosets
 pub mod Membership
 pub mod Growth
+pub mod Made

@@ -1,5 +1,5 @@
 // Lists of residues modulo whole cell edges, and how a group of them grows by one more vector.
-ghost use Rattle.std.specs.Prelude.{◌≡◌, ◌+◌, ◌≤◌, ◌<◌, ◌^◌, ◌++◌, All, IfErr, OnOk, map, take, vec_len};
+ghost use Rattle.std.specs.Prelude.{◌≡◌, ◌+◌, ◌≤◌, ◌<◌, ◌^◌, ◌++◌, All, IfErr, IfOk, OnOk, map, take, vec_len};
 ghost use Rattle.motions.specs.Views.{parts};
 ghost use Rattle.symmetry.specs.Groups.{Listing};
 ghost use Rattle.symmetry.specs.Vectors.{plus};
@@ -7,9 +7,10 @@ ghost use Rattle.symmetry.specs.Sizes.{IsVectorWithin};
 ghost use Rattle.closure.specs.declared.limits.TheConstants.{MAX_RESIDUES};
 ghost use Rattle.closure.specs.Residues.{reduced_parts, residue, has_residue, IsResidueEntry, IsResidue};
 ghost use Rattle.closure.specs.Spans.{AreResiduesOf, coset, with_centring};
+ghost use Rattle.closure.specs.Fineness.{centrings_alone};
 ghost use Rattle.closure.specs.Faults.{IsLatticeFault};
 
-use std::alloc::AllocError;
+use std::alloc::{AllocError, Global};
 
 use fractions::{Part, UNIT};
 
@@ -96,4 +97,22 @@ pub(crate) fn add_vector(residues: &mut Vec<[Part; 3]>, v: &[Part; 3]) -> Result
         step = residue_of_sum(&step, v);
     }
     Ok(())
+}
+
+/// The residues of all sums of whole multiples of the cell edges and the vectors, each once.
+///
+/// [`LatticeFault::TooFine`] comes where there are more than [`MAX_RESIDUES`].
+pub(crate) fn residues_of_sums(alloc: Global, vectors: &[[Part; 3]]) -> Result<Vec<[Part; 3]>, LatticeFault>
+    requires { All (λ v. IsVectorWithin (2 ^ 40) (parts v)) vectors.now }
+    ensures reduced { IfOk result (λ residues. All IsResidue residues.items) }
+    ensures few { IfOk result (λ residues. vec_len residues ≤ MAX_RESIDUES) }
+    ensures lattice { IfOk result (λ residues. AreResiduesOf (centrings_alone (map parts vectors.now)) (map parts residues.items)) }
+    ensures fault { IfErr result (IsLatticeFault (centrings_alone (map parts vectors.now))) }
+{
+    let mut residues = Vec::new(alloc);
+    residues.push([Part(0), Part(0), Part(0)])?;
+    for v in vectors {
+        add_vector(&mut residues, v)?;
+    }
+    Ok(residues)
 }
