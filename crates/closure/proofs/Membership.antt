@@ -32,7 +32,7 @@ has_residue-false rs v e is = true_and_false (sym ((has_residue-is rs v).1 is) �
 
 -- ---- arrays of three parts
 
-three_entries : (r : List Part) → length r ≡ 3 → r ≡ record { 0 = part_at r 0 } ∷ record { 0 = part_at r 1 } ∷ record { 0 = part_at r 2 } ∷ []
+pub three_entries : (r : List Part) → length r ≡ 3 → r ≡ record { 0 = part_at r 0 } ∷ record { 0 = part_at r 1 } ∷ record { 0 = part_at r 2 } ∷ []
 three_entries [] e = absurd (omega arith)
 three_entries (a ∷ []) e = absurd (omega arith)
 three_entries (a ∷ b ∷ []) e = absurd (omega arith)

@@ -1,7 +1,8 @@
 -- Residues of vectors modulo whole cell edges.
-use Rattle.std.specs.Prelude.{◌≡◌, ℤ, pos, ◌≤ℤ◌, ◌<ℤ◌, Bool, IsTrue, ◌&&◌, ◌||◌, List, length, AllPairs, int_lt, unsigned_abs}
+use Rattle.std.specs.Prelude.{◌≡◌, ℤ, pos, ◌≤ℤ◌, ◌<ℤ◌, Bool, IsTrue, List, length, AllPairs, unsigned_abs}
 use Rattle.std.specs.List.{list_any}
-use Rattle.std.specs.Ordering.{int_eq}
+use Rattle.std.specs.declared.cmp.Ordering.{Ordering}
+use Rattle.std.specs.Ordering.{int_cmp, is_lt, ordering_then}
 use Rattle.fractions.specs.declared.part.Part.{Part}
 use Rattle.fractions.specs.declared.part.TheConstants.{UNIT}
 use Rattle.std.specs.Int.{int_rem_euclid}
@@ -46,9 +47,13 @@ pub record IsResidue (r : List Part) : Type 0 where
   pub y : IsResidueEntry (record { 0 = part_at r 1 })
   pub z : IsResidueEntry (record { 0 = part_at r 2 })
 
--- whether v comes before w in the lexicographic order of the entries
+-- the lexicographic order: by x, then by y, then by z
+abbrev pub vector_cmp : Vector → Vector → Ordering
+vector_cmp v w = ordering_then (int_cmp v.x w.x) (ordering_then (int_cmp v.y w.y) (int_cmp v.z w.z))
+
+-- whether v comes before w in it
 abbrev pub is_before : Vector → Vector → Bool
-is_before v w = int_lt v.x w.x || (int_eq v.x w.x && (int_lt v.y w.y || (int_eq v.y w.y && int_lt v.z w.z)))
+is_before v w = is_lt (vector_cmp v w)
 
 -- each vector comes before all that stand behind it
 abbrev pub AreInOrder : List Vector → Type 0
