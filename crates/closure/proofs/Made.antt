@@ -16,12 +16,11 @@ use Rattle.closure.specs.Residues.{IsWhole, residue, has_residue, IsResidueGroup
 use Rattle.closure.specs.declared.lattice_fault.LatticeFault.{LatticeFault}
 use Rattle.closure.specs.declared.lattice_fault.LatticeFault.TheVariants.{TooFine, NoMemory}
 use Rattle.closure.specs.Faults.{IsLatticeFault}
-use Rattle.closure.proofs.Remainders.{Divides-zero, Divides-self}
+use Rattle.closure.specs.Remainders.{Divides-zero, Divides-self}
 use Rattle.closure.specs.Fineness.{centrings_alone, IsTooFine}
 use Rattle.closure.specs.Spans.{AreResiduesOf, with_centring}
-use Rattle.closure.proofs.ResidueLaws.{whole-origin, whole-plus, whole-minus, whole_from_residues, residue-same, residue-residue}
+use Rattle.closure.specs.ResidueLaws.{whole-origin, whole-plus, whole-minus, whole_from_residues, residue-same, residue-residue}
 use Rattle.closure.proofs.Spans.{lattice-whole, lattice-more}
-use Rattle.closure.proofs.Membership.{has_residue-is}
 
 -- ---- no vectors: the cell edges alone
 
