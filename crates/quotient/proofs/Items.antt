@@ -1,6 +1,8 @@
 -- The motions that code reads from a list, as entries of the list of what they stand for.
-use Rattle.std.proofs.Common.{◌≡◌, ℕ, ◌+◌, ◌<◌, ◌≤◌, List, length, get_or, map, sym, ap, ◌∙◌, subst, All, Contains, arith, below_more}
+use Rattle.std.proofs.Common.{◌≡◌, ℕ, ◌+◌, ◌<◌, ◌≤◌, List, length, get_or, map, sym, ap, ◌∙◌, subst, All, Any, Contains, arith, below_more}
 use Rattle.std.proofs.lemmas.List.{get_or-map, get_or_default, length-map}
+use Rattle.quotient.specs.Kind.{IsSame, Kind}
+use Rattle.quotient.specs.Lists.{IsListed}
 
 module _ {M S : Type 0} (f : M → S) (list : List M) where
   -- the item that is read at i
@@ -26,3 +28,25 @@ module _ {M S : Type 0} (f : M → S) (list : List M) where
       let here = simp length-map at within in
       let below : k < i = omega (arith, here) in
       subst P (get_or_default (map f list) k d n within ∙ is) (each k below)
+
+  -- some item stands for one that has the property; x is only there to read with
+  pub Any-from_map : (P : S → Type 0) (x : M) → Any P (map f list) → Any (λ y. P (f y)) list
+  Any-from_map P x (k, n, within, is, p) =
+      let inside : k < length list = simp length-map at within in
+      let y = get_or list k x in
+      (k, y, inside, get_or_default list k y x inside, subst P (sym is ∙ get_or-map f list k x n inside) p)
+
+  pub Any-map : (P : S → Type 0) → Any (λ y. P (f y)) list → Any P (map f list)
+  Any-map P (k, y, within, is, p) =
+      let (j, inside, at) = Contains-item k y within (sym is) in
+      (j, f y, inside, at, p)
+
+-- a listed motion is what some item stands for
+module _ (K : Kind) {M : Type 0} (f : M → K.Motion) (list : List M) (x : M) where
+  pub Any-from_listed : IsListed K (map f list) (f x) → Any (λ y. IsSame K (f x) (f y)) list
+  Any-from_listed h =
+      let (k, within, is) = h.listed in
+      Any-from_map f list (IsSame K (f x)) x (k, h.of, within, is, h.same)
+
+  pub listed_from_Any : Any (λ y. IsSame K (f x) (f y)) list → IsListed K (map f list) (f x)
+  listed_from_Any (k, y, within, is, same) = record { of = f y; listed = Contains-item f list k y within (sym is); same = same }

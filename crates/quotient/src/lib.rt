@@ -6,9 +6,11 @@
 #![tactic(auto)]
 
 mod check;
+mod laws;
 mod lists;
 mod traits;
 
 pub use check::{GroupFault, check_group};
-pub use lists::find;
+pub use laws::{first_motions, products_respect_sameness, sameness_is_an_equivalence};
+pub use lists::{NoMemory, distinct, find};
 pub use traits::{Motion, Quotient};

@@ -10,5 +10,7 @@ pub mod FrameLaws
 pub mod Signs
 pub mod Means
 pub mod ListLaws
+pub mod ListFacts
 pub mod PlaneLattice
 pub mod HomeLaws
+mod Samples
