@@ -5,7 +5,7 @@ use Rattle.std.specs.declared.cmp.Ordering.{Ordering}
 use Rattle.std.specs.Ordering.{int_cmp, is_lt, ordering_then}
 use Rattle.fractions.specs.declared.part.Part.{Part}
 use Rattle.fractions.specs.declared.part.TheConstants.{UNIT}
-use Rattle.std.specs.Int.{int_rem_euclid}
+use Rattle.fractions.specs.Parts.{reduced_parts}
 use Rattle.integers.specs.Size.{Divides}
 use Rattle.symmetry.specs.Vectors.{Vector, origin, plus, opposite}
 use Rattle.symmetry.specs.Frames.{same_vector}
@@ -16,10 +16,6 @@ pub record IsWhole (v : Vector) : Type 0 where
   pub x : Divides (unsigned_abs UNIT) v.x
   pub y : Divides (unsigned_abs UNIT) v.y
   pub z : Divides (unsigned_abs UNIT) v.z
-
--- what is left of a number of parts without the whole edges in it
-abbrev pub reduced_parts : ℤ → ℤ
-reduced_parts n = int_rem_euclid n UNIT
 
 -- the vector modulo whole edges, with entries from 0 to below UNIT
 unfoldable pub residue : Vector → Vector

@@ -5,25 +5,17 @@ ghost use Rattle.symmetry.specs.Groups.{Listing};
 ghost use Rattle.symmetry.specs.Vectors.{plus};
 ghost use Rattle.symmetry.specs.Sizes.{IsVectorWithin};
 ghost use Rattle.closure.specs.declared.limits.TheConstants.{MAX_RESIDUES};
-ghost use Rattle.closure.specs.Residues.{reduced_parts, residue, has_residue, IsResidueEntry, IsResidue};
+ghost use Rattle.closure.specs.Residues.{residue, has_residue, IsResidue};
 ghost use Rattle.closure.specs.Spans.{AreResiduesOf, coset, with_centring};
 ghost use Rattle.closure.specs.Fineness.{centrings_alone};
 ghost use Rattle.closure.specs.Faults.{IsLatticeFault};
 
 use std::alloc::{AllocError, Global};
 
-use fractions::{Part, UNIT};
+use fractions::Part;
 
 use crate::lattice_fault::LatticeFault;
 use crate::limits::MAX_RESIDUES;
-
-/// The part of 0 to below an edge that is whole edges away.
-fn reduced(part: Part) -> Part
-    ensures value { result.0 ≡ reduced_parts part.0 }
-    ensures entry { IsResidueEntry result }
-{
-    Part(part.0.rem_euclid(UNIT))
-}
 
 /// The residue of a vector.
 #[tactic(auto, unfolding(crate::specs::Residues::residue))]
@@ -31,21 +23,17 @@ pub(crate) fn residue_of(v: &[Part; 3]) -> [Part; 3]
     ensures value { parts result ≡ residue (parts v.now) }
     ensures reduced { IsResidue result }
 {
-    [reduced(v[0]), reduced(v[1]), reduced(v[2])]
+    [v[0].reduced(), v[1].reduced(), v[2].reduced()]
 }
 
 /// The residue of the sum of two vectors.
 pub(crate) fn residue_of_sum(v: &[Part; 3], w: &[Part; 3]) -> [Part; 3]
-    requires first { IsVectorWithin (2 ^ 40) (parts v.now) }
-    requires second { IsVectorWithin (2 ^ 40) (parts w.now) }
+    requires first { IsVectorWithin (2 ^ 52) (parts v.now) }
+    requires second { IsVectorWithin (2 ^ 52) (parts w.now) }
     ensures value { parts result ≡ residue (plus (parts v.now) (parts w.now)) }
     ensures reduced { IsResidue result }
 {
-    residue_of(&[
-        Part(v[0].0 + w[0].0),
-        Part(v[1].0 + w[1].0),
-        Part(v[2].0 + w[2].0),
-    ])
+    residue_of(&[v[0].add(w[0]), v[1].add(w[1]), v[2].add(w[2])])
 }
 
 /// Whether the residue of the vector is listed.
