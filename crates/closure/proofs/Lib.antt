@@ -5,3 +5,5 @@ pub mod Growth
 pub mod Made
 pub mod Sorting
 pub mod Counting
+pub mod Homes
+pub mod Decisions

@@ -1,13 +1,13 @@
 -- The lexicographic order of vectors, and residues in another order.
 use Rattle.std.proofs.Common.{◌≡◌, ℕ, zero, suc, Bool, true, false, ◌+◌, ◌<◌, ◌≤◌, ◌↔◌, IsTrue, arith, refl, sym, ap, subst, ◌∙◌, List, [], ◌∷◌, length, get_or, map, ℤ, pos}
-use Rattle.std.specs.Prelude.{All, AllPairs, Contains}
+use Rattle.std.specs.Prelude.{All, AllPairs, Contains, Some}
 use Rattle.std.specs.List.{IsDistinct, AllByRecursion}
 use Rattle.std.specs.List.Sorted.{IsPermutation, IsSorted, IsSortedBy}
 use Rattle.std.specs.Cmp.{IsTotalOrder}
-use Rattle.std.specs.Cmp.Lexicographic.{slice_cmp}
+use Rattle.std.specs.Cmp.Lexicographic.{slice_cmp, slice_partial_cmp, lists_agrees}
 use Rattle.std.specs.declared.cmp.Ordering.{Ordering}
 use Rattle.std.specs.declared.cmp.Ordering.TheVariants.{Less, Equal, Greater}
-use Rattle.std.specs.Ordering.{int_cmp, is_lt, ordering_then, ordering_reverse}
+use Rattle.std.specs.Ordering.{int_cmp, is_lt, is_some_and, ordering_then}
 use Rattle.std.proofs.lemmas.Int.{ints}
 use Rattle.std.proofs.lemmas.Cmp.{int_cmp_total, int_ranked, on_total, then_total}
 use Rattle.std.proofs.lemmas.List.{get_or-map, get_or_default, length-map}
@@ -96,6 +96,11 @@ slice_cmp-parts : (r s : List Part) → IsResidue r → IsResidue s → slice_cm
 slice_cmp-parts r s h k =
     (λ i. slice_cmp part_cmp (three_entries r h.three i) (three_entries s k.three i))
     ∙ bracketed (int_cmp (parts r).x (parts s).x) (int_cmp (parts r).y (parts s).y) (int_cmp (parts r).z (parts s).z)
+
+-- and so by `<`
+pub lt-parts : (r s : List Part) → IsResidue r → IsResidue s
+    → is_some_and is_lt (slice_partial_cmp (λ a b. Some (part_cmp a b)) r s) ≡ is_before (parts r) (parts s)
+lt-parts r s h k = ap (is_some_and is_lt) (lists_agrees (λ a b. refl) r s) ∙ ap is_lt (slice_cmp-parts r s h k)
 
 pub in_order : (rs : List (List Part)) → All IsResidue rs → AllPairs (λ v w. ¬ (v ≡ w)) (map parts rs) → IsSorted (slice_cmp part_cmp) rs → AreInOrder (map parts rs)
 in_order rs h apart sorted = AllPairs-map parts (λ v w. IsTrue (is_before v w)) rs rising

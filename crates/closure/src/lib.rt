@@ -9,6 +9,7 @@ mod lattice;
 mod lattice_fault;
 mod limits;
 mod residues;
+mod shifts;
 
 pub use group::Group;
 pub use lattice::Lattice;
