@@ -10,4 +10,6 @@ pub mod Lattices
 pub mod FirstLaws
 pub mod ShiftLaws
 pub mod Operations
+pub mod FromLattice
+pub mod GroupErrors
 pub mod Groups

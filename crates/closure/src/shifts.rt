@@ -3,7 +3,7 @@ ghost use Rattle.std.specs.Prelude.{◌≡◌, ◌↔◌, ◌^◌, All, IsTrue, 
 ghost use Rattle.quotient.specs.Kind.{Keeps};
 ghost use Rattle.symmetry.specs.Motions.{translation};
 ghost use Rattle.symmetry.specs.Sizes.{IsSmall, IsVectorWithin};
-ghost use Rattle.symmetry.specs.Vectors.{image, origin};
+ghost use Rattle.symmetry.specs.Vectors.{image, origin, unit_matrix};
 ghost use Rattle.motions.specs.Views.{motion_of, parts};
 ghost use Rattle.closure.specs.Residues.{has_residue, is_before, IsResidue};
 ghost use Rattle.closure.specs.Lattices.{first_with, lattice_home, IsHome, IsLatticeShift};
@@ -29,7 +29,7 @@ impl Quotient for Lattice {
 
     /// Whether the motion is the translation by a vector of the lattice.
     fn is_shift(&self, m: &Motion3) -> bool {
-        linear_part(m) == Motion3::identity() && lists_residue(self.residues(), &m.t)
+        is_translation(m) && lists_residue(self.residues(), &m.t)
     }
 
     /// The motion with the lexicographically first translation, of those with entries from 0 to below
@@ -58,6 +58,13 @@ impl Quotient for Lattice {
     ghost home_is_same = { home_is_same_lem };
 
     ghost homes = { homes_lem };
+}
+
+/// Whether the motion is a translation: whether its matrix is the unit matrix.
+pub(crate) fn is_translation(m: &Motion3) -> bool
+    ensures { IsTrue result ↔ ((motion_of m.now).matrix ≡ unit_matrix) }
+{
+    linear_part(m) == Motion3::identity()
 }
 
 /// The motion with the same matrix that leaves the origin where it is.
