@@ -7,3 +7,4 @@ pub mod Sorting
 pub mod Counting
 pub mod Homes
 pub mod Decisions
+pub mod Generators

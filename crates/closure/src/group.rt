@@ -39,6 +39,7 @@ pub struct Group {
 }
 
 impl Group {
+    ghost use Rattle.closure.specs.declared.group_error.GroupError.TheVariants.{NoMemory};
     ghost use Rattle.closure.specs.GroupErrors.{IsGroupError, IsWithinLimits};
     ghost use Rattle.closure.specs.Groups.{group_listing, lattice_of};
 
