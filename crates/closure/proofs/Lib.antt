@@ -8,3 +8,4 @@ pub mod Counting
 pub mod Homes
 pub mod Decisions
 pub mod Generators
+pub mod Members
