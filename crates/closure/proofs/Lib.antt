@@ -9,3 +9,5 @@ pub mod Homes
 pub mod Decisions
 pub mod Generators
 pub mod Members
+pub mod Firsts
+pub mod FirstOrder
