@@ -59,7 +59,7 @@ module _ (g : Listing) (lattice : Lattice) (h : IsLatticeOf g lattice) where
 
   module _ (ops : List Motion) (f : AreFirst (SameModulo g) g.ops ops) where
     -- the first operations, with the lattice's residues as centring vectors
-    abbrev kept_listing : Listing
+    abbrev pub kept_listing : Listing
     kept_listing = record { ops = ops; centrings = residues_of lattice }
 
     by_quotient : AreFirst (IsSame (modulo lattice)) g.ops ops

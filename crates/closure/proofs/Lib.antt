@@ -11,3 +11,4 @@ pub mod Generators
 pub mod Members
 pub mod Firsts
 pub mod FirstOrder
+pub mod GroupFaults
