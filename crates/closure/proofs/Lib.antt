@@ -12,3 +12,5 @@ pub mod Members
 pub mod Firsts
 pub mod FirstOrder
 pub mod GroupFaults
+pub mod Untruncated
+pub mod OwnLattice
