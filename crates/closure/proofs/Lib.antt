@@ -14,3 +14,4 @@ pub mod FirstOrder
 pub mod GroupFaults
 pub mod Untruncated
 pub mod OwnLattice
+pub mod GroupMade

@@ -21,7 +21,7 @@ use crate::group_error::GroupError;
 use crate::lattice::Lattice;
 use crate::limits::MAX_OPERATIONS;
 use crate::residues::lists_residue;
-use crate::translations::lattice_vectors;
+use crate::translations::listed_lattice;
 
 /// A space group: its operations, each once modulo its translation lattice.
 ///
@@ -71,8 +71,7 @@ impl Group {
         if count > MAX_OPERATIONS {
             return Err(GroupError::TooMany(count));
         }
-        let vectors = lattice_vectors(alloc, &listed)?;
-        let lattice = Lattice::make(alloc, &vectors)?;
+        let lattice = listed_lattice(alloc, &listed)?;
         let ops = distinct(alloc, &lattice, &listed.ops)?;
         check_group(&lattice, &ops)?;
         Ok(Group { ops, lattice })
