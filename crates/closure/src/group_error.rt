@@ -3,11 +3,9 @@ ghost use Rattle.std.specs.Prelude.{◌≡◌};
 ghost use Rattle.closure.specs.declared.group_error.GroupError.TheVariants.{Fault, NoMemory};
 ghost use Rattle.closure.specs.FromLattice.{error_of};
 
-use std::alloc::{AllocError, AllocFailed};
-
-use quotient::GroupFault;
-
 use crate::lattice_fault::LatticeFault;
+use quotient::GroupFault;
+use std::alloc::{AllocError, AllocFailed};
 
 /// Why what is listed makes no [`Group`](crate::Group).
 #[derive(Clone, Copy, PartialEq, Eq, Debug)]

@@ -6,6 +6,7 @@
 
 mod group;
 mod group_error;
+mod group_shifts;
 mod lattice;
 mod lattice_fault;
 mod limits;

@@ -26,8 +26,8 @@ returns-clause-small c =
     let g = listing_of c.args.listed.now in
     IfOk-weaker c.distinct.result _ _
     (λ ops f. firsts_within (unsigned_abs MAX_ENTRY) g (map motion_of ops.items)
-        (kept_first g c.args.lattice.now c.requires.lattice c.args.listed.now.ops.items c.deref.result.now ops.items c.deref.ensures.value f)
-        (All-map (IsSmallWithin (unsigned_abs MAX_ENTRY)) motion_of c.args.listed.now.ops.items c.requires.small.ops))
+    (kept_first g c.args.lattice.now c.requires.lattice c.args.listed.now.ops.items c.deref.result.now ops.items c.deref.ensures.value f)
+    (All-map (IsSmallWithin (unsigned_abs MAX_ENTRY)) motion_of c.args.listed.now.ops.items c.requires.small.ops))
     c.distinct.ensures
 
 pub returns-clause-few : goal.returns-clause-few
@@ -35,7 +35,7 @@ returns-clause-few c =
     let g = listing_of c.args.listed.now in
     IfOk-weaker c.distinct.result _ _
     (λ ops f.
-        let l = length-firsts (SameModulo g) (map motion_of c.args.listed.now.ops.items) (map motion_of ops.items)
-            (kept_first g c.args.lattice.now c.requires.lattice c.args.listed.now.ops.items c.deref.result.now ops.items c.deref.ensures.value f) in
-        omega (arith, length-map c.args.listed.now.ops.items motion_of, length-map ops.items motion_of))
+    let l = length-firsts (SameModulo g) (map motion_of c.args.listed.now.ops.items) (map motion_of ops.items)
+    (kept_first g c.args.lattice.now c.requires.lattice c.args.listed.now.ops.items c.deref.result.now ops.items c.deref.ensures.value f) in
+    omega (arith, length-map c.args.listed.now.ops.items motion_of, length-map ops.items motion_of))
     c.distinct.ensures

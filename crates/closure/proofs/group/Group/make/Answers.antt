@@ -45,9 +45,9 @@ returns-in_err-check_group-clause-refused c =
     let ops = c.in_ok-ops in
     let fault = c.in_err-check_group.field-0.0 in
     let limits : IsWithinLimits (listing_of c.args.listed) =
-        record { few = omega (arith, length-map c.args.listed.ops.items motion_of); fine = lattice.ensures.fine } in
+    record { few = omega (arith, length-map c.args.listed.ops.items motion_of); fine = lattice.ensures.fine } in
     rw (p.1, p.2) (refused_fault (listing_of c.args.listed) lattice.lattice lattice.ensures.lattice ops.ops.items ops.ensures.first c.deref.result.now c.deref.ensures.value
-        limits fault ((c.in_err-check_group.ensures.refused fault).0 refl))
+    limits fault ((c.in_err-check_group.ensures.refused fault).0 refl))
 
 pub invariant_of-result : goal.invariant_of-result
 invariant_of-result c =
