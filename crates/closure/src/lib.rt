@@ -12,6 +12,8 @@ mod lattice_fault;
 mod limits;
 mod residues;
 mod shifts;
+#[cfg(test)]
+mod tests;
 mod translations;
 
 pub use group::Group;
