@@ -12,7 +12,7 @@ use Rattle.quotient.proofs.Firsts.{Contains-from_firsts, firsts_apart}
 use Rattle.fractions.specs.declared.part.Part.{Part}
 use Rattle.symmetry.specs.Vectors.{Vector}
 use Rattle.symmetry.specs.Motions.{Motion}
-use Rattle.symmetry.specs.Groups.{Listing, Generates, SameModulo, IsMember, IsGroup}
+use Rattle.symmetry.specs.Groups.{Listing, Generates, IsInLattice, SameModulo, IsMember, IsGroup}
 use Rattle.symmetry.specs.Lists.{ComesBefore}
 use Rattle.symmetry.specs.Sizes.{IsSmall, IsVectorWithin}
 use Rattle.motions.specs.declared.motion.Motion3.{Motion3}
@@ -124,6 +124,12 @@ module _ (g : Listing) (lattice : Lattice) (h : IsLatticeOf g lattice) (ops : Li
     pub refused_fault : IsWithinLimits g → (fault : GroupFault) → IsFault (modulo lattice) (map motion_of now) fault → IsGroupError g (Fault fault)
     refused_fault limits fault is =
         (limits, (map motion_of ops, f, fault_is g lattice h (map motion_of ops) f fault (subst (λ ms. IsFault (modulo lattice) (map motion_of ms) fault) read is)))
+
+  pub kept_vectors : (v : Vector) → IsInLattice g v ↔ IsInLattice (listing_with ops lattice) v
+  kept_vectors v = (
+    λ is. (kept_lattice g lattice h (map motion_of ops) f v).0 ((h v).1 is),
+    λ is. (h v).0 ((kept_lattice g lattice h (map motion_of ops) f v).1 is),
+  )
 
   pub kept_members : (m : Motion) → IsMember g m ↔ IsMember (listing_with ops lattice) m
   kept_members = kept_member g lattice h (map motion_of ops) f

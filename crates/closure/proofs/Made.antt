@@ -18,6 +18,7 @@ use Rattle.closure.specs.Faults.{IsLatticeFault}
 use Rattle.closure.specs.Remainders.{Divides-zero, Divides-self}
 use Rattle.closure.specs.Fineness.{centrings_alone, IsTooFine}
 use Rattle.closure.specs.Spans.{AreResiduesOf, with_centring}
+use Rattle.closure.specs.ListLaws.{nothing_contained}
 use Rattle.closure.specs.ResidueLaws.{whole-origin, whole-plus, whole-minus, whole_from_residues, residue-same}
 use Rattle.closure.proofs.Spans.{lattice-whole, lattice-more}
 
@@ -36,9 +37,6 @@ edge-whole v (zero, within, is) = subst IsWhole is (record { x = Divides-self (u
 edge-whole v (suc zero, within, is) = subst IsWhole is (record { x = Divides-zero (unsigned_abs UNIT); y = Divides-self (unsigned_abs UNIT); z = Divides-zero (unsigned_abs UNIT) })
 edge-whole v (suc (suc zero), within, is) = subst IsWhole is (record { x = Divides-zero (unsigned_abs UNIT); y = Divides-zero (unsigned_abs UNIT); z = Divides-self (unsigned_abs UNIT) })
 edge-whole v (suc (suc (suc k)), within, is) = absurd (omega arith)
-
-nothing_contained : {X : Type 0} (x : X) → ¬ Contains [] x
-nothing_contained x (k, within, is) = absurd (omega arith)
 
 made_whole : (v : Vector) → Generates (centrings_alone []) v → IsWhole v
 made_whole v (inl edge) = edge-whole v edge

@@ -6,6 +6,7 @@ use Rattle.std.specs.Cmp.Lexicographic.{slice_cmp, slice_partial_cmp, lists_agre
 use Rattle.std.specs.declared.cmp.Ordering.{Ordering}
 use Rattle.std.specs.declared.cmp.Ordering.TheVariants.{Less, Equal, Greater}
 use Rattle.std.specs.Ordering.{int_cmp, is_lt, is_some_and, ordering_then}
+use Rattle.std.proofs.lemmas.Bool.{true≢false}
 use Rattle.std.proofs.lemmas.List.{get_or-map, length-map}
 use Rattle.std.proofs.lemmas.List.Sorted.{sorted_far, ranks_by, All-permutation, Contains-permutation, IsPermutation-sym}
 use Rattle.std.proofs.lemmas.Map.Keys.{IsDistinct-IsPermutation}
@@ -26,10 +27,7 @@ use Rattle.closure.specs.ListLaws.{AllPairs-map, distinct_from_apart, apart_from
 -- ---- residues in another order
 
 apart_from_test : (v w : Vector) → same_vector v w ≡ false → ¬ (v ≡ w)
-apart_from_test v w f e = not_both (sym ((same_vector-is v w).1 e) ∙ f)
-  where
-    not_both : true ≡ false → ⊥
-    not_both h = cc
+apart_from_test v w f e = true≢false (sym ((same_vector-is v w).1 e) ∙ f)
 
 test_from_apart : (v w : Vector) → ¬ (v ≡ w) → same_vector v w ≡ false
 test_from_apart v w n = go (same_vector v w) refl

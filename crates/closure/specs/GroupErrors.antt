@@ -41,10 +41,11 @@ pub record IsFirstOpen (g : Listing) (ops : List Motion) (i j : ℕ) : Type 0 wh
   pub lacks : ¬ HasProduct g ops i j
   pub before : (k l : ℕ) → IsPosition (space_modulo g) ops k → IsPosition (space_modulo g) ops l → ComesBefore k l i j → HasProduct g ops k l
 
--- each listed operation keeps the lattice; each product of two is a member of G
+-- each listed operation takes the lattice into itself
 abbrev pub AllKeepLattice : Listing → Type 0
 AllKeepLattice g = (m : Motion) → Contains g.ops m → KeepsLattice g m
 
+-- each product of two listed operations is a member of G
 abbrev pub IsClosed : Listing → Type 0
 IsClosed g = (m n : Motion) → Contains g.ops m → Contains g.ops n → IsMember g (followed_by m n)
 

@@ -89,3 +89,7 @@ module _ {X : Type 0} (E : X → X → Bool) where
       AllPairs-cons (λ x y. ¬ (x ≡ y)) x xs
       (λ k e l. tells x (get_or xs k e) (All-from_recursion (λ y. E x y ≡ false) xs d.0 k e l))
       (apart_from_distinct tells xs d.1)
+
+-- the empty list contains nothing
+pub nothing_contained : {X : Type 0} (x : X) → ¬ Contains [] x
+nothing_contained x (k, within, is) = absurd (omega arith)

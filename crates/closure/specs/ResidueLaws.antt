@@ -1,6 +1,7 @@
 -- Vectors of whole edges, and residues modulo these. Proofs: they stand here since an `impl` cites them.
-use Rattle.std.proofs.Common.{◌≡◌, ℕ, ◌<◌, ◌↔◌, true, false, IsTrue, arith, sym, ap, subst, ◌∙◌, lit<, ℤ, negsuc, ◌+ℤ◌, ◌-ℤ◌, ◌*ℤ◌, List, get_or}
+use Rattle.std.proofs.Common.{◌≡◌, ℕ, ◌<◌, ◌↔◌, false, IsTrue, arith, sym, ap, subst, ◌∙◌, lit<, ℤ, negsuc, ◌+ℤ◌, ◌-ℤ◌, ◌*ℤ◌, List, get_or}
 use Rattle.std.specs.Prelude.{Contains, unsigned_abs}
+use Rattle.std.proofs.lemmas.Bool.{true≢false}
 use Rattle.std.proofs.lemmas.List.Folds.{list_any_at}
 use Rattle.std.proofs.lemmas.Map.Views.{Contains-from_any}
 use Rattle.std.proofs.lemmas.Int.{ints}
@@ -114,10 +115,7 @@ has_residue-is rs v = (
 )
 
 pub has_residue-false : (rs : List Vector) (v : Vector) → has_residue rs v ≡ false → ¬ Contains rs (residue v)
-has_residue-false rs v e is = true_and_false (sym ((has_residue-is rs v).1 is) ∙ e)
-  where
-    true_and_false : true ≡ false → ⊥
-    true_and_false h = cc
+has_residue-false rs v e is = true≢false (sym ((has_residue-is rs v).1 is) ∙ e)
 
 -- an array of reduced entries is its own residue
 pub residue-parts : (r : List Part) → IsResidue r → residue (parts r) ≡ parts r
