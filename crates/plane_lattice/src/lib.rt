@@ -1,0 +1,2 @@
+// Frames of a plane.
+#![tactic(auto)]
