@@ -3,7 +3,7 @@ use Rattle.std.specs.Prelude.{◌≡◌, ℕ, ◌<◌, List, length, slice_index
 use Rattle.symmetry.specs.Motions.{Motion, identity}
 use Rattle.symmetry.specs.Vectors.{Vector}
 use Rattle.symmetry.specs.Groups.{Listing, IsMember, SameModulo}
-use Rattle.symmetry.specs.Frames.{Basis, DiffersInPlane, IsAtHome, KeepsOrientation}
+use Rattle.symmetry.specs.Frames.{DiffersInPlane, KeepsOrientation}
 
 -- the motion at a place of a list
 abbrev pub motion_at : List Motion → ℕ → Motion

@@ -4,3 +4,9 @@
 // Promises to the crates above: the words that every contract cites, after International Tables for
 // Crystallography, Volume A (coordinate triplets) and Volume E (sectional layer groups).
 #![tactic(auto)]
+
+mod groups;
+mod planes;
+
+pub use groups::group_by_listed;
+pub use planes::{image_by_row, plane_by_row, special_by_row, stabiliser_by_rows};
