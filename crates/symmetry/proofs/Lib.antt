@@ -6,3 +6,4 @@ pub mod PlaneImages
 pub mod PlaneRows
 pub mod LatticeLaws
 pub mod GroupLaws
+pub mod ListFacts

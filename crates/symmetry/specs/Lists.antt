@@ -1,5 +1,5 @@
 -- What it is to list a set of motions.
-use Rattle.std.specs.Prelude.{◌≡◌, ℕ, ◌<◌, List, length, slice_index_or}
+use Rattle.std.specs.Prelude.{◌≡◌, ℕ, ◌<◌, List, length, slice_index_or, Option, Some}
 use Rattle.symmetry.specs.Motions.{Motion, identity}
 use Rattle.symmetry.specs.Vectors.{Vector}
 use Rattle.symmetry.specs.Groups.{Listing, IsMember, SameModulo}
@@ -45,3 +45,18 @@ pub record ListsInPlane (g : Listing) (r : Vector) (S : Motion → Type 0) (ms :
 pub record AreScanning (g : Listing) (r : Vector) (ms : List Motion) : Type 0 where
   pub listed : (k : ℕ) → k < length ms → IsMember g (motion_at ms k) × KeepsOrientation r (motion_at ms k)
   pub once : (m : Motion) → IsMember g m → KeepsOrientation r m → ExactlyOne ms (SameModulo g m)
+
+-- no two operations of the list are the same
+abbrev pub AreDistinct : (Motion → Motion → Type 0) → List Motion → Type 0
+AreDistinct Same ops = (p q : ℕ) → p < q → q < length ops → ¬ Same (motion_at ops p) (motion_at ops q)
+
+-- a choice that gives, for each listed operation, the one member at home that is the same, if there is one
+pub record PicksMembers (Same : Motion → Motion → Type 0) (ops : List Motion) (IsHome S : Motion → Type 0) (pick : Motion → Option Motion) : Type 0 where
+  pub gives : (p : ℕ) (n : Motion) → p < length ops → pick (motion_at ops p) ≡ Some n → S n × IsHome n × Same n (motion_at ops p)
+  pub finds : (p : ℕ) (n : Motion) → p < length ops → S n → IsHome n → Same n (motion_at ops p) → pick (motion_at ops p) ≡ Some n
+  pub covers : (n : Motion) → S n → (p : ℕ) × (p < length ops) × Same n (motion_at ops p)
+
+-- sameness goes both ways and on
+pub record IsSameness (Same : Motion → Motion → Type 0) : Type 0 where
+  pub back : (m n : Motion) → Same m n → Same n m
+  pub on : (k m n : Motion) → Same k m → Same m n → Same k n
