@@ -1,1 +1,2 @@
 pub mod Cramer
+pub mod FrameTestFacts
