@@ -4,3 +4,5 @@ pub mod Spread
 pub mod Solver
 pub mod Coded
 pub mod Divisors
+pub mod Sums
+pub mod Division

@@ -1,2 +1,10 @@
+pub mod BasisView
+pub mod Bounds
+pub mod Divisors
+pub mod Equality
+pub mod Inverses
+pub mod ListedSizes
+pub mod MotionLaws
+pub mod PlaneFaults
 pub mod Signs
 pub mod Views

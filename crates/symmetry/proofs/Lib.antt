@@ -6,4 +6,11 @@ pub mod PlaneImages
 pub mod PlaneRows
 pub mod LatticeLaws
 pub mod GroupLaws
+pub mod FrameLaws
+pub mod Signs
+pub mod Means
+pub mod ListLaws
 pub mod ListFacts
+pub mod PlaneLattice
+pub mod HomeLaws
+mod Samples

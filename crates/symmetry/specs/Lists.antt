@@ -1,5 +1,5 @@
 -- What it is to list a set of motions.
-use Rattle.std.specs.Prelude.{◌≡◌, ℕ, ◌<◌, List, length, slice_index_or, Option, Some}
+use Rattle.std.specs.Prelude.{◌≡◌, ℕ, ◌<◌, List, [], ◌∷◌, length, slice_index_or, Option, Some, None}
 use Rattle.symmetry.specs.Motions.{Motion, identity}
 use Rattle.symmetry.specs.Vectors.{Vector}
 use Rattle.symmetry.specs.Groups.{Listing, IsMember, SameModulo}
@@ -41,6 +41,14 @@ pub record ListsInPlane (g : Listing) (r : Vector) (S : Motion → Type 0) (ms :
   pub listed : (k : ℕ) → k < length ms → S (motion_at ms k)
   pub once : (m : Motion) → S m → ExactlyOne ms (DiffersInPlane g r m)
 
+-- the motion differs by the plane lattice from exactly one motion of the set that is at home
+pub record HasOneAtHome (g : Listing) (r : Vector) (IsHome S : Motion → Type 0) (m : Motion) : Type 0 where
+  pub companion : Motion
+  pub in_set : S companion
+  pub is_home : IsHome companion
+  pub differs : DiffersInPlane g r m companion
+  pub only : (n : Motion) → S n → IsHome n → DiffersInPlane g r m n → companion ≡ n
+
 -- the scanning operations: the listed operations that keep the orientation, each once modulo L
 pub record AreScanning (g : Listing) (r : Vector) (ms : List Motion) : Type 0 where
   pub listed : (k : ℕ) → k < length ms → IsMember g (motion_at ms k) × KeepsOrientation r (motion_at ms k)
@@ -50,11 +58,21 @@ pub record AreScanning (g : Listing) (r : Vector) (ms : List Motion) : Type 0 wh
 abbrev pub AreDistinct : (Motion → Motion → Type 0) → List Motion → Type 0
 AreDistinct Same ops = (p q : ℕ) → p < q → q < length ops → ¬ Same (motion_at ops p) (motion_at ops q)
 
--- a choice that gives, for each listed operation, the one member at home that is the same, if there is one
-pub record PicksMembers (Same : Motion → Motion → Type 0) (ops : List Motion) (IsHome S : Motion → Type 0) (pick : Motion → Option Motion) : Type 0 where
-  pub gives : (p : ℕ) (n : Motion) → p < length ops → pick (motion_at ops p) ≡ Some n → S n × IsHome n × Same n (motion_at ops p)
-  pub finds : (p : ℕ) (n : Motion) → p < length ops → S n → IsHome n → Same n (motion_at ops p) → pick (motion_at ops p) ≡ Some n
-  pub covers : (n : Motion) → S n → (p : ℕ) × (p < length ops) × Same n (motion_at ops p)
+-- what the set has at home of the coset of a listed operation: nothing, or one member alone
+abbrev pub IsChoice : (Motion → Motion → Type 0) → (Motion → Type 0) → (Motion → Type 0) → Motion → Option Motion → Type 0
+IsChoice Same IsHome S m None = (n : Motion) → S n → IsHome n → Same n m → ⊥
+IsChoice Same IsHome S m (Some n) = S n × IsHome n × Same n m × ((k : Motion) → S k → IsHome k → Same k m → k ≡ n)
+
+-- the second list has, operation by operation of the first, what the set has at home of its coset
+pub data AreChosen (Same : Motion → Motion → Type 0) (IsHome S : Motion → Type 0) : List Motion → List Motion → Type 0 where
+  no_more : AreChosen Same IsHome S [] []
+  passed : (m : Motion) (ms out : List Motion) → IsChoice Same IsHome S m None → AreChosen Same IsHome S ms out → AreChosen Same IsHome S (m ∷ ms) out
+  taken : (m n : Motion) (ms out : List Motion) → IsChoice Same IsHome S m (Some n) → AreChosen Same IsHome S ms out
+      → AreChosen Same IsHome S (m ∷ ms) (n ∷ out)
+
+-- each member of the set is the same as a listed operation
+abbrev pub AreCovered : (Motion → Motion → Type 0) → List Motion → (Motion → Type 0) → Type 0
+AreCovered Same ops S = (n : Motion) → S n → (p : ℕ) × (p < length ops) × Same n (motion_at ops p)
 
 -- sameness goes both ways and on
 pub record IsSameness (Same : Motion → Motion → Type 0) : Type 0 where

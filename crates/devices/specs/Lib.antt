@@ -1,0 +1,5 @@
+pub mod Calls
+pub mod Memory
+pub mod Transfers
+pub mod Input
+pub mod Real

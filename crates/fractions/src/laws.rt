@@ -1,0 +1,16 @@
+// What lowest terms are, as contracts of functions that do nothing.
+ghost use Rattle.std.specs.Prelude.{◌≡◌, ℤ, pos};
+ghost use Rattle.fractions.specs.Fraction.{Fraction, IsFraction, SameFraction, IsInLowestTerms};
+ghost use Rattle.fractions.specs.LowestTerms.{lowest_terms, IsLowestForm, IsNoLarger};
+
+/// A number has one fraction in lowest terms with a denominator of at least 1.
+pub fn one_lowest_form()
+    ensures { (q r : Fraction) → IsFraction q → IsFraction r → IsInLowestTerms q → IsInLowestTerms r →
+        SameFraction q r → q ≡ r }
+{}
+
+/// Division by the greatest common divisor gives that fraction.
+pub fn lowest_form_by_divisor()
+    ensures lowest { (num den : ℤ) → ¬ (den ≡ pos 0) → IsLowestForm (lowest_terms num den) num den }
+    ensures no_larger { (num den : ℤ) → IsNoLarger (lowest_terms num den) num den }
+{}

@@ -1,0 +1,19 @@
+// Three vectors that a frame is made of.
+ghost use Rattle.std.specs.Prelude.{◌*◌, unsigned_abs};
+ghost use Rattle.fractions.specs.declared.part.TheConstants.{UNIT};
+ghost use Rattle.symmetry.specs.Sizes.{IsVectorWithin};
+ghost use Rattle.motions.specs.Views.{parts};
+
+use fractions::Part;
+
+/// Three vectors: a and b, which are to span the planes of an orientation, and tau, which is to lead from one plane
+/// to the next. Each entry is at most 1000 cell edges in size.
+#[derive(Clone, Copy, PartialEq, Eq, Debug)]
+pub struct Basis {
+    pub a: [Part; 3],
+    pub b: [Part; 3],
+    pub tau: [Part; 3],
+    pub ghost a_in_range: { IsVectorWithin (1000 * unsigned_abs UNIT) (parts a) },
+    pub ghost b_in_range: { IsVectorWithin (1000 * unsigned_abs UNIT) (parts b) },
+    pub ghost tau_in_range: { IsVectorWithin (1000 * unsigned_abs UNIT) (parts tau) },
+}

@@ -1,0 +1,194 @@
+-- The numbers of the reader stay small.
+use Rattle.std.proofs.Common.{◌≡◌, ◌≢◌, ℕ, suc, ◌+◌, ◌-◌, ◌*◌, ◌<◌, ◌≤◌, Bool, true, false, cond, List, [], ◌∷◌, ◌++◌, length, Option, Some, None, Result, Ok, Err, ℤ, pos, negsuc, neg_ℤ, ◌+ℤ◌, refl, sym, ◌∙◌, ap, subst, arith, inl, inr, ◌⊎◌}
+use Rattle.std.specs.Prelude.{◌≤ℤ◌, ◌^◌, nat_le, nat_abs}
+use Rattle.std.proofs.lemmas.Bool.Decides.{nat_tests}
+use Rattle.std.proofs.lemmas.Int.{ints}
+use Rattle.triplets.specs.declared.marks.Axis.{Axis}
+use Rattle.triplets.specs.declared.marks.Axis.TheVariants.{X, Y, Z}
+use Rattle.motions.specs.declared.motion.Sign.{Sign}
+use Rattle.motions.specs.declared.motion.Sign.TheVariants.{Plus, Minus}
+use Rattle.triplets.specs.declared.part.Used.{Used}
+use Rattle.triplets.specs.declared.denominator.Denominator.{Denominator}
+use Rattle.triplets.specs.declared.denominator.Denominator.TheVariants.{One, Two, Three, Four, Six, Eight, Twelve, TwentyFour}
+use Rattle.triplets.specs.declared.fault.TextKind.{TextKind}
+use Rattle.triplets.specs.declared.fault.TextKind.TheVariants as kinds
+use Rattle.triplets.specs.declared.marks.Mark.{Mark}
+use Rattle.triplets.specs.declared.marks.Mark.TheVariants as marks
+use Rattle.triplets.specs.declared.part.Row as rows
+use Rattle.triplets.specs.declared.part.PartReader.{PartReader}
+use Rattle.triplets.specs.declared.part.Spot.{Spot}
+use Rattle.triplets.specs.declared.part.Spot.TheVariants.{Begin, Signed, Digits, Divided, Below, Behind}
+use Rattle.triplets.specs.declared.triplet.Nth.{Nth}
+use Rattle.triplets.specs.declared.triplet.Nth.TheVariants.{First, Second, Third}
+use Rattle.triplets.specs.declared.triplet.TripletReader.{TripletReader}
+use Rattle.triplets.specs.Marks.{mark, IsMarkInRange}
+use Rattle.triplets.specs.Rows.{signed, with_entry, with_shift, IsRoomy}
+use Rattle.triplets.specs.Denominators.{unit, parts, first_digit, further_digit}
+use Rattle.triplets.specs.PartReading.{begin, settled, part_step, on_blank, on_sign, on_letter, on_digit, on_slash, on_new_letter_at, below_or, with_letter, with_spot, with_number, IsSmall, IsSpotSmall}
+use Rattle.triplets.specs.TripletReading.{start, with_part, in_part, next_part, comma_at, on_comma, value, step, advance, run}
+use Rattle.triplets.specs.PlaceBounds.{IsRowWithin, IsSpotWithin, IsPartWithin}
+use Rattle.triplets.specs.Grammar.{Digit, digit_value}
+use Rattle.triplets.proofs.Bytes.{IsMark, mark_is}
+use Rattle.triplets.proofs.Partials.{fine, ok_is, err_is, passed, met, below_is}
+use Rattle.triplets.proofs.Wholes.{going, stopped, going_is, PartStep, part_step_is, run_stopped}
+
+pub more_room : (n : ℕ) (r : rows.Row) → IsRowWithin n r → IsRowWithin (n + 1) r
+more_room n r h = omega arith
+
+-- a number with a sign moves by at most itself
+pub moved_size : (z : ℤ) (s : Sign) (v : ℕ) → nat_abs (z +ℤ signed s v) ≤ nat_abs z + v
+moved_size (pos m) Plus v = omega (arith, ints)
+moved_size (negsuc m) Plus v = omega (arith, ints)
+moved_size (pos m) Minus v = omega (arith, ints)
+moved_size (negsuc m) Minus v = omega (arith, ints)
+
+entry_room : (n : ℕ) (a : Axis) (v : ℤ) (r : rows.Row) → IsRowWithin n r → IsRowWithin (n + 1) (with_entry a v r)
+entry_room n X v r h = omega arith
+entry_room n Y v r h = omega arith
+entry_room n Z v r h = omega arith
+
+shift_room : (n : ℕ) (s : Sign) (v : ℕ) (r : rows.Row) → v < 1000 * unit → IsRowWithin n r → IsRowWithin (n + 1) (with_shift s v r)
+shift_room n s v r b h = let most = moved_size r.shift s v in omega arith
+
+pub parts_small : (d : Denominator) (v : ℕ) → v < 1000 → parts d * v < 1000 * unit
+parts_small One v h = omega arith
+parts_small Two v h = omega arith
+parts_small Three v h = omega arith
+parts_small Four v h = omega arith
+parts_small Six v h = omega arith
+parts_small Eight v h = omega arith
+parts_small Twelve v h = omega arith
+parts_small TwentyFour v h = omega arith
+
+abbrev pub at : rows.Row → Used → Sign → Spot → PartReader
+at r u g spot = record { row = r; used = u; sign = g; spot = spot }
+
+pub within_at : (n : ℕ) (p q : PartReader) → q ≡ p → IsRowWithin n p.row → IsSpotWithin p.spot → IsPartWithin n q
+within_at n p q e r s = subst (IsPartWithin n) (sym e) (r, s)
+
+within_blank : (spot : Spot) (n : ℕ) (r : rows.Row) (u : Used) (g : Sign) (q : PartReader) → IsRowWithin n r → IsSpotWithin spot → on_blank (at r u g spot) ≡ fine q → IsPartWithin (n + 1) q
+within_blank Begin n r u g q h i w = within_at _ (at r u g Begin) q (ok_is _ q w) (more_room n r h) tt
+within_blank Signed n r u g q h i w = within_at _ (at r u g Signed) q (ok_is _ q w) (more_room n r h) tt
+within_blank (Digits k v) n r u g q h i w = within_at _ _ q (ok_is _ q w) (shift_room n g (unit * v) r (omega (arith, i.1.1.0)) h) tt
+within_blank (Divided v) n r u g q h i w = err_is _ q w
+within_blank (Below v d) n r u g q h i w = within_at _ _ q (ok_is _ q w) (shift_room n g (parts d * v) r (parts_small d v i) h) tt
+within_blank Behind n r u g q h i w = within_at _ (at r u g Behind) q (ok_is _ q w) (more_room n r h) tt
+
+pub within_sign : (spot : Spot) (n : ℕ) (r : rows.Row) (u : Used) (g s : Sign) (q : PartReader) → IsRowWithin n r → IsSpotWithin spot → on_sign s (at r u g spot) ≡ fine q → IsPartWithin (n + 1) q
+within_sign Begin n r u g s q h i w = within_at _ _ q (ok_is _ q w) (more_room n r h) tt
+within_sign Signed n r u g s q h i w = err_is _ q w
+within_sign (Digits k v) n r u g s q h i w = within_at _ _ q (ok_is _ q w) (shift_room n g (unit * v) r (omega (arith, i.1.1.0)) h) tt
+within_sign (Divided v) n r u g s q h i w = err_is _ q w
+within_sign (Below v d) n r u g s q h i w = within_at _ _ q (ok_is _ q w) (shift_room n g (parts d * v) r (parts_small d v i) h) tt
+within_sign Behind n r u g s q h i w = within_at _ _ q (ok_is _ q w) (more_room n r h) tt
+
+within_letter : (spot : Spot) (n : ℕ) (r : rows.Row) (u : Used) (g : Sign) (a : Axis) (q : PartReader) → IsRowWithin n r → on_new_letter_at a spot (at r u g spot) ≡ fine q → IsPartWithin (n + 1) q
+within_letter Begin n r u g a q h w = within_at _ (with_letter a 1 (at r u g Begin)) q (ok_is _ q w) (entry_room n a (signed g 1) r h) tt
+within_letter Signed n r u g a q h w = within_at _ (with_letter a 1 (at r u g Signed)) q (ok_is _ q w) (entry_room n a (signed g 1) r h) tt
+within_letter (Digits k v) n r u g a q h w = within_at _ (with_letter a v (at r u g (Digits k v))) q (ok_is _ q (met _ kinds.Coefficient _ q w).1) (entry_room n a (signed g v) r h) tt
+within_letter (Divided v) n r u g a q h w = err_is _ q w
+within_letter (Below v d) n r u g a q h w = err_is _ q w
+within_letter Behind n r u g a q h w = err_is _ q w
+
+below_three : (n : ℕ) → nat_le 3 n ≡ false → n < 3
+below_three n h = grind (arith, nat_tests)
+
+within_digit : (spot : Spot) (n : ℕ) (r : rows.Row) (u : Used) (g : Sign) (d : ℕ) (q : PartReader) → d < 10 → IsRowWithin n r → IsSpotWithin spot → on_digit d (at r u g spot) ≡ fine q → IsPartWithin (n + 1) q
+within_digit Begin n r u g d q t h i w = within_at _ (at r u g (Digits 1 d)) q (ok_is _ q w) (more_room n r h) (omega arith, (omega arith, (omega arith, (λ z. omega arith, λ z. omega arith))))
+within_digit Signed n r u g d q t h i w = within_at _ (at r u g (Digits 1 d)) q (ok_is _ q w) (more_room n r h) (omega arith, (omega arith, (omega arith, (λ z. omega arith, λ z. omega arith))))
+within_digit (Digits k v) n r u g d q t h i w =
+    let p = passed _ kinds.Coefficient _ q w in
+    let few : k < 3 = below_three k p.0 in
+    within_at _ (at r u g (Digits (k + 1) (10 * v + d))) q (ok_is _ q p.1) (more_room n r h)
+    (omega arith, (omega arith, ((let low = i.1.1.1.0 (omega arith) in omega arith), ((λ z. let low = i.1.1.1.1 (omega arith) in omega arith), λ z. absurd (omega (arith, i.0))))))
+within_digit (Divided v) n r u g d q t h i w = within_at _ (at r u g (Below v (below_is _ _ _ q w).0)) q (below_is _ _ _ q w).2 (more_room n r h) i
+within_digit (Below v e) n r u g d q t h i w = within_at _ (at r u g (Below v (below_is _ _ _ q w).0)) q (below_is _ _ _ q w).2 (more_room n r h) i
+within_digit Behind n r u g d q t h i w = err_is _ q w
+
+within_slash : (spot : Spot) (n : ℕ) (r : rows.Row) (u : Used) (g : Sign) (q : PartReader) → IsRowWithin n r → IsSpotWithin spot → on_slash (at r u g spot) ≡ fine q → IsPartWithin (n + 1) q
+within_slash Begin n r u g q h i w = err_is _ q w
+within_slash Signed n r u g q h i w = err_is _ q w
+within_slash (Digits k v) n r u g q h i w = within_at _ (at r u g (Divided v)) q (ok_is _ q w) (more_room n r h) i.1.1.0
+within_slash (Divided v) n r u g q h i w = err_is _ q w
+within_slash (Below v d) n r u g q h i w = err_is _ q w
+within_slash Behind n r u g q h i w = err_is _ q w
+
+pub within_part : (m : Mark) (n : ℕ) (p q : PartReader) → IsMarkInRange m → IsPartWithin n p → part_step m p ≡ fine q → IsPartWithin (n + 1) q
+within_part marks.Blank n p q i h w = within_blank p.spot n p.row p.used p.sign q h.0 h.1 w
+within_part (marks.Signs s) n p q i h w = within_sign p.spot n p.row p.used p.sign s q h.0 h.1 w
+within_part (marks.Letter a) n p q i h w = within_letter p.spot n p.row p.used p.sign a q h.0 (passed _ _ _ q w).1
+within_part (marks.Digit d) n p q i h w = within_digit p.spot n p.row p.used p.sign d q i h.0 h.1 w
+within_part marks.Slash n p q i h w = within_slash p.spot n p.row p.used p.sign q h.0 h.1 w
+within_part marks.Comma n p q i h w = err_is _ q w
+within_part marks.Hash n p q i h w = err_is _ q w
+within_part marks.Open n p q i h w = err_is _ q w
+within_part marks.Close n p q i h w = err_is _ q w
+within_part marks.Other n p q i h w = err_is _ q w
+
+pub within_begin : (n : ℕ) → IsPartWithin n begin
+within_begin n = (omega arith, tt)
+
+within_next : (m : Nth) (n : ℕ) (s t : TripletReader) (r : rows.Row) → next_part m s r ≡ going t → IsPartWithin n t.part
+within_next First n s t r w = subst (λ (x : TripletReader). IsPartWithin n x.part) (sym (going_is _ t w)) (within_begin n)
+within_next Second n s t r w = subst (λ (x : TripletReader). IsPartWithin n x.part) (sym (going_is _ t w)) (within_begin n)
+within_next Third n s t r w = absurd cc
+
+within_comma : (o : Option PartReader) (n : ℕ) (s t : TripletReader) → comma_at o s ≡ going t → IsPartWithin n t.part
+within_comma None n s t w = absurd cc
+within_comma (Some p) n s t w = within_next s.nth n s t p.row w
+
+within_in_part : (m : Mark) (n : ℕ) (s t : TripletReader) → IsMarkInRange m → IsPartWithin n s.part → in_part s (part_step m s.part) ≡ going t → IsPartWithin (n + 1) t.part
+within_in_part m n s t i h w =
+    let p = part_step_is (part_step m s.part) s t w in
+    subst (λ (x : TripletReader). IsPartWithin (n + 1) x.part) (sym p.state) (within_part m n s.part p.part i h p.part_is)
+
+pub within_by : (m : Mark) (n : ℕ) (s t : TripletReader) → IsMarkInRange m → IsPartWithin n s.part → step m s ≡ going t → IsPartWithin (n + 1) t.part
+within_by marks.Blank n s t i h w = within_in_part marks.Blank n s t i h w
+within_by (marks.Signs g) n s t i h w = within_in_part (marks.Signs g) n s t i h w
+within_by (marks.Letter a) n s t i h w = within_in_part (marks.Letter a) n s t i h w
+within_by (marks.Digit d) n s t i h w = within_in_part (marks.Digit d) n s t i h w
+within_by marks.Slash n s t i h w = within_in_part marks.Slash n s t i h w
+within_by marks.Comma n s t i h w = within_comma (settled s.part) (n + 1) s t w
+within_by marks.Hash n s t i h w = absurd cc
+within_by marks.Open n s t i h w = within_in_part marks.Open n s t i h w
+within_by marks.Close n s t i h w = within_in_part marks.Close n s t i h w
+within_by marks.Other n s t i h w = within_in_part marks.Other n s t i h w
+
+range_of : (m : Mark) (b : ℕ) → IsMark b m → IsMarkInRange m
+range_of marks.Blank b h = tt
+range_of (marks.Signs s) b h = tt
+range_of (marks.Letter a) b h = tt
+range_of (marks.Digit n) b h = let low = h.0.low in let high = h.0.high in let e = h.2 in omega arith
+range_of marks.Slash b h = tt
+range_of marks.Comma b h = tt
+range_of marks.Hash b h = tt
+range_of marks.Open b h = tt
+range_of marks.Close b h = tt
+range_of marks.Other b h = tt
+
+pub mark_range : (b : ℕ) → IsMarkInRange (mark b)
+mark_range b = range_of (mark b) b (mark_is b)
+
+pub within_step : (n : ℕ) (s t : TripletReader) (b : ℕ) → IsPartWithin n s.part → step (mark b) s ≡ going t → IsPartWithin (n + 1) t.part
+within_step n s t b h w = within_by (mark b) n s t (mark_range b) h w
+
+pub within_start : IsPartWithin 0 begin
+within_start = within_begin 0
+
+small_spot : (spot : Spot) → IsSpotWithin spot → IsSpotSmall spot
+small_spot Begin h = tt
+small_spot Signed h = tt
+small_spot (Digits n v) h = (h.1.0, h.1.1.0)
+small_spot (Divided v) h = h
+small_spot (Below v d) h = h
+small_spot Behind h = tt
+
+roomy_size : (z : ℤ) → nat_abs z ≤ 2 ^ 50 → (neg_ℤ (pos (2 ^ 50)) ≤ℤ z) × (z ≤ℤ pos (2 ^ 50))
+roomy_size (pos m) h = (omega (arith, ints), omega (arith, ints))
+roomy_size (negsuc m) h = (omega (arith, ints), omega (arith, ints))
+
+roomy : (r : rows.Row) → nat_abs r.shift ≤ 2 ^ 50 → IsRoomy r
+roomy r h = let z = roomy_size r.shift h in record { above = z.0; below = z.1 }
+
+pub small : (n : ℕ) (p : PartReader) → n ≤ 16777216 → IsPartWithin n p → IsSmall p
+small n p b h = record { row = roomy p.row (omega (arith, h.0)); spot = small_spot p.spot h.1 }

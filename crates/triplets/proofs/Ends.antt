@@ -1,0 +1,72 @@
+-- What the reader answers at the end, and at a fault.
+use Rattle.std.proofs.Common.{◌≡◌, ◌≢◌, ℕ, suc, ◌+◌, ◌-◌, ◌*◌, ◌<◌, ◌≤◌, Bool, true, false, cond, List, [], ◌∷◌, ◌++◌, length, get_or, take, drop, Option, Some, None, Result, Ok, Err, refl, sym, ◌∙◌, ap, subst, arith, inl, inr, ◌⊎◌, add-one}
+use Rattle.std.proofs.Math.Seq.{take-suc, take-length}
+use Rattle.std.proofs.lemmas.List.{take-append-drop}
+use Rattle.std.proofs.lemmas.Option.{slice_get-get_or, slice_get_past}
+use Rattle.std.specs.Prelude.{slice_get}
+use Rattle.triplets.specs.declared.fault.TextKind.{TextKind}
+use Rattle.triplets.specs.declared.fault.TextKind.TheVariants as kinds
+use Rattle.motions.specs.declared.motion.Motion3.{Motion3}
+use Rattle.motions.specs.Views.{motion_of}
+use Rattle.symmetry.specs.Motions.{Motion}
+use Rattle.triplets.specs.declared.triplet.TripletReader.{TripletReader}
+use Rattle.triplets.specs.Marks.{mark}
+use Rattle.triplets.specs.TripletReading.{start, value, step, advance, run}
+use Rattle.triplets.specs.Grammar.{IsTriplet}
+use Rattle.triplets.specs.Faults.{IsGood, IsPrefixOfGood, IsPlace, IsFault, HasKindAt}
+use Rattle.triplets.proofs.Wholes.{run-append, going, stopped, going_is, run_stopped, found, is_triplet, is_read, IsRead, is_prefix, no_prefix, good_prefix}
+use Rattle.triplets.proofs.KindFacts.{not_good, fault_kind, no_triplet}
+
+one_more : (i : ℕ) (bytes : List ℕ) → i < length bytes → take (i + 1) bytes ≡ take i bytes ++ (get_or bytes i 0 ∷ [])
+one_more i bytes h = rw add-one (take-suc bytes i 0 h)
+
+-- one byte more is read
+pub step_on : (i : ℕ) (bytes : List ℕ) (s : TripletReader) (r : Result TripletReader TextKind) → i < length bytes → run (Ok start) (take i bytes) ≡ going s → step (mark (get_or bytes i 0)) s ≡ r →
+    run (Ok start) (take (i + 1) bytes) ≡ r
+step_on i bytes s r h w e =
+    ap (run (Ok start)) (one_more i bytes h)
+    ∙ (run-append (Ok start) (take i bytes) (get_or bytes i 0 ∷ [])
+    ∙ (ap (λ (x : Result TripletReader TextKind). advance x (get_or bytes i 0)) w ∙ e))
+
+stopped_all : (i : ℕ) (bytes : List ℕ) (k : TextKind) → run (Ok start) (take i bytes) ≡ stopped k → run (Ok start) bytes ≡ stopped k
+stopped_all i bytes k w =
+    ap (run (Ok start)) (sym (take-append-drop i bytes))
+    ∙ (run-append (Ok start) (take i bytes) (drop i bytes)
+    ∙ (ap (λ (x : Result TripletReader TextKind). run x (drop i bytes)) w ∙ run_stopped k (drop i bytes)))
+
+pub stopped_bad : (i : ℕ) (bytes : List ℕ) (s : TripletReader) (k : TextKind) → i < length bytes → run (Ok start) (take i bytes) ≡ going s → step (mark (get_or bytes i 0)) s ≡ stopped k → IsGood bytes → ⊥
+stopped_bad i bytes s k h w e good = no_prefix bytes k (stopped_all (i + 1) bytes k (step_on i bytes s (stopped k) h w e)) (good_prefix bytes good)
+
+pub fault_at : (i : ℕ) (bytes : List ℕ) (s : TripletReader) (k : TextKind) → i < length bytes → run (Ok start) (take i bytes) ≡ going s → step (mark (get_or bytes i 0)) s ≡ stopped k → IsFault bytes i k
+fault_at i bytes s k h w e = record {
+  place = record {
+    within = omega arith;
+    good = stopped_bad i bytes s k h w e;
+    prefix = is_prefix (take i bytes) s w;
+    here = λ z. no_prefix (take (i + 1) bytes) k (step_on i bytes s (stopped k) h w e);
+  };
+  kind_is = subst (λ x. HasKindAt (take i bytes) x k) (sym (slice_get-get_or bytes i 0 h)) (fault_kind (take i bytes) (get_or bytes i 0) s k w e);
+}
+
+-- the whole text is read
+pub all_read : (i : ℕ) (bytes : List ℕ) (s : TripletReader) → i ≡ length bytes → run (Ok start) (take i bytes) ≡ going s → run (Ok start) bytes ≡ going s
+all_read i bytes s e w = ap (run (Ok start)) (sym (ap (λ n. take n bytes) e ∙ take-length bytes)) ∙ w
+
+pub fault_end : (bytes : List ℕ) (s : TripletReader) → run (Ok start) bytes ≡ going s → value s ≡ no_triplet → IsFault bytes (length bytes) kinds.MissingPart
+fault_end bytes s w v = record {
+  place = record {
+    within = omega arith;
+    good = not_good bytes s w v;
+    prefix = subst IsPrefixOfGood (sym (take-length bytes)) (is_prefix bytes s w);
+    here = λ z. absurd (omega arith);
+  };
+  kind_is = subst (λ x. HasKindAt (take (length bytes) bytes) x kinds.MissingPart) (sym (slice_get_past bytes (length bytes) (omega arith))) refl;
+}
+
+pub one_value : (bytes : List ℕ) (s : TripletReader) (t : Motion3) (v : Motion) → run (Ok start) bytes ≡ going s → value s ≡ found t → IsTriplet bytes v → motion_of t ≡ v
+one_value bytes s t v w e h =
+    let r = is_read bytes v h in
+    let x : s ≡ r.last = going_is _ s (sym r.run_is ∙ w) in
+    let z : found t ≡ found r.motion = sym e ∙ (ap value x ∙ r.value_is) in
+    let y : t ≡ r.motion = cc in
+    ap (λ (m : Motion3). motion_of m) y ∙ r.motion_is

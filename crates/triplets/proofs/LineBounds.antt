@@ -1,0 +1,170 @@
+-- The numbers of the reader of a text stay small.
+use Rattle.std.proofs.Common.{◌≡◌, ◌≢◌, ℕ, suc, ◌+◌, ◌-◌, ◌*◌, ◌<◌, ◌≤◌, Bool, true, false, cond, List, [], ◌∷◌, ◌++◌, length, take, drop, Option, Some, None, Result, Ok, Err, ℤ, pos, refl, sym, ◌∙◌, ap, subst, arith, inl, inr, ◌⊎◌, zero-add}
+use Rattle.std.specs.Prelude.{◌==◌, ◌&&◌, if◌then◌else◌}
+use Rattle.motions.specs.declared.motion.Sign.{Sign}
+use Rattle.motions.specs.declared.motion.Sign.TheVariants.{Plus, Minus}
+use Rattle.symmetry.specs.Vectors.{Vector}
+use Rattle.symmetry.specs.Groups.{Listing}
+use Rattle.symmetry.specs.Motions.{Motion}
+use Rattle.motions.specs.Views.{motion_of, parts}
+use Rattle.triplets.specs.Rows.{motion_with, motion3_with, parts_with}
+use Rattle.triplets.specs.declared.fault.TextKind.{TextKind}
+use Rattle.triplets.specs.declared.fault.TextKind.TheVariants as kinds
+use Rattle.triplets.specs.declared.marks.Mark.{Mark}
+use Rattle.triplets.specs.declared.marks.Mark.TheVariants as marks
+use Rattle.triplets.specs.declared.part.PartReader.{PartReader}
+use Rattle.triplets.specs.declared.part.Spot.{Spot}
+use Rattle.triplets.specs.declared.part.Spot.TheVariants.{Begin, Signed, Digits, Divided, Below, Behind}
+use Rattle.triplets.specs.declared.triplet.Nth.{Nth}
+use Rattle.triplets.specs.declared.triplet.Nth.TheVariants.{First, Second, Third}
+use Rattle.motions.specs.declared.motion.Motion3.{Motion3}
+use Rattle.triplets.specs.declared.triplet.TripletReader.{TripletReader}
+use Rattle.fractions.specs.declared.part.Part.{Part}
+use Rattle.triplets.specs.declared.line.VectorReader.{VectorReader}
+use Rattle.triplets.specs.declared.line.LinePlace.{LinePlace}
+use Rattle.triplets.specs.declared.line.LinePlace.TheVariants as places
+use Rattle.triplets.specs.Marks.{mark, IsMarkInRange}
+use Rattle.triplets.specs.PartReading.{begin, settled, part_step, with_sign, on_sign, IsSmall}
+use Rattle.triplets.specs.TripletReading.{start, step, value}
+use Rattle.triplets.specs.LineReading.{opened, in_operation, in_coordinate, next_coordinate, coordinate_comma, closed_at, on_close, is_digits, coordinate_sign, vector_step, start_step, comment_behind, operation_step, closed_step, behind_step, place_step, completed, IsPlaceSmall}
+use Rattle.triplets.proofs.Partials.{fine}
+use Rattle.triplets.proofs.Wholes.{going}
+use Rattle.triplets.specs.PlaceBounds.{IsPartWithin, IsPlaceWithin}
+use Rattle.triplets.proofs.Bounds.{more_room, within_part, within_by, within_begin, mark_range, small}
+
+abbrev pub placed : LinePlace → Result LinePlace TextKind
+placed p = Ok p
+
+pub placed_is : (p q : LinePlace) → placed p ≡ placed q → q ≡ p
+placed_is p q e = cc
+
+bounded : (n : ℕ) (p q : LinePlace) → placed p ≡ placed q → IsPlaceWithin n p → IsPlaceWithin n q
+bounded n p q e h = subst (IsPlaceWithin n) (sym (placed_is p q e)) h
+
+not_placed : (k : TextKind) (q : LinePlace) {A : Type 0} → (let r : Result LinePlace TextKind = Err k in r ≡ placed q) → A
+not_placed k q e = absurd cc
+
+bounded_operation : (n : ℕ) (r : Result TripletReader TextKind) (q : LinePlace) → ((t : TripletReader) → r ≡ going t → IsPartWithin n t.part) → in_operation r ≡ placed q → IsPlaceWithin n q
+bounded_operation n (Ok t) q f e = bounded n _ q e (f t refl)
+bounded_operation n (Err k) q f e = not_placed _ q e
+
+bounded_coordinate : (n : ℕ) (r : Result PartReader TextKind) (l : Bool) (v : VectorReader) (q : LinePlace) → ((p : PartReader) → r ≡ fine p → IsPartWithin n p) → in_coordinate l v r ≡ placed q → IsPlaceWithin n q
+bounded_coordinate n (Ok p) l v q f e = bounded n _ q e (f p refl)
+bounded_coordinate n (Err k) l v q f e = not_placed _ q e
+
+bounded_next : (m : Nth) (n : ℕ) (v : VectorReader) (x : ℤ) (q : LinePlace) → next_coordinate m v x ≡ placed q → IsPlaceWithin n q
+bounded_next First n v x q e = bounded n _ q e (within_begin n)
+bounded_next Second n v x q e = bounded n _ q e (within_begin n)
+bounded_next Third n v x q e = not_placed _ q e
+
+bounded_comma : (o : Option PartReader) (n : ℕ) (v : VectorReader) (q : LinePlace) → coordinate_comma o v ≡ placed q → IsPlaceWithin n q
+bounded_comma None n v q e = not_placed _ q e
+bounded_comma (Some p) n v q e = bounded_next v.nth n v p.row.shift q e
+
+bounded_closed : (m : Nth) (o : Option PartReader) (n : ℕ) (v : VectorReader) (q : LinePlace) → closed_at m o v ≡ placed q → IsPlaceWithin n q
+bounded_closed First None n v q e = not_placed _ q e
+bounded_closed Second None n v q e = not_placed _ q e
+bounded_closed Third None n v q e = not_placed _ q e
+bounded_closed First (Some p) n v q e = not_placed _ q e
+bounded_closed Second (Some p) n v q e = not_placed _ q e
+bounded_closed Third (Some p) n v q e = bounded n _ q e tt
+
+bounded_close : (b : Bool) (n : ℕ) (v : VectorReader) (q : LinePlace) → cond b (placed (places.Operation start)) (closed_at v.nth (settled v.part) v) ≡ placed q → IsPlaceWithin n q
+bounded_close true n v q e = bounded n _ q e (within_begin n)
+bounded_close false n v q e = bounded_closed v.nth (settled v.part) n v q e
+
+bounded_sign : (spot : Spot) (s : Sign) (n : ℕ) (v : VectorReader) (q : LinePlace) → IsPartWithin n v.part → coordinate_sign s spot v ≡ placed q → IsPlaceWithin (n + 1) q
+bounded_sign Begin s n v q h e = bounded (n + 1) _ q e (more_room n v.part.row h.0, tt)
+bounded_sign Signed s n v q h e = not_placed _ q e
+bounded_sign (Digits k w) s n v q h e = not_placed _ q e
+bounded_sign (Divided w) s n v q h e = not_placed _ q e
+bounded_sign (Below w d) s n v q h e = not_placed _ q e
+bounded_sign Behind s n v q h e = not_placed _ q e
+
+bounded_vector : (m : Mark) (n : ℕ) (v : VectorReader) (q : LinePlace) → IsMarkInRange m → IsPartWithin n v.part → vector_step m v ≡ placed q → IsPlaceWithin (n + 1) q
+bounded_vector (marks.Letter a) n v q i h e = not_placed _ q e
+bounded_vector (marks.Signs s) n v q i h e = bounded_sign v.part.spot s n v q h e
+bounded_vector marks.Comma n v q i h e = bounded_comma (settled v.part) (n + 1) v q e
+bounded_vector marks.Close n v q i h e = bounded_close (v.label && is_digits v.part.spot) (n + 1) v q e
+bounded_vector (marks.Digit d) n v q i h e = bounded_coordinate (n + 1) (part_step (marks.Digit d) v.part) v.label v q (λ p w. within_part (marks.Digit d) n v.part p i h w) e
+bounded_vector marks.Blank n v q i h e = bounded_coordinate (n + 1) (part_step marks.Blank v.part) false v q (λ p w. within_part marks.Blank n v.part p i h w) e
+bounded_vector marks.Slash n v q i h e = bounded_coordinate (n + 1) (part_step marks.Slash v.part) false v q (λ p w. within_part marks.Slash n v.part p i h w) e
+bounded_vector marks.Hash n v q i h e = not_placed _ q e
+bounded_vector marks.Open n v q i h e = not_placed _ q e
+bounded_vector marks.Other n v q i h e = not_placed _ q e
+
+bounded_step : (m : Mark) (n : ℕ) (t : TripletReader) (q : LinePlace) → IsMarkInRange m → IsPartWithin n t.part → in_operation (step m t) ≡ placed q → IsPlaceWithin (n + 1) q
+bounded_step m n t q i h e = bounded_operation (n + 1) (step m t) q (λ u w. within_by m n t u i h w) e
+
+bounded_start : (m : Mark) (n : ℕ) (q : LinePlace) → IsMarkInRange m → start_step m ≡ placed q → IsPlaceWithin (n + 1) q
+bounded_start marks.Blank n q i e = bounded (n + 1) _ q e tt
+bounded_start marks.Open n q i e = bounded (n + 1) _ q e (within_begin (n + 1))
+bounded_start marks.Hash n q i e = bounded (n + 1) _ q e tt
+bounded_start (marks.Letter a) n q i e = bounded_step (marks.Letter a) n start q i (within_begin n) e
+bounded_start (marks.Signs s) n q i e = bounded_step (marks.Signs s) n start q i (within_begin n) e
+bounded_start (marks.Digit d) n q i e = bounded_step (marks.Digit d) n start q i (within_begin n) e
+bounded_start marks.Slash n q i e = bounded_step marks.Slash n start q i (within_begin n) e
+bounded_start marks.Comma n q i e = bounded_step marks.Comma n start q i (within_begin n) e
+bounded_start marks.Close n q i e = bounded_step marks.Close n start q i (within_begin n) e
+bounded_start marks.Other n q i e = bounded_step marks.Other n start q i (within_begin n) e
+
+bounded_behind_comment : (o : Option Motion3) (n : ℕ) (q : LinePlace) → comment_behind o ≡ placed q → IsPlaceWithin n q
+bounded_behind_comment None n q e = not_placed _ q e
+bounded_behind_comment (Some t) n q e = bounded n _ q e tt
+
+bounded_in_operation : (m : Mark) (n : ℕ) (t : TripletReader) (q : LinePlace) → IsMarkInRange m → IsPartWithin n t.part → operation_step m t ≡ placed q → IsPlaceWithin (n + 1) q
+bounded_in_operation marks.Blank n t q i h e = bounded_step marks.Blank n t q i h e
+bounded_in_operation marks.Open n t q i h e = bounded_step marks.Open n t q i h e
+bounded_in_operation marks.Hash n t q i h e = bounded_behind_comment (value t) (n + 1) q e
+bounded_in_operation (marks.Letter a) n t q i h e = bounded_step (marks.Letter a) n t q i h e
+bounded_in_operation (marks.Signs s) n t q i h e = bounded_step (marks.Signs s) n t q i h e
+bounded_in_operation (marks.Digit d) n t q i h e = bounded_step (marks.Digit d) n t q i h e
+bounded_in_operation marks.Slash n t q i h e = bounded_step marks.Slash n t q i h e
+bounded_in_operation marks.Comma n t q i h e = bounded_step marks.Comma n t q i h e
+bounded_in_operation marks.Close n t q i h e = bounded_step marks.Close n t q i h e
+bounded_in_operation marks.Other n t q i h e = bounded_step marks.Other n t q i h e
+
+bounded_in_closed : (m : Mark) (n : ℕ) (v : List Part) (q : LinePlace) → closed_step m v ≡ placed q → IsPlaceWithin n q
+bounded_in_closed marks.Blank n v q e = bounded n _ q e tt
+bounded_in_closed (marks.Signs Plus) n v q e = bounded n _ q e tt
+bounded_in_closed (marks.Signs Minus) n v q e = not_placed _ q e
+bounded_in_closed marks.Hash n v q e = not_placed _ q e
+bounded_in_closed (marks.Letter a) n v q e = not_placed _ q e
+bounded_in_closed (marks.Digit d) n v q e = not_placed _ q e
+bounded_in_closed marks.Slash n v q e = not_placed _ q e
+bounded_in_closed marks.Comma n v q e = not_placed _ q e
+bounded_in_closed marks.Open n v q e = not_placed _ q e
+bounded_in_closed marks.Close n v q e = not_placed _ q e
+bounded_in_closed marks.Other n v q e = not_placed _ q e
+
+bounded_in_behind : (m : Mark) (n : ℕ) (q : LinePlace) → behind_step m ≡ placed q → IsPlaceWithin n q
+bounded_in_behind marks.Blank n q e = bounded n _ q e tt
+bounded_in_behind marks.Open n q e = bounded n _ q e (within_begin n)
+bounded_in_behind marks.Hash n q e = bounded n _ q e tt
+bounded_in_behind (marks.Signs s) n q e = not_placed _ q e
+bounded_in_behind (marks.Letter a) n q e = not_placed _ q e
+bounded_in_behind (marks.Digit d) n q e = not_placed _ q e
+bounded_in_behind marks.Slash n q e = not_placed _ q e
+bounded_in_behind marks.Comma n q e = not_placed _ q e
+bounded_in_behind marks.Close n q e = not_placed _ q e
+bounded_in_behind marks.Other n q e = not_placed _ q e
+
+bounded_place : (p : LinePlace) (b : ℕ) (n : ℕ) (q : LinePlace) → IsPlaceWithin n p → place_step (mark b) p ≡ placed q → IsPlaceWithin (n + 1) q
+bounded_place places.Start b n q h e = bounded_start (mark b) n q (mark_range b) e
+bounded_place (places.Operation t) b n q h e = bounded_in_operation (mark b) n t q (mark_range b) h e
+bounded_place (places.Coordinates v) b n q h e = bounded_vector (mark b) n v q (mark_range b) h e
+bounded_place (places.Closed v) b n q h e = bounded_in_closed (mark b) (n + 1) v q e
+bounded_place places.Behind b n q h e = bounded_in_behind (mark b) (n + 1) q e
+bounded_place (places.Comment o) b n q h e = bounded (n + 1) _ q e tt
+
+-- the place stays within what the column allows
+pub place_within : (b n : ℕ) (p q : LinePlace) → IsPlaceWithin n p → place_step (mark b) p ≡ placed q → IsPlaceWithin (n + 1) q
+place_within b n p q h e = bounded_place p b n q h e
+
+pub place_small : (p : LinePlace) (n : ℕ) → n ≤ 16777216 → IsPlaceWithin n p → IsPlaceSmall p
+place_small places.Start n b h = tt
+place_small (places.Operation t) n b h = small n t.part (omega arith) h
+place_small (places.Coordinates v) n b h = small n v.part (omega arith) h
+place_small (places.Closed v) n b h = tt
+place_small places.Behind n b h = tt
+place_small (places.Comment o) n b h = tt

@@ -1,0 +1,103 @@
+-- The value of a good line, and the place of a bad one.
+use Rattle.std.proofs.Common.{◌≡◌, ◌≢◌, ℕ, zero, suc, ◌+◌, ◌-◌, ◌*◌, ◌<◌, ◌≤◌, Bool, true, false, cond, List, [], ◌∷◌, ◌++◌, length, get_or, take, drop, Option, Some, None, Result, Ok, Err, refl, sym, ◌∙◌, ap, subst, arith, inl, inr, ◌⊎◌, append_assoc, length-append, add-one}
+use Rattle.std.specs.Prelude.{slice_get, ◌==◌, IfOk, IfErr}
+use Rattle.std.proofs.lemmas.Bool.Decides.{eqb_tells}
+use Rattle.std.proofs.Math.Seq.{take-length, take-append_seam, take-append-add}
+use Rattle.std.proofs.lemmas.List.{append-nil}
+use Rattle.std.proofs.lemmas.Option.{slice_get_past}
+use Rattle.symmetry.specs.Vectors.{Vector}
+use Rattle.symmetry.specs.Groups.{Listing}
+use Rattle.symmetry.specs.Motions.{Motion}
+use Rattle.motions.specs.Views.{motion_of, parts}
+use Rattle.triplets.specs.Rows.{motion_with, motion3_with, parts_with}
+use Rattle.triplets.specs.declared.fault.TextKind.{TextKind}
+use Rattle.triplets.specs.declared.fault.TextKind.TheVariants as kinds
+use Rattle.motions.specs.declared.motion.Motion3.{Motion3}
+use Rattle.fractions.specs.declared.part.Part.{Part}
+use Rattle.triplets.specs.declared.line.LinePlace.{LinePlace}
+use Rattle.triplets.specs.declared.line.LinePlace.TheVariants as places
+use Rattle.triplets.specs.declared.fault.TextFault.{TextFault}
+use Rattle.triplets.specs.declared.fault.TextFault.TheVariants as faults
+use Rattle.motions.specs.declared.listed.Listed.{Listed}
+use Rattle.triplets.specs.Marks.{mark}
+use Rattle.triplets.specs.Lines.{IsLine}
+use Rattle.triplets.specs.LineReading.{LineState, line_start, line_step, line_advance, line_run, line_value, place_step, completed, with_vector, ending, operations_of, at_place, listing_by}
+use Rattle.triplets.specs.LineFaults.{IsGoodLine, IsPrefixOfGoodLine, IsLinePlace, IsLineFault, HasLineKind, HasLineKindAt}
+use Rattle.triplets.specs.Texts.{with_front, lines_of, nothing_listed, listed_then, AreLines, IsGroupText, IsFirstBad, Fault, IsTextFault}
+use Rattle.triplets.specs.TextReading.{Kept, kept_start, byte_step, moved, new_line, ended, finished, fault_here, with_operation, text_advance, text_run, outcome, group_of, Gives, Refuses}
+use Rattle.triplets.proofs.TextRuns.{keeping, faulty, run_faulty, text_run-append}
+use Rattle.triplets.proofs.LineBegun.{line_going, line_stopped, lists, lists_nothing, line_run-append, run_line_stopped}
+use Rattle.triplets.proofs.LineEnds.{is_line, is_line_prefix}
+use Rattle.triplets.proofs.LineRuns.{IsLineRead, is_line_read}
+use Rattle.triplets.proofs.LineKinds.{line_kind}
+
+pub going_line : (s t : LineState) → line_going s ≡ line_going t → t ≡ s
+going_line s t e = cc
+
+pub line_more : (bytes : List ℕ) (b : ℕ) (s : LineState) (r : Result LineState TextKind) → line_run (Ok line_start) bytes ≡ line_going s → line_step (mark b) s ≡ r → line_run (Ok line_start) (bytes ++ b ∷ []) ≡ r
+line_more bytes b s r w e = line_run-append (Ok line_start) bytes (b ∷ []) ∙ (ap (λ (x : Result LineState TextKind). line_advance x b) w ∙ e)
+
+pub no_line_prefix : (bytes : List ℕ) (k : TextKind) → line_run (Ok line_start) bytes ≡ line_stopped k → IsPrefixOfGoodLine bytes → ⊥
+no_line_prefix bytes k e h =
+    let r = is_line_read (bytes ++ h.0) h.1.0 h.1.1 in
+    let g : line_run (line_run (Ok line_start) bytes) h.0 ≡ line_stopped k = ap (λ (x : Result LineState TextKind). line_run x h.0) e ∙ run_line_stopped k h.0 in
+    let z : line_going r.last ≡ line_stopped k = sym r.run_is ∙ (line_run-append (Ok line_start) bytes h.0 ∙ g) in
+    cc
+
+pub good_line_prefix : (bytes rest : List ℕ) → IsGoodLine (bytes ++ rest) → IsPrefixOfGoodLine bytes
+good_line_prefix bytes rest h = (rest, h)
+
+pub not_good_line : (bytes : List ℕ) (s : LineState) → line_run (Ok line_start) bytes ≡ line_going s → line_value s ≡ lists_nothing → IsGoodLine bytes → ⊥
+not_good_line bytes s w v h =
+    let r = is_line_read bytes h.0 h.1 in
+    let e : s ≡ r.last = going_line _ s (sym r.run_is ∙ w) in
+    let z : lists h.0 ≡ lists_nothing = sym r.value_is ∙ (ap line_value (sym e) ∙ v) in
+    cc
+
+pub one_line_value : (bytes : List ℕ) (a b : Listing) → IsLine bytes a → IsLine bytes b → a ≡ b
+one_line_value bytes a b h i =
+    let r = is_line_read bytes a h in
+    let s = is_line_read bytes b i in
+    let e : r.last ≡ s.last = going_line _ _ (sym s.run_is ∙ r.run_is) in
+    let z : lists a ≡ lists b = sym r.value_is ∙ (ap line_value e ∙ s.value_is) in
+    cc
+
+-- the fault at the end of a line
+pub end_fault : (bytes : List ℕ) (s : LineState) → line_run (Ok line_start) bytes ≡ line_going s → line_value s ≡ lists_nothing → IsLineFault bytes (length bytes) kinds.MissingPart
+end_fault bytes s w v = record {
+  place = record {
+    within = omega arith;
+    good = not_good_line bytes s w v;
+    prefix = subst IsPrefixOfGoodLine (sym (take-length bytes)) (is_line_prefix bytes s w);
+    here = λ z. absurd (omega arith);
+  };
+  kind_is = subst (λ x. HasLineKindAt (take (length bytes) bytes) x kinds.MissingPart) (sym (slice_get_past bytes (length bytes) (omega arith))) refl;
+}
+
+pub take_front : (xs ys : List ℕ) → take (length xs) (xs ++ ys) ≡ xs
+take_front xs ys = take-append_seam xs ys
+
+take_front_one : (xs ys : List ℕ) (b : ℕ) → take (length xs + 1) (xs ++ b ∷ ys) ≡ xs ++ b ∷ []
+take_front_one xs ys b = take-append-add xs (b ∷ ys) 1
+
+abbrev some_byte : ℕ → Option ℕ
+some_byte b = Some b
+
+pub get_front : (xs ys : List ℕ) (b : ℕ) → slice_get (xs ++ b ∷ ys) (length xs) ≡ some_byte b
+get_front [] ys b = refl
+get_front (x ∷ xs) ys b = get_front xs ys b
+
+-- the fault at a byte
+pub byte_fault : (before rest : List ℕ) (b : ℕ) (s : LineState) (k : TextKind) → line_run (Ok line_start) before ≡ line_going s → line_step (mark b) s ≡ line_stopped k → IsLineFault (before ++ b ∷ rest) (length before) k
+byte_fault before rest b s k w e =
+    let dead = no_line_prefix (before ++ b ∷ []) k (line_more before b s (line_stopped k) w e) in
+    record {
+      place = record {
+        within = omega (arith, length-append before (b ∷ rest));
+        good = λ h. dead (rest, subst IsGoodLine (sym (append_assoc before (b ∷ []) rest)) h);
+        prefix = subst IsPrefixOfGoodLine (sym (take_front before (b ∷ rest))) (is_line_prefix before s w);
+        here = λ z h. dead (subst IsPrefixOfGoodLine (take_front_one before rest b) h);
+      };
+      kind_is = subst (λ x. HasLineKindAt x (slice_get (before ++ b ∷ rest) (length before)) k) (sym (take_front before (b ∷ rest)))
+          (subst (λ x. HasLineKindAt before x k) (sym (get_front before rest b)) (line_kind before b s k w e));
+    }

@@ -1,0 +1,376 @@
+-- What the reader of a part takes is the beginning of what is written in the grammar.
+use Rattle.std.proofs.Common.{◌≡◌, ℕ, suc, ◌+◌, ◌-◌, ◌*◌, ◌<◌, ◌≤◌, Bool, true, false, cond, List, [], ◌∷◌, ◌++◌, length, Option, Some, None, Result, Ok, Err, refl, sym, ◌∙◌, ap, subst, arith, inl, inr, ◌⊎◌, append_assoc, length-append}
+use Rattle.std.specs.Prelude.{nat_le, nat_lt, ◌==◌, ◌&&◌}
+use Rattle.std.proofs.lemmas.Bool.Decides.{nat_tests, eqb_tells}
+use Rattle.std.proofs.lemmas.Bool.{cases_lt}
+use Rattle.std.proofs.lemmas.List.{map-append, append-nil}
+use Rattle.triplets.specs.declared.marks.Axis.{Axis}
+use Rattle.motions.specs.declared.motion.Sign.{Sign}
+use Rattle.triplets.specs.declared.denominator.Denominator.{Denominator}
+use Rattle.triplets.specs.declared.denominator.Denominator.TheVariants.{One, Two, Three, Four, Six, Eight, Twelve, TwentyFour}
+use Rattle.triplets.specs.declared.fault.TextKind.{TextKind}
+use Rattle.triplets.specs.declared.fault.TextKind.TheVariants as kinds
+use Rattle.triplets.specs.declared.marks.Mark.{Mark}
+use Rattle.triplets.specs.declared.marks.Mark.TheVariants as marks
+use Rattle.triplets.specs.declared.part.PartReader.{PartReader}
+use Rattle.triplets.specs.declared.part.Spot.{Spot}
+use Rattle.triplets.specs.declared.part.Spot.TheVariants.{Begin, Signed, Digits, Divided, Below, Behind}
+use Rattle.triplets.specs.Marks.{mark}
+use Rattle.triplets.specs.Rows.{uses}
+use Rattle.triplets.specs.Denominators.{denominator_text, first_digit, further_digit}
+use Rattle.triplets.specs.PartReading.{begin, part_step, settled, on_blank, on_sign, on_letter, on_digit, on_digit_at, on_slash, on_new_letter_at, below_or, with_letter, with_sign, with_spot}
+use Rattle.triplets.specs.Grammar.{Blank, blank_byte, blanks_text, sign_byte, letter_byte, Digit, digit_value, digits_text, decimal, Numerator, numerator_text, numerator_value, Term, letter, multiple, whole, fraction, term_text, IsNew, Lead, bare, sign, more, lead_text, lead_row, lead_sign, lead_letters, IsLead, Written, part_text, part_row, with_term}
+use Rattle.triplets.specs.Lines.{IsFirst, IsNumber, Coordinate, coordinate_text, coordinate_value}
+use Rattle.triplets.proofs.Bytes.{IsMark, mark_is}
+use Rattle.triplets.proofs.PartRuns.{state, lead_state, behind_state, lead_spot}
+
+-- the beginning of a part
+pub data Partial : Type 0 where
+  lead : (l : Lead) → IsLead l → Partial
+  digits : (l : Lead) → IsLead l → (d : Digit) → (ds : List Digit) → length ds ≤ 2 → Partial
+  divided : (l : Lead) → IsLead l → Numerator → Partial
+  below : (l : Lead) → IsLead l → Numerator → Denominator → Partial
+  behind : Written → Partial
+
+abbrev pub partial_text : Partial → List ℕ
+partial_text (lead l good) = lead_text l
+partial_text (digits l good d ds short) = lead_text l ++ d.byte ∷ digits_text ds
+partial_text (divided l good n) = lead_text l ++ (numerator_text n ++ 47 ∷ [])
+partial_text (below l good n u) = lead_text l ++ (numerator_text n ++ 47 ∷ denominator_text u)
+partial_text (behind w) = part_text w
+
+abbrev pub partial_state : Partial → PartReader
+partial_state (lead l good) = lead_state l
+partial_state (digits l good d ds short) = state l (Digits (1 + length ds) (decimal (digit_value d) ds))
+partial_state (divided l good n) = state l (Divided (numerator_value n))
+partial_state (below l good n u) = state l (Below (numerator_value n) u)
+partial_state (behind w) = behind_state w.lead w.last
+
+-- the beginning of a coordinate
+abbrev pub IsLike : Partial → Type 0
+IsLike (lead l good) = IsFirst l
+IsLike (digits l good d ds short) = IsFirst l
+IsLike (divided l good n) = IsFirst l
+IsLike (below l good n u) = IsFirst l
+IsLike (behind w) = IsFirst w.lead × IsNumber w.last
+
+-- the marks that a coordinate has anywhere
+abbrev pub is_plain : Mark → Bool
+is_plain marks.Blank = true
+is_plain (marks.Digit n) = true
+is_plain marks.Slash = true
+is_plain _ = false
+
+-- one more byte
+pub record Grows (q : Partial) (b : ℕ) (p : PartReader) (plain : Bool) : Type 0 where
+  pub to : Partial
+  pub like : plain ≡ true → IsLike q → IsLike to
+  pub text : partial_text q ++ b ∷ [] ≡ partial_text to
+  pub state : p ≡ partial_state to
+
+abbrev pub fine : PartReader → Result PartReader TextKind
+fine p = Ok p
+
+pub ok_is : (p q : PartReader) → fine p ≡ fine q → q ≡ p
+ok_is p q e = cc
+
+pub err_is : (k : TextKind) (p : PartReader) {A : Type 0} → (let r : Result PartReader TextKind = Err k in r ≡ fine p) → A
+err_is k p e = absurd cc
+
+abbrev pub some_part : PartReader → Option PartReader
+some_part p = Some p
+
+some_is : (p q : PartReader) → some_part p ≡ some_part q → q ≡ p
+some_is p q e = cc
+
+-- a test on the way to what is fine
+pub passed : (b : Bool) (k : TextKind) (r : Result PartReader TextKind) (p : PartReader) → cond b (Err k) r ≡ fine p → (b ≡ false) × (r ≡ fine p)
+passed true k r p e = absurd cc
+passed false k r p e = (refl, e)
+
+pub met : (b : Bool) (k : TextKind) (r : Result PartReader TextKind) (p : PartReader) → cond b r (Err k) ≡ fine p → (b ≡ true) × (r ≡ fine p)
+met false k r p e = absurd cc
+met true k r p e = (refl, e)
+
+-- ---- a blank
+
+pub blanks_more : (bs : List Blank) (k : Blank) → blanks_text bs ++ blank_byte k ∷ [] ≡ blanks_text (bs ++ k ∷ [])
+blanks_more bs k = sym (map-append blank_byte bs (k ∷ []))
+
+on_blank_grows : (q : Partial) (k : Blank) (p : PartReader) → on_blank (partial_state q) ≡ fine p → Grows q (blank_byte k) p true
+on_blank_grows (lead (bare bs) good) k p e = record { to = lead (bare (bs ++ k ∷ [])) tt; like = λ z h. h; text = blanks_more bs k; state = ok_is _ p e }
+on_blank_grows (lead (sign bs s cs) good) k p e = record {
+  to = lead (sign bs s (cs ++ k ∷ [])) tt;
+  like = λ z h. h;
+  text = simp append_assoc (ap (λ (x : List ℕ). blanks_text bs ++ sign_byte s ∷ x) (blanks_more cs k));
+  state = ok_is _ p e;
+}
+on_blank_grows (lead (more l t bs s cs) good) k p e = record {
+  to = lead (more l t bs s (cs ++ k ∷ [])) good;
+  like = λ z h. h;
+  text = simp append_assoc (ap (λ (x : List ℕ). lead_text l ++ (term_text t ++ (blanks_text bs ++ sign_byte s ∷ x))) (blanks_more cs k));
+  state = ok_is _ p e;
+}
+on_blank_grows (digits l good d ds short) k p e = record {
+  to = behind (record { lead = l; last = whole (record { first = d; others = ds; short = short }); after = k ∷ []; good = good; new = tt });
+  like = λ z h. (h, tt);
+  text = simp append_assoc;
+  state = ok_is _ p e;
+}
+on_blank_grows (divided l good n) k p e = err_is _ p e
+on_blank_grows (below l good n u) k p e = record {
+  to = behind (record { lead = l; last = fraction n u; after = k ∷ []; good = good; new = tt });
+  like = λ z h. (h, tt);
+  text = simp append_assoc;
+  state = ok_is _ p e;
+}
+on_blank_grows (behind w) k p e = record {
+  to = behind (record w { after = w.after ++ k ∷ [] });
+  like = λ z h. h;
+  text = simp append_assoc (ap (λ (x : List ℕ). lead_text w.lead ++ (term_text w.last ++ x)) (blanks_more w.after k));
+  state = ok_is _ p e;
+}
+
+-- ---- a sign
+
+on_sign_grows : (q : Partial) (s : Sign) (p : PartReader) → on_sign s (partial_state q) ≡ fine p → Grows q (sign_byte s) p false
+on_sign_grows (lead (bare bs) good) s p e = record { to = lead (sign bs s []) tt; like = λ z h. absurd cc; text = refl; state = ok_is _ p e }
+on_sign_grows (lead (sign bs r cs) good) s p e = err_is _ p e
+on_sign_grows (lead (more l t bs r cs) good) s p e = err_is _ p e
+on_sign_grows (digits l good d ds short) s p e = record {
+  to = lead (more l (whole (record { first = d; others = ds; short = short })) [] s []) (good, tt);
+  like = λ z h. absurd cc;
+  text = simp append_assoc;
+  state = ok_is _ p e;
+}
+on_sign_grows (divided l good n) s p e = err_is _ p e
+on_sign_grows (below l good n u) s p e = record {
+  to = lead (more l (fraction n u) [] s []) (good, tt);
+  like = λ z h. absurd cc;
+  text = simp append_assoc;
+  state = ok_is _ p e;
+}
+on_sign_grows (behind w) s p e = record {
+  to = lead (more w.lead w.last w.after s []) (w.good, w.new);
+  like = λ z h. absurd cc;
+  text = simp append_assoc;
+  state = ok_is _ p e;
+}
+
+-- ---- a letter
+
+letter_lead : (l : Lead) (good : IsLead l) (a : Axis) (c : Bool) (p : PartReader) → uses a (lead_letters l) ≡ false → on_new_letter_at a (lead_spot l) (lead_state l) ≡ fine p → Grows (lead l good) (letter_byte a c) p false
+letter_lead (bare bs) good a c p new e = record { to = behind (record { lead = bare bs; last = letter a c; after = []; good = good; new = new }); like = λ z h. absurd cc; text = refl; state = ok_is _ p e }
+letter_lead (sign bs s cs) good a c p new e = record { to = behind (record { lead = sign bs s cs; last = letter a c; after = []; good = good; new = new }); like = λ z h. absurd cc; text = refl; state = ok_is _ p e }
+letter_lead (more l t bs s cs) good a c p new e = record { to = behind (record { lead = more l t bs s cs; last = letter a c; after = []; good = good; new = new }); like = λ z h. absurd cc; text = refl; state = ok_is _ p e }
+
+positive : (d : Digit) → nat_lt 0 (digit_value d) ≡ true → 49 ≤ d.byte
+positive d h = grind (arith, nat_tests)
+
+not_one : (n : ℕ) (b : Bool) → (((1 + suc n) == 1) && b) ≡ true → ⊥
+not_one n b h = grind (arith, nat_tests)
+
+letter_digits : (l : Lead) (good : IsLead l) (d : Digit) (ds : List Digit) (short : length ds ≤ 2) (a : Axis) (c : Bool) (p : PartReader) → uses a (lead_letters l) ≡ false →
+    on_new_letter_at a (Digits (1 + length ds) (decimal (digit_value d) ds)) (partial_state (digits l good d ds short)) ≡ fine p → Grows (digits l good d ds short) (letter_byte a c) p false
+letter_digits l good d [] short a c p new e =
+    let h = met (nat_lt 0 (digit_value d)) kinds.Coefficient (Ok (with_letter a (digit_value d) (partial_state (digits l good d [] short)))) p e in
+    record {
+      to = behind (record { lead = l; last = multiple d (positive d h.0) a c; after = []; good = good; new = new });
+      like = λ z h. absurd cc;
+      text = simp append_assoc;
+      state = ok_is _ p h.1;
+    }
+letter_digits l good d (f ∷ ds) short a c p new e =
+    absurd (not_one (length ds) _ (met _ kinds.Coefficient _ p e).0)
+
+on_letter_grows : (q : Partial) (a : Axis) (c : Bool) (p : PartReader) → on_letter a (partial_state q) ≡ fine p → Grows q (letter_byte a c) p false
+on_letter_grows (lead l good) a c p e = let h = passed _ _ _ p e in letter_lead l good a c p h.0 h.1
+on_letter_grows (digits l good d ds short) a c p e = let h = passed _ _ _ p e in letter_digits l good d ds short a c p h.0 h.1
+on_letter_grows (divided l good n) a c p e = err_is _ p (passed _ _ _ p e).1
+on_letter_grows (below l good n u) a c p e = err_is _ p (passed _ _ _ p e).1
+on_letter_grows (behind w) a c p e = err_is _ p (passed _ _ _ p e).1
+
+-- ---- a digit
+
+decimal-append : (n : ℕ) (ds : List Digit) (d : Digit) → decimal n (ds ++ d ∷ []) ≡ 10 * decimal n ds + digit_value d
+decimal-append n [] d = refl
+decimal-append n (e ∷ ds) d = decimal-append (10 * n + digit_value e) ds d
+
+pub digits_more : (ds : List Digit) (d : Digit) → digits_text ds ++ d.byte ∷ [] ≡ digits_text (ds ++ d ∷ [])
+digits_more ds d = sym (map-append (λ (x : Digit). x.byte) ds (d ∷ []))
+
+length_more : (ds : List Digit) (d : Digit) → length (ds ++ d ∷ []) ≡ length ds + 1
+length_more ds d = length-append ds (d ∷ [])
+
+digit_lead : (l : Lead) (good : IsLead l) (d : Digit) (p : PartReader) → on_digit_at (digit_value d) (lead_spot l) (lead_state l) ≡ fine p → Grows (lead l good) d.byte p true
+digit_lead (bare bs) good d p e = record { to = digits (bare bs) good d [] (omega arith); like = λ z h. h; text = refl; state = ok_is _ p e }
+digit_lead (sign bs s cs) good d p e = record { to = digits (sign bs s cs) good d [] (omega arith); like = λ z h. h; text = refl; state = ok_is _ p e }
+digit_lead (more l t bs s cs) good d p e = record { to = digits (more l t bs s cs) good d [] (omega arith); like = λ z h. h; text = refl; state = ok_is _ p e }
+
+not_three : (n : ℕ) → nat_le 3 (1 + n) ≡ false → n + 1 ≤ 2
+not_three n h = grind (arith, nat_tests)
+
+digits_state : (l : Lead) (n v m w : ℕ) → n ≡ m → v ≡ w → state l (Digits n v) ≡ state l (Digits m w)
+digits_state l n v m w e f = cc
+
+digit_digits : (l : Lead) (good : IsLead l) (d : Digit) (ds : List Digit) (short : length ds ≤ 2) (f : Digit) (p : PartReader) → on_digit (digit_value f) (partial_state (digits l good d ds short)) ≡ fine p → Grows (digits l good d ds short) f.byte p true
+digit_digits l good d ds short f p e =
+    let h = passed _ _ _ p e in
+    let room = not_three (length ds) h.0 in
+    record {
+      to = digits l good d (ds ++ f ∷ []) (omega (arith, length_more ds f, room));
+      like = λ z h. h;
+      text = simp append_assoc (ap (λ (x : List ℕ). lead_text l ++ d.byte ∷ x) (digits_more ds f));
+      state = ok_is _ p h.1 ∙ digits_state l _ _ _ _ (omega (arith, length_more ds f)) (sym (decimal-append (digit_value d) ds f));
+    }
+
+pub below_is : (v : ℕ) (o : Option Denominator) (q p : PartReader) → below_or v o q ≡ fine p → (u : Denominator) × (o ≡ Some u) × (p ≡ with_spot (Below v u) q)
+below_is v None q p e = err_is _ p e
+below_is v (Some u) q p e = (u, refl, ok_is _ p e)
+
+-- the denominator that a test chose is written with this digit
+abbrev Spells : List ℕ → Option Denominator → Type 0
+Spells text None = Unit {0}
+Spells text (Some u) = denominator_text u ≡ text
+
+spells_if : (n k : ℕ) (text : ℕ → List ℕ) (x y : Option Denominator) → Spells (text k) x → Spells (text n) y → Spells (text n) (cond (n == k) x y)
+spells_if n k text x y f g =
+    elim (eqb_tells n k) [
+      | inl h ↦ rw h.0 (rw h.1 f)
+      | inr h ↦ rw h.0 g
+    ]
+
+abbrev one_text : ℕ → List ℕ
+one_text n = (n + 48) ∷ []
+
+first_spells : (n : ℕ) → Spells (one_text n) (first_digit n)
+first_spells n =
+    spells_if n 1 one_text _ _ refl (
+    spells_if n 2 one_text _ _ refl (
+    spells_if n 3 one_text _ _ refl (
+    spells_if n 4 one_text _ _ refl (
+    spells_if n 6 one_text _ _ refl (
+    spells_if n 8 one_text _ _ refl tt)))))
+
+further_spells : (u : Denominator) (n : ℕ) → Spells (denominator_text u ++ one_text n) (further_digit u n)
+further_spells One n = spells_if n 2 (λ k. 49 ∷ one_text k) _ _ refl tt
+further_spells Two n = spells_if n 4 (λ k. 50 ∷ one_text k) _ _ refl tt
+further_spells Three n = tt
+further_spells Four n = tt
+further_spells Six n = tt
+further_spells Eight n = tt
+further_spells Twelve n = tt
+further_spells TwentyFour n = tt
+
+digit_byte : (d : Digit) → digit_value d + 48 ≡ d.byte
+digit_byte d = omega (arith, d.low)
+
+on_digit_grows : (q : Partial) (d : Digit) (p : PartReader) → on_digit (digit_value d) (partial_state q) ≡ fine p → Grows q d.byte p true
+on_digit_grows (lead l good) d p e = digit_lead l good d p e
+on_digit_grows (digits l good f ds short) d p e = digit_digits l good f ds short d p e
+on_digit_grows (divided l good n) d p e =
+    let h = below_is _ _ _ p e in
+    record {
+      to = below l good n h.0;
+      like = λ z h. h;
+      text = simp append_assoc (ap (λ (x : List ℕ). lead_text l ++ (numerator_text n ++ 47 ∷ x)) (ap (λ b. b ∷ []) (sym (digit_byte d)) ∙ sym (subst (Spells (one_text (digit_value d))) h.1 (first_spells (digit_value d)))));
+      state = h.2;
+    }
+on_digit_grows (below l good n u) d p e =
+    let h = below_is _ _ _ p e in
+    record {
+      to = below l good n h.0;
+      like = λ z h. h;
+      text = simp append_assoc (ap (λ (x : List ℕ). lead_text l ++ (numerator_text n ++ 47 ∷ x)) (ap (λ b. denominator_text u ++ b ∷ []) (sym (digit_byte d)) ∙ sym (subst (Spells (denominator_text u ++ one_text (digit_value d))) h.1 (further_spells u (digit_value d)))));
+      state = h.2;
+    }
+on_digit_grows (behind w) d p e = err_is _ p e
+
+-- ---- a slash
+
+on_slash_grows : (q : Partial) (p : PartReader) → on_slash (partial_state q) ≡ fine p → Grows q 47 p true
+on_slash_grows (lead (bare bs) good) p e = err_is _ p e
+on_slash_grows (lead (sign bs s cs) good) p e = err_is _ p e
+on_slash_grows (lead (more l t bs s cs) good) p e = err_is _ p e
+on_slash_grows (digits l good d ds short) p e = record {
+  to = divided l good (record { first = d; others = ds; short = short });
+  like = λ z h. h;
+  text = simp append_assoc;
+  state = ok_is _ p e;
+}
+on_slash_grows (divided l good n) p e = err_is _ p e
+on_slash_grows (below l good n u) p e = err_is _ p e
+on_slash_grows (behind w) p e = err_is _ p e
+
+pub grows_by : (m : Mark) (q : Partial) (b : ℕ) (p : PartReader) → IsMark b m → part_step m (partial_state q) ≡ fine p → Grows q b p (is_plain m)
+grows_by marks.Blank q b p h e = subst (λ c. Grows q c p true) (sym h.1) (on_blank_grows q h.0 p e)
+grows_by (marks.Signs s) q b p h e = subst (λ c. Grows q c p false) (sym h) (on_sign_grows q s p e)
+grows_by (marks.Letter a) q b p h e = subst (λ c. Grows q c p false) (sym h.1) (on_letter_grows q a h.0 p e)
+grows_by (marks.Digit n) q b p h e = subst (λ c. Grows q c p true) (sym h.1) (on_digit_grows q h.0 p (subst (λ k. on_digit k (partial_state q) ≡ fine p) h.2 e))
+grows_by marks.Slash q b p h e = subst (λ c. Grows q c p true) (sym h) (on_slash_grows q p e)
+grows_by marks.Comma q b p h e = err_is _ p e
+grows_by marks.Hash q b p h e = err_is _ p e
+grows_by marks.Open q b p h e = err_is _ p e
+grows_by marks.Close q b p h e = err_is _ p e
+grows_by marks.Other q b p h e = err_is _ p e
+
+pub grows : (q : Partial) (b : ℕ) (p : PartReader) → part_step (mark b) (partial_state q) ≡ fine p → Grows q b p (is_plain (mark b))
+grows q b p e = grows_by (mark b) q b p (mark_is b) e
+
+-- what is written up to a whole part
+pub whole_part : (q : Partial) (p : PartReader) → settled (partial_state q) ≡ some_part p → (w : Written) × (partial_text q ≡ part_text w) × (p.row ≡ part_row w)
+whole_part (lead (bare bs) good) p e = absurd cc
+whole_part (lead (sign bs s cs) good) p e = absurd cc
+whole_part (lead (more l t bs s cs) good) p e = absurd cc
+whole_part (digits l good d ds short) p e = (
+  record { lead = l; last = whole (record { first = d; others = ds; short = short }); after = []; good = good; new = tt },
+  ap (λ (x : List ℕ). lead_text l ++ x) (sym (append-nil (d.byte ∷ digits_text ds))),
+  ap (λ (x : PartReader). x.row) (some_is _ p e),
+)
+whole_part (divided l good n) p e = absurd cc
+whole_part (below l good n u) p e = (
+  record { lead = l; last = fraction n u; after = []; good = good; new = tt },
+  ap (λ (x : List ℕ). lead_text l ++ x) (sym (append-nil (term_text (fraction n u)))),
+  ap (λ (x : PartReader). x.row) (some_is _ p e),
+)
+whole_part (behind w) p e = (w, refl, ap (λ (x : PartReader). x.row) (some_is _ p e))
+
+-- a whole coordinate
+pub record WholeCoordinate (q : Partial) (p : PartReader) : Type 0 where
+  pub coordinate : Coordinate
+  pub text : partial_text q ≡ coordinate_text coordinate
+  pub value : p.row.shift ≡ coordinate_value coordinate
+
+shift_is : (p q : PartReader) → some_part p ≡ some_part q → q.row.shift ≡ p.row.shift
+shift_is p q e = ap (λ (x : PartReader). x.row.shift) (some_is p q e)
+
+pub whole_coordinate : (q : Partial) (p : PartReader) → IsLike q → settled (partial_state q) ≡ some_part p → WholeCoordinate q p
+whole_coordinate (lead (bare bs) good) p h e = absurd cc
+whole_coordinate (lead (sign bs s cs) good) p h e = absurd cc
+whole_coordinate (lead (more l t bs s cs) good) p h e = absurd cc
+whole_coordinate (digits l good d ds short) p h e = record {
+  coordinate = record { part = record { lead = l; last = whole (record { first = d; others = ds; short = short }); after = []; good = good; new = tt }; first = h; number = tt };
+  text = ap (λ (x : List ℕ). lead_text l ++ x) (sym (append-nil (d.byte ∷ digits_text ds)));
+  value = shift_is _ p e;
+}
+whole_coordinate (divided l good n) p h e = absurd cc
+whole_coordinate (below l good n u) p h e = record {
+  coordinate = record { part = record { lead = l; last = fraction n u; after = []; good = good; new = tt }; first = h; number = tt };
+  text = ap (λ (x : List ℕ). lead_text l ++ x) (sym (append-nil (term_text (fraction n u))));
+  value = shift_is _ p e;
+}
+whole_coordinate (behind w) p h e = record { coordinate = record { part = w; first = h.0; number = h.1 }; text = refl; value = shift_is _ p e }
+
+-- one digit more
+pub record DigitMore (l : Lead) (d : Digit) (ds : List Digit) (f : Digit) (p : PartReader) : Type 0 where
+  pub short : length (ds ++ f ∷ []) ≤ 2
+  pub state : p ≡ state l (Digits (1 + length (ds ++ f ∷ [])) (decimal (digit_value d) (ds ++ f ∷ [])))
+
+pub digit_more : (l : Lead) (good : IsLead l) (d : Digit) (ds : List Digit) (short : length ds ≤ 2) (f : Digit) (p : PartReader) → on_digit (digit_value f) (partial_state (digits l good d ds short)) ≡ fine p → DigitMore l d ds f p
+digit_more l good d ds short f p e =
+    let h = passed _ _ _ p e in
+    let room = not_three (length ds) h.0 in
+    record {
+      short = omega (arith, length_more ds f, room);
+      state = ok_is _ p h.1 ∙ digits_state l _ _ _ _ (omega (arith, length_more ds f)) (sym (decimal-append (digit_value d) ds f));
+    }

@@ -1,0 +1,189 @@
+-- What a text gives, line by line.
+use Rattle.std.proofs.Common.{◌≡◌, ◌≢◌, ℕ, zero, suc, ◌+◌, ◌-◌, ◌*◌, ◌<◌, ◌≤◌, Bool, true, false, cond, List, [], ◌∷◌, ◌++◌, length, get_or, take, drop, Option, Some, None, Result, Ok, Err, refl, sym, ◌∙◌, ap, subst, arith, inl, inr, ◌⊎◌, append_assoc, length-append, add-one}
+use Rattle.std.specs.Prelude.{slice_get, ◌==◌, IfOk, IfErr}
+use Rattle.std.proofs.lemmas.Bool.Decides.{eqb_tells}
+use Rattle.std.proofs.Math.Seq.{take-length, take-append_seam, take-append-add}
+use Rattle.std.proofs.lemmas.List.{append-nil}
+use Rattle.std.proofs.lemmas.Option.{slice_get_past}
+use Rattle.symmetry.specs.Vectors.{Vector}
+use Rattle.symmetry.specs.Groups.{Listing}
+use Rattle.symmetry.specs.Motions.{Motion}
+use Rattle.motions.specs.Views.{motion_of, parts}
+use Rattle.triplets.specs.Rows.{motion_with, motion3_with, parts_with}
+use Rattle.triplets.specs.declared.fault.TextKind.{TextKind}
+use Rattle.triplets.specs.declared.fault.TextKind.TheVariants as kinds
+use Rattle.motions.specs.declared.motion.Motion3.{Motion3}
+use Rattle.fractions.specs.declared.part.Part.{Part}
+use Rattle.triplets.specs.declared.line.LinePlace.{LinePlace}
+use Rattle.triplets.specs.declared.line.LinePlace.TheVariants as places
+use Rattle.triplets.specs.declared.fault.TextFault.{TextFault}
+use Rattle.triplets.specs.declared.fault.TextFault.TheVariants as faults
+use Rattle.motions.specs.declared.listed.Listed.{Listed}
+use Rattle.triplets.specs.Marks.{mark}
+use Rattle.triplets.specs.Lines.{IsLine}
+use Rattle.triplets.specs.LineReading.{LineState, line_start, line_step, line_advance, line_run, line_value, place_step, completed, with_vector, ending, operations_of, at_place, listing_by}
+use Rattle.triplets.specs.LineFaults.{IsGoodLine, IsPrefixOfGoodLine, IsLinePlace, IsLineFault, HasLineKind, HasLineKindAt}
+use Rattle.triplets.specs.Texts.{with_front, lines_of, nothing_listed, listed_then, AreLines, IsGroupText, IsFirstBad, Fault, IsTextFault}
+use Rattle.triplets.specs.TextReading.{Kept, kept_start, byte_step, moved, new_line, ended, finished, fault_here, with_operation, text_advance, text_run, outcome, group_of, Gives, Refuses}
+use Rattle.triplets.proofs.TextRuns.{keeping, faulty, run_faulty, text_run-append}
+use Rattle.triplets.proofs.LineBegun.{line_going, line_stopped, lists, lists_nothing, line_run-append, run_line_stopped}
+use Rattle.triplets.proofs.LineEnds.{is_line, is_line_prefix}
+use Rattle.triplets.proofs.LineRuns.{IsLineRead, is_line_read}
+use Rattle.triplets.proofs.LineKinds.{line_kind}
+use Rattle.triplets.proofs.LinePlaces.{one_line_value, line_more, no_line_prefix, not_good_line, end_fault, byte_fault, good_line_prefix}
+
+-- what a text gives whose lines before listing this
+abbrev pub IsOutcome : Result Listing Fault → Listing → ℕ → List (List ℕ) → Type 0
+IsOutcome (Ok listing) base n lines = (a : Listing) × AreLines lines a × (listing ≡ listed_then base a)
+IsOutcome (Err f) base n lines = (i : ℕ) × (before : ℕ) × (f.line ≡ n + i) × (f.column ≡ before + 1) × IsFirstBad lines i before f.kind
+
+-- what is kept in a line: the lines before listing base, and what the line listing so far are its vectors
+pub record InLine (k : Kept) (base : Listing) (n : ℕ) (before : List ℕ) (vs : List Vector) : Type 0 where
+  pub ops : k.listing.ops ≡ base.ops
+  pub centrings : k.listing.centrings ≡ base.centrings ++ vs
+  pub line : k.line ≡ n
+  pub column : k.column ≡ length before + 1
+  pub run : line_run (Ok line_start) before ≡ line_going (record { place = k.place; vectors = vs })
+
+abbrev pub make_listing : List Motion → List Vector → Listing
+make_listing x y = record { ops = x; centrings = y }
+
+pub listing_path : (a b : Listing) → a.ops ≡ b.ops → a.centrings ≡ b.centrings → a ≡ b
+listing_path a b e f = ap (λ (x : List Motion). make_listing x a.centrings) e ∙ ap (λ (y : List Vector). make_listing b.ops y) f
+
+outcome_more : (r : Result Listing Fault) (base a : Listing) (n : ℕ) (l : List ℕ) (lines : List (List ℕ)) → IsLine l a → IsOutcome r (listed_then base a) (n + 1) lines → IsOutcome r base n (l ∷ lines)
+outcome_more (Ok listing) base a n l lines h t =
+    (listed_then a t.0, (a, t.0, h, t.1, refl), t.2 ∙ listing_path _ _ (append_assoc base.ops a.ops t.0.ops) (append_assoc base.centrings a.centrings t.0.centrings))
+outcome_more (Err f) base a n l lines h t = (t.0 + 1, t.1, omega (arith, t.2), t.3, rw add-one ((a, h), t.4))
+
+abbrev pub stepped : LinePlace → Result LinePlace TextKind
+stepped p = Ok p
+
+abbrev pub an_ending : Option Motion3 → Option (Option Motion3)
+an_ending o = Some o
+
+abbrev pub no_ending : Option (Option Motion3)
+no_ending = None
+
+-- the line ends
+pub a_line : (k : Kept) (base : Listing) (n : ℕ) (before : List ℕ) (vs : List Vector) (o : Option Motion3) → InLine k base n before vs → ending k.place ≡ an_ending o → IsLine before (make_listing (operations_of o) vs)
+a_line k base n before vs o h e = is_line before (record { place = k.place; vectors = vs }) (make_listing (operations_of o) vs) h.run (ap (λ (x : Option (Option Motion3)). listing_by x vs) e)
+
+pub bad_line : (k : Kept) (base : Listing) (n : ℕ) (before : List ℕ) (vs : List Vector) → InLine k base n before vs → ending k.place ≡ no_ending → IsLineFault (before ++ []) (length before) kinds.MissingPart
+bad_line k base n before vs h e =
+    subst (λ (x : List ℕ). IsLineFault x (length before) kinds.MissingPart) (sym (append-nil before))
+    (end_fault before (record { place = k.place; vectors = vs }) h.run (ap (λ (x : Option (Option Motion3)). listing_by x vs) e))
+
+bad_end : (k : Kept) (base : Listing) (n : ℕ) (before : List ℕ) (vs : List Vector) (ls : List (List ℕ)) → InLine k base n before vs → ending k.place ≡ no_ending → IsOutcome (Err (fault_here k kinds.MissingPart)) base n ((before ++ []) ∷ ls)
+bad_end k base n before vs ls h e = (
+  0,
+  length before,
+  omega (arith, h.line),
+  h.column,
+  bad_line k base n before vs h e,
+)
+
+pub ended_is : (k : Kept) (base : Listing) (n : ℕ) (before : List ℕ) (vs : List Vector) (o : Option Motion3) → InLine k base n before vs → with_operation o k.listing ≡ listed_then base (make_listing (operations_of o) vs)
+ended_is k base n before vs o h = listing_path _ _ (ap (λ (x : List Motion). x ++ operations_of o) h.ops) h.centrings
+
+last_line : (o : Option (Option Motion3)) (k : Kept) (base : Listing) (n : ℕ) (before : List ℕ) (vs : List Vector) → InLine k base n before vs → ending k.place ≡ o → IsOutcome (ended o k) base n ((before ++ []) ∷ [])
+last_line None k base n before vs h e = bad_end k base n before vs [] h e
+last_line (Some o) k base n before vs h e =
+    let a = make_listing (operations_of o) vs in
+    outcome_more (Ok (with_operation o k.listing)) base a n (before ++ []) [] (subst (λ (x : List ℕ). IsLine x a) (sym (append-nil before)) (a_line k base n before vs o h e))
+    (nothing_listed, refl, ended_is k base n before vs o h ∙ listing_path _ _ (sym (append-nil _)) (sym (append-nil _)))
+
+front_nil_at : (b : ℕ) (t : Bool) (xs ys : List (List ℕ)) → with_front [] (cond t ([] ∷ xs) (with_front (b ∷ []) ys)) ≡ cond t ([] ∷ xs) (with_front (b ∷ []) ys)
+front_nil_at b true xs ys = refl
+front_nil_at b false xs [] = refl
+front_nil_at b false xs (y ∷ ys) = refl
+
+pub front_nil : (bs : List ℕ) → with_front [] (lines_of bs) ≡ lines_of bs
+front_nil [] = refl
+front_nil (b ∷ bs) = front_nil_at b (b == 10) (lines_of bs) (lines_of bs)
+
+pub front_front : (xs ys : List ℕ) (ls : List (List ℕ)) → with_front (xs ++ ys) ls ≡ with_front xs (with_front ys ls)
+front_front xs ys [] = refl
+front_front xs ys (l ∷ ls) = ap (λ (x : List ℕ). x ∷ ls) (append_assoc xs ys l)
+
+pub first_bad : (ls : List (List ℕ)) (before : List ℕ) (b : ℕ) (s : LineState) (k : TextKind) → line_run (Ok line_start) before ≡ line_going s → line_step (mark b) s ≡ line_stopped k →
+    IsFirstBad (with_front before (with_front (b ∷ []) ls)) 0 (length before) k
+first_bad [] before b s k w e = byte_fault before [] b s k w e
+first_bad (l ∷ ls) before b s k w e = byte_fault before l b s k w e
+
+pub vectors_more : (v : Option (List Part)) (xs ys zs : List Vector) → xs ≡ ys ++ zs → with_vector v xs ≡ ys ++ with_vector v zs
+vectors_more None xs ys zs e = e
+vectors_more (Some v) xs ys zs e = ap (λ (x : List Vector). x ++ parts v ∷ []) e ∙ append_assoc ys zs (parts v ∷ [])
+
+-- the induction hypothesis
+abbrev ReadAfter : List ℕ → Type 0
+ReadAfter bs = (k : Kept) (base : Listing) (n : ℕ) (before : List ℕ) (vs : List Vector) → InLine k base n before vs → IsOutcome (outcome (text_run (Ok k) bs)) base n (with_front before (lines_of bs))
+
+-- what is kept behind the LF
+abbrev pub at_next_line : Option Motion3 → Kept → Kept
+at_next_line o k = record { listing = with_operation o k.listing; line = k.line + 1; column = 1; place = places.Start }
+
+pub next_line : (o : Option Motion3) (k : Kept) (base : Listing) (n : ℕ) (before : List ℕ) (vs : List Vector) → InLine k base n before vs →
+    InLine (at_next_line o k) (listed_then base (make_listing (operations_of o) vs)) (n + 1) [] []
+next_line o k base n before vs h =
+    let s = ended_is k base n before vs o h in
+    record {
+      ops = ap (λ (x : Listing). x.ops) s;
+      centrings = ap (λ (x : Listing). x.centrings) s ∙ sym (append-nil _);
+      line = ap (λ m. m + 1) h.line;
+      column = refl;
+      run = refl;
+    }
+
+-- what is kept behind another byte
+abbrev pub at_next_byte : ℕ → LinePlace → Kept → Kept
+at_next_byte b p k = record { listing = record k.listing { centrings = with_vector (completed (mark b) k.place) k.listing.centrings }; line = k.line; column = k.column + 1; place = p }
+
+pub next_byte : (b : ℕ) (p : LinePlace) (k : Kept) (base : Listing) (n : ℕ) (before : List ℕ) (vs : List Vector) → InLine k base n before vs → place_step (mark b) k.place ≡ stepped p →
+    InLine (at_next_byte b p k) base n (before ++ b ∷ []) (with_vector (completed (mark b) k.place) vs)
+next_byte b p k base n before vs h e = record {
+  ops = h.ops;
+  centrings = vectors_more (completed (mark b) k.place) k.listing.centrings base.centrings vs h.centrings;
+  line = h.line;
+  column = omega (arith, h.column, length-append before (b ∷ []));
+  run = line_more before b (record { place = k.place; vectors = vs }) _ h.run (ap (λ (x : Result LinePlace TextKind). at_place x (with_vector (completed (mark b) k.place) vs)) e);
+}
+
+outcome_line : (o : Option (Option Motion3)) (bs : List ℕ) (k : Kept) (base : Listing) (n : ℕ) (before : List ℕ) (vs : List Vector) → ReadAfter bs → InLine k base n before vs → ending k.place ≡ o →
+    IsOutcome (outcome (text_run (new_line (ended o k) k) bs)) base n ((before ++ []) ∷ lines_of bs)
+outcome_line None bs k base n before vs further h e =
+    subst (λ r. IsOutcome (outcome r) base n ((before ++ []) ∷ lines_of bs)) (sym (run_faulty (fault_here k kinds.MissingPart) bs)) (bad_end k base n before vs (lines_of bs) h e)
+outcome_line (Some o) bs k base n before vs further h e =
+    let a = make_listing (operations_of o) vs in
+    let k' = at_next_line o k in
+    let t = further k' (listed_then base a) (n + 1) [] [] (next_line o k base n before vs h) in
+    outcome_more (outcome (text_run (Ok k') bs)) base a n (before ++ []) (lines_of bs) (subst (λ (x : List ℕ). IsLine x a) (sym (append-nil before)) (a_line k base n before vs o h e))
+    (subst (λ ls. IsOutcome (outcome (text_run (Ok k') bs)) (listed_then base a) (n + 1) ls) (front_nil bs) t)
+
+outcome_moved : (r : Result LinePlace TextKind) (b : ℕ) (bs : List ℕ) (k : Kept) (base : Listing) (n : ℕ) (before : List ℕ) (vs : List Vector) → ReadAfter bs → InLine k base n before vs → place_step (mark b) k.place ≡ r →
+    IsOutcome (outcome (text_run (moved r (completed (mark b) k.place) k) bs)) base n (with_front before (with_front (b ∷ []) (lines_of bs)))
+outcome_moved (Err kind) b bs k base n before vs further h e =
+    subst (λ r. IsOutcome (outcome r) base n (with_front before (with_front (b ∷ []) (lines_of bs)))) (sym (run_faulty (fault_here k kind) bs)) (
+      0,
+      length before,
+      omega (arith, h.line),
+      h.column,
+      first_bad (lines_of bs) before b (record { place = k.place; vectors = vs }) kind h.run (ap (λ (x : Result LinePlace TextKind). at_place x (with_vector (completed (mark b) k.place) vs)) e),
+    )
+outcome_moved (Ok p) b bs k base n before vs further h e =
+    let k' = at_next_byte b p k in
+    subst (λ ls. IsOutcome (outcome (text_run (Ok k') bs)) base n ls) (front_front before (b ∷ []) (lines_of bs))
+    (further k' base n (before ++ b ∷ []) (with_vector (completed (mark b) k.place) vs) (next_byte b p k base n before vs h e))
+
+outcome_byte : (t : Bool) (b : ℕ) (bs : List ℕ) (k : Kept) (base : Listing) (n : ℕ) (before : List ℕ) (vs : List Vector) → ReadAfter bs → InLine k base n before vs →
+    IsOutcome (outcome (text_run (cond t (new_line (finished k) k) (moved (place_step (mark b) k.place) (completed (mark b) k.place) k)) bs)) base n (with_front before (cond t ([] ∷ lines_of bs) (with_front (b ∷ []) (lines_of bs))))
+outcome_byte true b bs k base n before vs further h = outcome_line (ending k.place) bs k base n before vs further h refl
+outcome_byte false b bs k base n before vs further h = outcome_moved (place_step (mark b) k.place) b bs k base n before vs further h refl
+
+pub outcome_all : (bs : List ℕ) → ReadAfter bs
+outcome_all [] k base n before vs h = last_line (ending k.place) k base n before vs h refl
+outcome_all (b ∷ bs) k base n before vs h = outcome_byte (b == 10) b bs k base n before vs (outcome_all bs) h
+
+pub outcome_is : (bytes : List ℕ) → IsOutcome (group_of bytes) nothing_listed 1 (lines_of bytes)
+outcome_is bytes = subst (λ ls. IsOutcome (group_of bytes) nothing_listed 1 ls) (front_nil bytes)
+    (outcome_all bytes kept_start nothing_listed 1 [] [] (record { ops = refl; centrings = refl; line = refl; column = refl; run = refl }))

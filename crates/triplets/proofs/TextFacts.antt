@@ -1,0 +1,119 @@
+-- Reading in pieces.
+use Rattle.std.proofs.Common.{◌≡◌, ◌≢◌, ℕ, suc, ◌+◌, ◌-◌, ◌*◌, ◌<◌, ◌≤◌, Bool, true, false, cond, List, [], ◌∷◌, ◌++◌, length, get_or, take, drop, Option, Some, None, Result, Ok, Err, refl, sym, ◌∙◌, ap, subst, arith, inl, inr, ◌⊎◌, add-one, append_assoc, length-append}
+use Rattle.std.proofs.Math.Seq.{take-suc, take-length}
+use Rattle.std.proofs.lemmas.List.{take-append-drop, append-nil, length-take-le}
+use Rattle.symmetry.specs.Vectors.{Vector}
+use Rattle.symmetry.specs.Groups.{Listing}
+use Rattle.symmetry.specs.Motions.{Motion}
+use Rattle.motions.specs.Views.{motion_of, parts}
+use Rattle.triplets.specs.Rows.{motion_with, motion3_with, parts_with}
+use Rattle.triplets.specs.declared.fault.TextKind.{TextKind}
+use Rattle.triplets.specs.declared.line.LinePlace.{LinePlace}
+use Rattle.triplets.specs.declared.fault.TextFault.{TextFault}
+use Rattle.triplets.specs.declared.fault.TextFault.TheVariants as faults
+use Rattle.triplets.specs.declared.text.LineReader.{LineReader}
+use Rattle.triplets.specs.LineReading.{IsPlaceSmall}
+use Rattle.triplets.specs.Texts.{Fault}
+use Rattle.triplets.specs.TextReading.{Kept, kept_start, kept, byte_step, text_advance, text_run, kept_or, Stands, Refuses}
+use Rattle.triplets.proofs.TextRuns.{keeping, faulty, run_faulty, text_run-append}
+
+-- one more byte
+pub text_more : (text piece : List ℕ) (i : ℕ) (k : Kept) (r : Result Kept Fault) → i < length piece → text_run (Ok kept_start) (text ++ take i piece) ≡ keeping k → byte_step (get_or piece i 0) k ≡ r →
+    text_run (Ok kept_start) (text ++ take (i + 1) piece) ≡ r
+text_more text piece i k r h w e =
+    ap (λ (x : List ℕ). text_run (Ok kept_start) (text ++ x)) (let z : take (i + 1) piece ≡ take i piece ++ (get_or piece i 0 ∷ []) = rw add-one (take-suc piece i 0 h) in z)
+    ∙ (ap (text_run (Ok kept_start)) (sym (append_assoc text (take i piece) (get_or piece i 0 ∷ [])))
+    ∙ (text_run-append (Ok kept_start) (text ++ take i piece) (get_or piece i 0 ∷ [])
+    ∙ (ap (λ (x : Result Kept Fault). text_advance x (get_or piece i 0)) w ∙ e)))
+
+pub text_all : (text piece : List ℕ) (i : ℕ) (f : Fault) → text_run (Ok kept_start) (text ++ take i piece) ≡ faulty f → text_run (Ok kept_start) (text ++ piece) ≡ faulty f
+text_all text piece i f w =
+    ap (λ (x : List ℕ). text_run (Ok kept_start) (text ++ x)) (sym (take-append-drop i piece))
+    ∙ (ap (text_run (Ok kept_start)) (sym (append_assoc text (take i piece) (drop i piece)))
+    ∙ (text_run-append (Ok kept_start) (text ++ take i piece) (drop i piece)
+    ∙ (ap (λ (x : Result Kept Fault). text_run x (drop i piece)) w ∙ run_faulty f (drop i piece))))
+
+pub text_fault : (text piece : List ℕ) (i : ℕ) (k : Kept) (f : Fault) → i < length piece → text_run (Ok kept_start) (text ++ take i piece) ≡ keeping k → byte_step (get_or piece i 0) k ≡ faulty f →
+    text_run (Ok kept_start) (text ++ piece) ≡ faulty f
+text_fault text piece i k f h w e = text_all text piece (i + 1) f (text_more text piece i k (faulty f) h w e)
+
+abbrev pub a_fault : TextFault → Option TextFault
+a_fault e = Some e
+
+-- before a fault
+pub stands_kept : (r : LineReader) (text : List ℕ) → Stands r text → r.fault ≡ None → text_run (Ok kept_start) text ≡ keeping (kept r)
+stands_kept r text h e = h.run_is ∙ ap (λ (o : Option TextFault). kept_or o (kept r)) e
+
+pub stands_nothing : (r : LineReader) (text piece : List ℕ) → Stands r text → r.fault ≡ None → text_run (Ok kept_start) (text ++ take 0 piece) ≡ keeping (kept r)
+stands_nothing r text piece h e = ap (text_run (Ok kept_start)) (append-nil text) ∙ stands_kept r text h e
+
+-- a fault that was answered is that of the text
+pub stands_refuses : (r : LineReader) (e : TextFault) (text : List ℕ) → r.fault ≡ a_fault e → Stands r text → Refuses e (text_run (Ok kept_start) text)
+stands_refuses r faults.NoMemory text h s = tt
+stands_refuses r (faults.At l c k) text h s = s.run_is ∙ ap (λ (o : Option TextFault). kept_or o (kept r)) h
+
+-- what a call answered
+
+pub gives_along : {B D : Type 0} (e : TextFault) (r : Result B Fault) (s : Result D Fault) → ((f : Fault) → r ≡ Err f → s ≡ Err f) → Refuses e r → Refuses e s
+gives_along faults.NoMemory r s f h = tt
+gives_along (faults.At l c k) r s f h = f (record { line = l; column = c; kind = k }) h
+
+abbrev some_fault : TextFault → Option TextFault
+some_fault e = Some e
+
+abbrev no_fault : Option TextFault
+no_fault = None
+
+-- a fault is kept
+pub stands_fault : (r : LineReader) (e : TextFault) (b : Result Kept Fault) (text : List ℕ) → r.fault ≡ Some e → r.fed ≡ length text → Refuses e b → ((f : Fault) → b ≡ Err f → text_run (Ok kept_start) text ≡ Err f) →
+    (e ≡ faults.NoMemory) ⊎ Stands r text
+stands_fault r faults.NoMemory b text h n g f = inl refl
+stands_fault r (faults.At l c k) b text h n g f = inr (record {
+  run_is = f (record { line = l; column = c; kind = k }) g ∙ sym (ap (λ (o : Option TextFault). kept_or o (kept r)) h);
+  fed = n;
+  memory = λ z. let y : some_fault (faults.At l c k) ≡ some_fault faults.NoMemory = sym h ∙ z in cc;
+})
+
+memory_or : (e : TextFault) → (e ≡ faults.NoMemory) ⊎ (e ≢ faults.NoMemory)
+memory_or faults.NoMemory = inl refl
+memory_or (faults.At l c k) = inr (λ z. cc)
+
+pub err_stands : (r q : LineReader) (e : TextFault) (b : Result Kept Fault) (piece : List ℕ) → q.fault ≡ Some e → q.fed ≡ r.fed + length piece → Refuses e b →
+    ((text : List ℕ) (f : Fault) → Stands r text → b ≡ Err f → text_run (Ok kept_start) (text ++ piece) ≡ Err f) →
+    ((let z : Result (Unit {0}) TextFault = Err e in z) ≡ Err faults.NoMemory) ⊎ ((text : List ℕ) → Stands r text → Stands q (text ++ piece))
+err_stands r q e b piece h n g f =
+    elim (memory_or e) [
+      | inl z ↦ inl (ap (λ x. Err x) z)
+      | inr z ↦ inr (λ text s.
+          elim (stands_fault q e b (text ++ piece) h (n ∙ (ap (λ m. m + length piece) s.fed ∙ sym (length-append text piece))) g (λ t w. f text t s w)) [
+            | inl y ↦ absurd (z y)
+            | inr y ↦ y
+          ])
+    ]
+
+-- a fault answered before is answered again
+pub again : (r : LineReader) (e : TextFault) (text piece : List ℕ) → r.fault ≡ a_fault e → Stands r text → Refuses e (text_run (Ok kept_start) (text ++ piece))
+again r faults.NoMemory text piece h s = tt
+again r (faults.At l c k) text piece h s =
+    text_run-append (Ok kept_start) text piece
+    ∙ (ap (λ (x : Result Kept Fault). text_run x piece) (s.run_is ∙ ap (λ (o : Option TextFault). kept_or o (kept r)) h)
+    ∙ run_faulty (record { line = l; column = c; kind = k }) piece)
+
+pub again_stands : (r q : LineReader) (e : TextFault) (text piece : List ℕ) → r.fault ≡ a_fault e → q.fault ≡ r.fault → q.fed ≡ r.fed + length piece → Stands r text → Stands q (text ++ piece)
+again_stands r q faults.NoMemory text piece h i n s = absurd (s.memory h)
+again_stands r q (faults.At l c k) text piece h i n s = record {
+  run_is = again r (faults.At l c k) text piece h s ∙ sym (ap (λ (o : Option TextFault). kept_or o (kept q)) (i ∙ h));
+  fed = n ∙ (ap (λ m. m + length piece) s.fed ∙ sym (length-append text piece));
+  memory = λ z. s.memory (sym i ∙ z);
+}
+
+pub all_read : (text piece : List ℕ) (i : ℕ) (k : Kept) → i ≡ length piece → text_run (Ok kept_start) (text ++ take i piece) ≡ keeping k → text_run (Ok kept_start) (text ++ piece) ≡ keeping k
+all_read text piece i k e w = ap (λ (x : List ℕ). text_run (Ok kept_start) (text ++ x)) (sym (ap (λ m. take m piece) e ∙ take-length piece)) ∙ w
+
+-- the whole piece is read
+pub stands_all : (r q : LineReader) (text piece : List ℕ) (i : ℕ) → i ≡ length piece → text_run (Ok kept_start) (text ++ take i piece) ≡ keeping (kept q) → q.fault ≡ None → q.fed ≡ r.fed + length piece → Stands r text → Stands q (text ++ piece)
+stands_all r q text piece i e w f n s = record {
+  run_is = all_read text piece i (kept q) e w ∙ sym (ap (λ (o : Option TextFault). kept_or o (kept q)) f);
+  fed = n ∙ (ap (λ m. m + length piece) s.fed ∙ sym (length-append text piece));
+  memory = λ z. let y : no_fault ≡ a_fault faults.NoMemory = sym f ∙ z in cc;
+}

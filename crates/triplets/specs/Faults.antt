@@ -1,0 +1,84 @@
+-- The place and the kind of a fault.
+use Rattle.std.specs.Prelude.{◌≡◌, ◌⊎◌, ℕ, ◌+◌, ◌-◌, ◌<◌, ◌≤◌, ◌==◌, ◌&&◌, ◌||◌, nat_le, Bool, true, false, if◌then◌else◌, IsTrue, List, [], ◌∷◌, ◌++◌, length, take, slice_get, Option, Some, None}
+use Rattle.triplets.specs.declared.marks.Axis.{Axis}
+use Rattle.triplets.specs.declared.marks.Axis.TheVariants.{X, Y, Z}
+use Rattle.triplets.specs.declared.fault.TextKind.{TextKind}
+use Rattle.triplets.specs.declared.fault.TextKind.TheVariants as kinds
+use Rattle.symmetry.specs.Motions.{Motion}
+use Rattle.triplets.specs.Grammar.{IsTriplet}
+
+abbrev pub IsGood : List ℕ → Type 0
+IsGood bytes = (value : Motion) × IsTriplet bytes value
+
+abbrev pub IsPrefixOfGood : List ℕ → Type 0
+IsPrefixOfGood bytes = (more : List ℕ) × IsGood (bytes ++ more)
+
+-- what stands before is a prefix of a good text, and with the byte at the place, if there is one, it is not
+pub record IsPlace (bytes : List ℕ) (before : ℕ) : Type 0 where
+  pub within : before ≤ length bytes
+  pub good : ¬ IsGood bytes
+  pub prefix : IsPrefixOfGood (take before bytes)
+  pub here : before < length bytes → ¬ IsPrefixOfGood (take (before + 1) bytes)
+
+-- Words on what stands before a place.
+
+abbrev pub is_digit : ℕ → Bool
+is_digit b = nat_le 48 b && nat_le b 57
+
+abbrev pub is_blank : ℕ → Bool
+is_blank b = b == 32 || (b == 9 || b == 13)
+
+abbrev pub is_letter : Axis → ℕ → Bool
+is_letter X b = b == 120 || b == 88
+is_letter Y b = b == 121 || b == 89
+is_letter Z b = b == 122 || b == 90
+
+-- the last byte that is no blank; n if there is none
+abbrev pub last_mark : ℕ → List ℕ → ℕ
+last_mark n [] = n
+last_mark n (b ∷ bs) = last_mark (if is_blank b then n else b) bs
+
+-- the last byte that is no digit; n if there is none
+abbrev pub last_other : ℕ → List ℕ → ℕ
+last_other n [] = n
+last_other n (b ∷ bs) = last_other (if is_digit b then n else b) bs
+
+-- how many digits stand at the end, with n before the text
+abbrev pub digits_at_end : ℕ → List ℕ → ℕ
+digits_at_end n [] = n
+digits_at_end n (b ∷ bs) = digits_at_end (if is_digit b then n + 1 else 0) bs
+
+-- whether a letter stands behind the last comma; before the text it does if h
+abbrev pub stands : Axis → Bool → List ℕ → Bool
+stands a h [] = h
+stands a h (b ∷ bs) = stands a (if b == 44 then false else (if is_letter a b then true else h)) bs
+
+-- The table: the first row that applies.
+abbrev pub Row : Type 0 → TextKind → TextKind → Type 0 → Type 0
+Row applies named kind otherwise = (applies × (kind ≡ named)) ⊎ ((applies → ⊥) × otherwise)
+
+abbrev pub IsRepeated : List ℕ → ℕ → Type 0
+IsRepeated before b = (a : Axis) × IsTrue (is_letter a b) × IsTrue (stands a false before)
+
+abbrev pub IsLetter : ℕ → Type 0
+IsLetter b = (a : Axis) × IsTrue (is_letter a b)
+
+-- the kind at the byte b
+abbrev pub HasKind : List ℕ → ℕ → TextKind → Type 0
+HasKind before b kind =
+    Row ((b ≡ 35) × ¬ IsGood before) kinds.MissingPart kind (
+    Row ((b ≡ 44) × IsGood before) kinds.ExtraPart kind (
+    Row ((b ≡ 44) × (last_mark 44 before ≡ 44)) kinds.Empty kind (
+    Row (IsRepeated before b) kinds.Repeated kind (
+    Row (IsLetter b × (1 ≤ digits_at_end 0 before)) kinds.Coefficient kind (
+    Row (IsTrue (is_digit b) × (last_other 0 before ≡ 47)) kinds.Denominator kind (
+    Row (IsTrue (is_digit b) × (3 ≤ digits_at_end 0 before)) kinds.Coefficient kind (
+    kind ≡ kinds.UnknownSign)))))))
+
+abbrev pub HasKindAt : List ℕ → Option ℕ → TextKind → Type 0
+HasKindAt before None kind = kind ≡ kinds.MissingPart
+HasKindAt before (Some b) kind = HasKind before b kind
+
+pub record IsFault (bytes : List ℕ) (before : ℕ) (kind : TextKind) : Type 0 where
+  pub place : IsPlace bytes before
+  pub kind_is : HasKindAt (take before bytes) (slice_get bytes before) kind

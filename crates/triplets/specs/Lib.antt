@@ -1,0 +1,15 @@
+pub mod Marks
+pub mod Denominators
+pub mod Rows
+pub mod Grammar
+pub mod Faults
+pub mod PartReading
+pub mod TripletReading
+pub mod Lines
+pub mod LineFaults
+pub mod LineReading
+pub mod Sizes
+pub mod Texts
+pub mod TextAnswers
+pub mod PlaceBounds
+pub mod TextReading

@@ -1,0 +1,51 @@
+-- How large the numbers are that a reader keeps, by how many bytes it has read of the line.
+use Rattle.std.specs.Prelude.{ℕ, ◌*◌, ◌<◌, ◌≤◌, nat_abs}
+use Rattle.std.specs.Coded.{×_prop, →_prop, Unit-prop, le_prop}
+use Rattle.triplets.specs.declared.part.Row.{Row}
+use Rattle.triplets.specs.declared.part.PartReader.{PartReader}
+use Rattle.triplets.specs.declared.part.Spot.{Spot}
+use Rattle.triplets.specs.declared.part.Spot.TheVariants.{Begin, Signed, Digits, Divided, Below, Behind}
+use Rattle.triplets.specs.declared.line.LinePlace.{LinePlace}
+use Rattle.triplets.specs.declared.line.LinePlace.TheVariants as places
+use Rattle.triplets.specs.Denominators.{unit}
+
+-- each byte moves by less than a thousand cell edges
+abbrev pub IsRowWithin : ℕ → Row → Type 0
+IsRowWithin n r = nat_abs r.shift ≤ 1000 * unit * n
+
+-- a numerator has one to three digits
+abbrev pub IsSpotWithin : Spot → Type 0
+IsSpotWithin (Digits n v) = (1 ≤ n) × ((n ≤ 3) × ((v < 1000) × ((n ≤ 2 → v < 100) × (n ≤ 1 → v < 10))))
+IsSpotWithin (Divided v) = v < 1000
+IsSpotWithin (Below v d) = v < 1000
+IsSpotWithin Begin = Unit {0}
+IsSpotWithin Signed = Unit {0}
+IsSpotWithin Behind = Unit {0}
+
+abbrev pub IsPartWithin : ℕ → PartReader → Type 0
+IsPartWithin n p = IsRowWithin n p.row × IsSpotWithin p.spot
+
+abbrev pub IsPlaceWithin : ℕ → LinePlace → Type 0
+IsPlaceWithin n (places.Operation t) = IsPartWithin n t.part
+IsPlaceWithin n (places.Coordinates v) = IsPartWithin n v.part
+IsPlaceWithin n places.Start = Unit {0}
+IsPlaceWithin n (places.Closed v) = Unit {0}
+IsPlaceWithin n places.Behind = Unit {0}
+IsPlaceWithin n (places.Comment o) = Unit {0}
+
+IsSpotWithin-prop : (s : Spot) → IsProp (IsSpotWithin s)
+IsSpotWithin-prop (Digits n v) = ×_prop le_prop (×_prop le_prop (×_prop le_prop (×_prop (→_prop le_prop) (→_prop le_prop))))
+IsSpotWithin-prop (Divided v) = le_prop
+IsSpotWithin-prop (Below v d) = le_prop
+IsSpotWithin-prop Begin = Unit-prop
+IsSpotWithin-prop Signed = Unit-prop
+IsSpotWithin-prop Behind = Unit-prop
+
+-- there is one proof of it at most
+pub IsPlaceWithin-prop : (n : ℕ) (p : LinePlace) → IsProp (IsPlaceWithin n p)
+IsPlaceWithin-prop n (places.Operation t) = ×_prop le_prop (IsSpotWithin-prop t.part.spot)
+IsPlaceWithin-prop n (places.Coordinates v) = ×_prop le_prop (IsSpotWithin-prop v.part.spot)
+IsPlaceWithin-prop n places.Start = Unit-prop
+IsPlaceWithin-prop n (places.Closed v) = Unit-prop
+IsPlaceWithin-prop n places.Behind = Unit-prop
+IsPlaceWithin-prop n (places.Comment o) = Unit-prop

@@ -1,0 +1,39 @@
+-- What the calls answer, as the grammar of a group text says it.
+use Rattle.std.specs.Prelude.{◌≡◌, ℕ, List, Result, Ok, Err, IfOk, IfErr}
+use Rattle.motions.specs.declared.listed.Listed.{Listed}
+use Rattle.motions.specs.Views.{listing_of}
+use Rattle.symmetry.specs.Groups.{Listing}
+use Rattle.triplets.specs.declared.fault.TextFault.{TextFault}
+use Rattle.triplets.specs.declared.fault.TextFault.TheVariants as faults
+use Rattle.triplets.specs.Texts.{IsGroupText, Fault, IsTextFault, IsShownFault}
+
+-- it is no fault, or memory ran out
+abbrev pub IsMemory : TextFault → Type 0
+IsMemory faults.NoMemory = Unit {0}
+IsMemory (faults.At line column kind) = ⊥
+
+-- what is answered lists this, or memory ran out
+abbrev pub Lists : Result Listed TextFault → Listing → Type 0
+Lists (Ok listed) g = listing_of listed ≡ g
+Lists (Err fault) g = IsMemory fault
+
+-- the first fault of the text, or memory ran out
+abbrev pub IsFaultOf : List ℕ → TextFault → Type 0
+IsFaultOf text faults.NoMemory = Unit {0}
+IsFaultOf text (faults.At line column kind) = IsTextFault text (record { line = line; column = column; kind = kind })
+
+-- what a reader answers to a whole text
+pub record IsAnswer (text : List ℕ) (answer : Result Listed TextFault) : Type 0 where
+  pub found : IfOk answer (λ listed. IsGroupText text (listing_of listed))
+  pub only : (g : Listing) → IsGroupText text g → Lists answer g
+  pub fault : IfErr answer (IsFaultOf text)
+
+-- the first fault that a text shows, or memory ran out
+abbrev pub IsShownBy : List ℕ → TextFault → Type 0
+IsShownBy text faults.NoMemory = Unit {0}
+IsShownBy text (faults.At line column kind) = IsShownFault text (record { line = line; column = column; kind = kind })
+
+-- what a reader answers to a text that may go on
+pub record IsAnswerSoFar (text : List ℕ) (answer : Result (Unit {0}) TextFault) : Type 0 where
+  pub none : IfOk answer (λ _. (f : Fault) → ¬ IsShownFault text f)
+  pub fault : IfErr answer (IsShownBy text)

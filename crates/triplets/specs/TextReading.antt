@@ -1,0 +1,111 @@
+-- What the reader of a group text does.
+use Rattle.std.specs.Prelude.{◌≡◌, ℕ, ◌+◌, ◌≤◌, ◌==◌, if◌then◌else◌, List, [], ◌∷◌, ◌++◌, length, Option, Some, None, Result, Ok, Err}
+use Rattle.triplets.specs.declared.marks.Mark.{Mark}
+use Rattle.triplets.specs.declared.fault.TextKind.{TextKind}
+use Rattle.triplets.specs.declared.fault.TextKind.TheVariants as kinds
+use Rattle.motions.specs.declared.motion.Motion3.{Motion3}
+use Rattle.fractions.specs.declared.part.Part.{Part}
+use Rattle.triplets.specs.declared.line.LinePlace.{LinePlace}
+use Rattle.triplets.specs.declared.line.LinePlace.TheVariants as places
+use Rattle.triplets.specs.declared.fault.TextFault.{TextFault}
+use Rattle.triplets.specs.declared.fault.TextFault.TheVariants as faults
+use Rattle.triplets.specs.declared.text.LineReader.{LineReader}
+use Rattle.motions.specs.declared.listed.Listed.{Listed}
+use Rattle.triplets.specs.Marks.{mark}
+use Rattle.symmetry.specs.Groups.{Listing}
+use Rattle.motions.specs.Views.{motion_of, parts, listing_of}
+use Rattle.triplets.specs.LineReading.{place_step, completed, with_vector, ending, operations_of}
+use Rattle.triplets.specs.Texts.{Fault, nothing_listed, IsTextFault}
+
+-- what is kept of the text so far
+pub record Kept : Type 0 where
+  pub listing : Listing
+  pub line : ℕ
+  pub column : ℕ
+  pub place : LinePlace
+
+abbrev pub kept_start : Kept
+kept_start = record { listing = nothing_listed; line = 1; column = 1; place = places.Start }
+
+abbrev pub fault_here : Kept → TextKind → Fault
+fault_here k kind = record { line = k.line; column = k.column; kind = kind }
+
+abbrev pub with_operation : Option Motion3 → Listing → Listing
+with_operation o listing = record listing { ops = listing.ops ++ operations_of o }
+
+-- what is listing when the text or the line ends here
+abbrev pub ended : Option (Option Motion3) → Kept → Result Listing Fault
+ended None k = Err (fault_here k kinds.MissingPart)
+ended (Some o) k = Ok (with_operation o k.listing)
+
+abbrev pub finished : Kept → Result Listing Fault
+finished k = ended (ending k.place) k
+
+abbrev pub new_line : Result Listing Fault → Kept → Result Kept Fault
+new_line (Err f) k = Err f
+new_line (Ok listing) k = Ok (record { listing = listing; line = k.line + 1; column = 1; place = places.Start })
+
+abbrev pub moved : Result LinePlace TextKind → Option (List Part) → Kept → Result Kept Fault
+moved (Err kind) v k = Err (fault_here k kind)
+moved (Ok p) v k = Ok (record { listing = record k.listing { centrings = with_vector v k.listing.centrings }; line = k.line; column = k.column + 1; place = p })
+
+abbrev pub byte_step : ℕ → Kept → Result Kept Fault
+byte_step b k = if b == 10 then new_line (finished k) k else moved (place_step (mark b) k.place) (completed (mark b) k.place) k
+
+abbrev pub text_advance : Result Kept Fault → ℕ → Result Kept Fault
+text_advance (Err f) b = Err f
+text_advance (Ok k) b = byte_step b k
+
+abbrev pub text_run : Result Kept Fault → List ℕ → Result Kept Fault
+text_run r [] = r
+text_run r (b ∷ bs) = text_run (text_advance r b) bs
+
+abbrev pub outcome : Result Kept Fault → Result Listing Fault
+outcome (Err f) = Err f
+outcome (Ok k) = finished k
+
+-- what the bytes of a whole text give
+abbrev pub group_of : List ℕ → Result Listing Fault
+group_of bytes = outcome (text_run (Ok kept_start) bytes)
+
+-- what a reader has kept
+abbrev pub kept : LineReader → Kept
+kept r = record { listing = listing_of r.listed; line = r.line; column = r.column; place = r.place }
+
+-- how many bytes it was fed
+abbrev pub bytes_fed : LineReader → ℕ
+bytes_fed r = r.fed
+
+-- the fault that it answered
+abbrev pub fault_answered : LineReader → Option TextFault
+fault_answered r = r.fault
+
+abbrev pub kept_or : Option TextFault → Kept → Result Kept Fault
+kept_or None k = Ok k
+kept_or (Some (faults.At line column kind)) k = Err (record { line = line; column = column; kind = kind })
+kept_or (Some faults.NoMemory) k = Ok k
+
+-- The reader has read this text, and no memory ran out.
+pub record Stands (r : LineReader) (text : List ℕ) : Type 0 where
+  pub run_is : text_run (Ok kept_start) text ≡ kept_or r.fault (kept r)
+  pub fed : r.fed ≡ length text
+  pub memory : r.fault ≡ Some faults.NoMemory → ⊥
+
+-- this fault is given, unless it is one of memory
+abbrev pub Refuses : {B : Type 0} → TextFault → Result B Fault → Type 0
+Refuses faults.NoMemory r = Unit {0}
+Refuses (faults.At line column kind) r = r ≡ Err (record { line = line; column = column; kind = kind })
+
+-- a call answers what is given, unless memory ran out
+abbrev pub Gives : {A B : Type 0} → (A → B) → Result A TextFault → Result B Fault → Type 0
+Gives view (Ok x) r = r ≡ Ok (view x)
+Gives view (Err e) r = Refuses e r
+
+-- all but the list of operations is the same
+pub record AreAlike (old new : LineReader) : Type 0 where
+  pub centrings : new.listed.centrings.items ≡ old.listed.centrings.items
+  pub line : new.line ≡ old.line
+  pub column : new.column ≡ old.column
+  pub place : new.place ≡ old.place
+  pub fed : new.fed ≡ old.fed
+  pub fault : new.fault ≡ old.fault

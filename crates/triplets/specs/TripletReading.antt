@@ -1,0 +1,69 @@
+-- What the reader of a triplet does.
+use Rattle.std.specs.Prelude.{◌≡◌, ℕ, ◌*◌, ◌+◌, Bool, true, false, if◌then◌else◌, List, [], ◌∷◌, Option, Some, None, Result, Ok, Err, ℤ, pos, neg_ℤ, ◌≤ℤ◌}
+use Rattle.triplets.specs.declared.marks.Mark.{Mark}
+use Rattle.triplets.specs.declared.marks.Mark.TheVariants as marks
+use Rattle.triplets.specs.declared.fault.TextKind.{TextKind}
+use Rattle.triplets.specs.declared.fault.TextKind.TheVariants as kinds
+use Rattle.triplets.specs.declared.part.Row.{Row}
+use Rattle.triplets.specs.declared.part.PartReader.{PartReader}
+use Rattle.triplets.specs.declared.part.Spot.{Spot}
+use Rattle.triplets.specs.declared.part.Spot.TheVariants as spots
+use Rattle.triplets.specs.declared.triplet.Nth.{Nth}
+use Rattle.triplets.specs.declared.triplet.Nth.TheVariants.{First, Second, Third}
+use Rattle.motions.specs.declared.motion.Motion3.{Motion3}
+use Rattle.triplets.specs.declared.triplet.TripletReader.{TripletReader}
+use Rattle.triplets.specs.Marks.{mark}
+use Rattle.triplets.specs.Rows.{zero_row, motion3_with}
+use Rattle.triplets.specs.PartReading.{begin, settled, part_step}
+
+abbrev pub start : TripletReader
+start = record { nth = First; first = zero_row; second = zero_row; part = begin }
+
+abbrev pub with_part : PartReader → TripletReader → TripletReader
+with_part p s = record s { part = p }
+
+abbrev pub in_part : TripletReader → Result PartReader TextKind → Result TripletReader TextKind
+in_part s (Ok p) = Ok (with_part p s)
+in_part s (Err k) = Err k
+
+-- a comma where no part is whole
+abbrev pub early_comma : Spot → TextKind
+early_comma spots.Begin = kinds.Empty
+early_comma _ = kinds.UnknownSign
+
+abbrev pub next_part : Nth → TripletReader → Row → Result TripletReader TextKind
+next_part First s r = Ok (record { nth = Second; first = r; second = s.second; part = begin })
+next_part Second s r = Ok (record { nth = Third; first = s.first; second = r; part = begin })
+next_part Third s r = Err kinds.ExtraPart
+
+abbrev pub comma_at : Option PartReader → TripletReader → Result TripletReader TextKind
+comma_at None s = Err (early_comma s.part.spot)
+comma_at (Some p) s = next_part s.nth s p.row
+
+abbrev pub on_comma : TripletReader → Result TripletReader TextKind
+on_comma s = comma_at (settled s.part) s
+
+abbrev pub value_at : Nth → Option PartReader → TripletReader → Option Motion3
+value_at Third (Some p) s = Some (motion3_with s.first s.second p.row)
+value_at _ _ s = None
+
+-- the triplet, if it is whole
+abbrev pub value : TripletReader → Option Motion3
+value s = value_at s.nth (settled s.part) s
+
+abbrev pub hash_kind : Option Motion3 → TextKind
+hash_kind None = kinds.MissingPart
+hash_kind (Some _) = kinds.UnknownSign
+
+abbrev pub step : Mark → TripletReader → Result TripletReader TextKind
+step marks.Comma s = on_comma s
+step marks.Hash s = Err (hash_kind (value s))
+step m s = in_part s (part_step m s.part)
+
+abbrev pub advance : Result TripletReader TextKind → ℕ → Result TripletReader TextKind
+advance (Err k) b = Err k
+advance (Ok s) b = step (mark b) s
+
+abbrev pub run : Result TripletReader TextKind → List ℕ → Result TripletReader TextKind
+run r [] = r
+run r (b ∷ bs) = run (advance r b) bs

@@ -1,0 +1,23 @@
+// The reader of a whole group text.
+ghost use Rattle.std.specs.Prelude.{◌≤◌, length, IfOk};
+ghost use Rattle.motions.specs.Views.{listing_of};
+ghost use Rattle.triplets.specs.Sizes.{IsListingSmall};
+ghost use Rattle.triplets.specs.TextAnswers.{IsAnswer};
+
+use crate::fault::TextFault;
+use crate::text::LineReader;
+use motions::Listed;
+use std::alloc::Global;
+
+/// Reads a group text: what it lists, or the first bad line, its column and what is wrong there.
+pub fn read_group(alloc: Global, bytes: &[u8]) -> Result<Listed, TextFault>
+    requires { length bytes.now ≤ 65536 }
+    ensures answer { IsAnswer bytes.now result }
+    ensures small { IfOk result (λ listed. IsListingSmall (listing_of listed)) }
+{
+    let mut reader = LineReader::make(alloc);
+    match reader.feed(bytes) {
+        Ok(()) => reader.finish(),
+        Err(fault) => Err(fault),
+    }
+}

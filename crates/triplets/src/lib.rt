@@ -1,0 +1,23 @@
+// Coordinate triplets and group texts: the grammar, and readers that name the place and the kind of the first fault.
+//
+// Promises to the crates above: exactly the triplets and the texts of the grammar are read, each with its value;
+// of any other the first bad line, the column at which no good line goes on, and what is wrong there. A text may
+// come in pieces, cut anywhere.
+#![tactic(auto)]
+
+mod denominator;
+mod fault;
+mod group;
+mod line;
+mod marks;
+mod part;
+mod text;
+mod triplet;
+
+pub use fault::{TextFault, TextKind, TripletFault};
+pub use group::read_group;
+pub use text::LineReader;
+pub use triplet::read_triplet;
+
+#[cfg(test)]
+mod tests;

@@ -1,0 +1,149 @@
+// The reader of a group text, in pieces.
+ghost use Rattle.std.specs.Prelude.{◌≤◌, ◌+◌};
+ghost use Rattle.triplets.specs.PlaceBounds.{IsPlaceWithin, IsPlaceWithin-prop};
+
+use crate::fault::{TextFault, TextKind};
+use crate::line::LinePlace;
+use crate::marks::mark_of;
+use motions::Listed;
+use std::alloc::Global;
+
+/// Reads a group text that comes in pieces, cut anywhere.
+///
+/// It reads byte by byte, and keeps what the lines so far list and where in a line it stands.
+#[derive(Drop)]
+pub struct LineReader {
+    listed: Listed,
+    fed: u32,
+    line: u32,
+    column: u32,
+    place: LinePlace,
+    fault: Option<TextFault>,
+    ghost few: { fed ≤ 65536 },
+    ghost line_within: { line ≤ fed + 1 },
+    ghost column_within: { column ≤ fed + 1 },
+    ghost place_within: { IsPlaceWithin column place } by { IsPlaceWithin-prop column place },
+}
+
+impl LineReader {
+    ghost use Rattle.std.specs.Prelude.{◌≡◌, ◌⊎◌, ◌++◌, [], ℕ, List, length, Err, Some, None, IfSome, IfOk, IfErr};
+    ghost use Rattle.triplets.specs.declared.fault.TextFault.TheVariants.{At, NoMemory};
+    ghost use Rattle.triplets.specs.TextReading.{Stands, Gives, AreAlike, kept, finished, byte_step, bytes_fed, fault_answered};
+    ghost use Rattle.triplets.specs.TextAnswers.{IsAnswer, IsAnswerSoFar};
+    ghost use Rattle.triplets.specs.Sizes.{IsListingSmall};
+    ghost use Rattle.motions.specs.Views.{listing_of};
+
+    /// A reader that was fed nothing. It takes no memory.
+    pub fn make(alloc: Global) -> Self
+        ensures stands { Stands result [] }
+        ensures fed { bytes_fed result ≡ 0 }
+        ensures fault { fault_answered result ≡ None }
+    {
+        LineReader {
+            listed: Listed {
+                ops: Vec::new(alloc),
+                centrings: Vec::new(alloc),
+            },
+            fed: 0,
+            line: 1,
+            column: 1,
+            place: LinePlace::Start,
+            fault: None,
+        }
+    }
+
+    fn here(&self, kind: TextKind) -> TextFault
+        ensures { result ≡ At self.now.line self.now.column kind }
+    {
+        TextFault::At {
+            line: self.line,
+            column: self.column,
+            kind,
+        }
+    }
+
+    /// Ends the line, and lists its operation.
+    fn end_line(&mut self) -> Result<(), TextFault>
+        ensures value { Gives (λ _. (kept self.new).listing) result (finished (kept self.old)) }
+        ensures same { AreAlike self.old self.new }
+    {
+        match self.place.ending() {
+            Some(Some(operation)) => {
+                self.listed.ops.push(operation)?;
+                Ok(())
+            }
+            Some(None) => Ok(()),
+            None => Err(self.here(TextKind::MissingPart)),
+        }
+    }
+
+    /// Reads one byte, which was counted.
+    fn advance(&mut self, byte: u8) -> Result<(), TextFault>
+        requires line { self.old.line ≤ self.old.fed }
+        requires column { self.old.column ≤ self.old.fed }
+        ensures kept { Gives (λ _. kept self.new) result (byte_step byte (kept self.old)) }
+        ensures fed { self.new.fed ≡ self.old.fed }
+        ensures fault { self.new.fault ≡ self.old.fault }
+        ensures line { self.new.line ≤ self.old.line + 1 }
+        ensures column { self.new.column ≤ self.old.column + 1 }
+    {
+        if byte == b'\n' {
+            self.end_line()?;
+            self.line += 1;
+            self.column = 1;
+            self.place = LinePlace::Start;
+            return Ok(());
+        }
+        let mark = mark_of(byte);
+        let next = match self.place.step(mark) {
+            Ok(next) => next,
+            Err(kind) => return Err(self.here(kind)),
+        };
+        if let Some(vector) = self.place.completed(mark) {
+            self.listed.centrings.push(vector)?;
+        }
+        self.column += 1;
+        self.place = next;
+        Ok(())
+    }
+
+    /// Reads on.
+    ///
+    /// The fault comes as soon as the bytes so far show it: by the byte at its place, or by the line feed that ends
+    /// its line too early. A fault that was answered is answered by each later call.
+    pub fn feed(&mut self, piece: &[u8]) -> Result<(), TextFault>
+        requires { bytes_fed self.old + length piece.now ≤ 65536 }
+        ensures fed { bytes_fed self.new ≡ bytes_fed self.old + length piece.now }
+        ensures stands { (result ≡ Err NoMemory) ⊎ ((text : List ℕ) → Stands self.old text → Stands self.new (text ++ piece.now)) }
+        ensures answer { (text : List ℕ) → Stands self.old text → IsAnswerSoFar (text ++ piece.now) result }
+        ensures again { IfSome (fault_answered self.old) (λ fault. result ≡ Err fault) }
+        ensures kept { IfErr result (λ fault. fault_answered self.new ≡ Some fault) }
+    {
+        self.fed += piece.len() as u32;
+        if let Some(fault) = self.fault {
+            return Err(fault);
+        }
+        for byte in piece {
+            if let Err(fault) = self.advance(*byte) {
+                self.fault = Some(fault);
+                return Err(fault);
+            }
+        }
+        Ok(())
+    }
+
+    /// Ends the text: what it lists, or its first fault.
+    pub fn finish(self) -> Result<Listed, TextFault>
+        ensures answer { (text : List ℕ) → Stands self text → IsAnswer text result }
+        ensures small { (text : List ℕ) → Stands self text → IfOk result (λ listed. IsListingSmall (listing_of listed)) }
+        ensures again { IfSome (fault_answered self) (λ fault. result ≡ Err fault) }
+    {
+        if let Some(fault) = self.fault {
+            return Err(fault);
+        }
+        let mut reader = self;
+        reader.end_line()?;
+        let LineReader { listed, .. } = reader;
+        Ok(listed)
+    }
+}
