@@ -1,0 +1,16 @@
+// Space groups from what is listed: the translation lattice, and the operations modulo it.
+//
+// Promises to the crates above: a `Lattice` has exactly the residues of the lattice that its vectors make, and a
+// `Group` is a group modulo its lattice, made exactly from the lists that are one.
+#![tactic(auto)]
+
+mod group;
+mod lattice;
+mod lattice_fault;
+mod limits;
+mod residues;
+
+pub use group::Group;
+pub use lattice::Lattice;
+pub use lattice_fault::LatticeFault;
+pub use limits::{MAX_ENTRY, MAX_OPERATIONS, MAX_RESIDUES};
