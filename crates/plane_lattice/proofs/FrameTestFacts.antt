@@ -8,7 +8,10 @@ use Rattle.symmetry.specs.Frames.{Basis, combination, IsFrame}
 use Rattle.symmetry.proofs.VectorLaws.{vector_path, multiple-dot}
 use Rattle.symmetry.proofs.LatticeLaws.{lattice-plus, lattice-minus, lattice-made}
 use Rattle.plane_lattice.specs.FrameTests.{PassesFrameTests}
-use Rattle.plane_lattice.proofs.Cramer.{volume, volume-cross, combination-origin, combination-plus, combination-minus, combination_once}
+use Rattle.symmetry.proofs.FrameLaws.{combination-minus}
+use Rattle.plane_lattice.specs.Coordinates.{volume}
+use Rattle.plane_lattice.specs.QuotientLaws.{combination-origin, combination-plus}
+use Rattle.plane_lattice.proofs.Cramer.{combination_once}
 
 multiple-zero : (v : Vector) → multiple (pos 0) v ≡ origin
 unfolding multiple
@@ -50,7 +53,7 @@ positive_product (negsuc m) b h k = absurd (omega (arith, ints))
 -- right-handed vectors of which the third points above the plane span a positive volume
 pub volume_positive : (r : Vector) (f : Basis) → ((c : ℤ) × (pos 0 <ℤ c) × (cross f.a f.b ≡ multiple c r)) → pos 0 <ℤ dot r f.tau → pos 0 <ℤ volume f
 volume_positive r f (c, above, is) up =
-    subst (λ (x : ℤ). pos 0 <ℤ x) (sym (volume-cross f ∙ ap (λ (v : Vector). dot v f.tau) is ∙ multiple-dot c r f.tau)) (positive_product c (dot r f.tau) above up)
+    subst (λ (x : ℤ). pos 0 <ℤ x) (sym (ap (λ (v : Vector). dot v f.tau) is ∙ multiple-dot c r f.tau)) (positive_product c (dot r f.tau) above up)
 
 module _ (g : Listing) (r : Vector) (f : Basis) where
   spans : ((v : Vector) → Generates g v → (c : Vector) × (combination f c ≡ v)) → (t : Vector) → IsInLattice g t → (c : Vector) × (combination f c ≡ t)
