@@ -3,7 +3,7 @@ use Rattle.std.proofs.Common.{◌≡◌, ◌↔◌, ℤ, zero, suc, pos, negsuc,
 use Rattle.std.specs.Int.{int_div_euclid}
 use Rattle.std.proofs.lemmas.Int.{ints}
 use Rattle.integers.proofs.Order.{small_multiple}
-use Rattle.integers.proofs.Ring.{mul_add, mul_neg}
+use Rattle.integers.proofs.Ring.{mul_add, mul_neg, mul_zero}
 use Rattle.integers.proofs.Spread.{spread}
 use Rattle.quotient.specs.Kind.{Kind, kind_of, IsSame, Keeps, IsInverse, AreShiftsGroup}
 use Rattle.symmetry.specs.Vectors.{Vector, Matrix, origin, plus, minus, multiple, opposite, dot, cross, image, product, unit_matrix}
@@ -94,3 +94,183 @@ module _ (f : Basis) (spans : pos 1 ≤ℤ volume f) where
       ap (λ w. minus (plus v (combination f c)) (combination f w)) (whole_part-combination v c flat)
       ∙ ap (minus (plus v (combination f c))) (combination-plus f (whole_part f v) c)
       ∙ take_apart v (combination f (whole_part f v)) (combination f c)
+
+-- ---- motions followed by shifts
+
+translation_of : Vector → Motion3
+translation_of v = record {
+  w = (pos 1 ∷ pos 0 ∷ pos 0 ∷ []) ∷ (pos 0 ∷ pos 1 ∷ pos 0 ∷ []) ∷ (pos 0 ∷ pos 0 ∷ pos 1 ∷ []) ∷ [];
+  t = of_vector v;
+}
+
+-- the kind of the motions of space, where the shifts are the plane lattice
+abbrev pub plane_kind : Basis → Kind
+plane_kind f = kind_of motion_of followed_by identity (λ m. IsPlaneShift f (motion_of m))
+
+abbrev plane_shift : Basis → Motion → Type 0
+plane_shift f s = (m : Motion3) × IsPlaneShift f (motion_of m) × (motion_of m ≡ s)
+
+-- the translation by a whole combination of a and b is a shift
+shift_by : (f : Basis) (v : Vector) → IsPlaneCombination f v → plane_shift f (record { matrix = unit_matrix; shift = v })
+unfolding translation_of
+shift_by f v h = (translation_of v, record { matrix = refl; shift = h }, refl)
+
+shift_is : (f : Basis) (s : Motion) → plane_shift f s → IsPlaneShift f s
+shift_is f s (m, h, e) = subst (IsPlaneShift f) e h
+
+-- a motion and then a translation
+followed_by-translation : (m s : Motion) → s.matrix ≡ unit_matrix → followed_by m s ≡ record { matrix = m.matrix; shift = plus m.shift s.shift }
+followed_by-translation m s e =
+    motion_path (ap (λ w. product w m.matrix) e ∙ product-unit_left m.matrix)
+    (ap (λ w. plus (image w m.shift) s.shift) e ∙ ap (λ v. plus v s.shift) (image-unit m.shift))
+
+-- a translation and then a motion
+translation-followed_by : (m s : Motion) → s.matrix ≡ unit_matrix
+    → followed_by s m ≡ record { matrix = m.matrix; shift = plus (image m.matrix s.shift) m.shift }
+translation-followed_by m s e = motion_path (ap (product m.matrix) e ∙ product-unit_right m.matrix) refl
+
+-- ---- the laws
+
+-- whole combinations of a and b, their sums and opposites
+plane_origin : (f : Basis) → IsPlaneCombination f origin
+plane_origin f = (origin, combination-origin f, refl)
+
+plane-plus : (f : Basis) (v w : Vector) → IsPlaneCombination f v → IsPlaneCombination f w → IsPlaneCombination f (plus v w)
+unfolding plus
+plane-plus f v w (c, e, flat) (d, e', flat') =
+    (plus c d, combination-plus f c d ∙ (λ i. plus (e i) (e' i)), (λ i. flat i +ℤ flat' i))
+
+plane-multiple : (f : Basis) (k : ℤ) (v : Vector) → IsPlaneCombination f v → IsPlaneCombination f (multiple k v)
+unfolding multiple
+plane-multiple f k v (c, e, flat) =
+    (multiple k c, combination-multiple f k c ∙ ap (multiple k) e, ap (λ z. k *ℤ z) flat ∙ mul_zero k)
+
+pub plane_shifts : (f : Basis) → AreShiftsGroup (plane_kind f)
+plane_shifts f = record {
+  identity = shift_by f origin (plane_origin f);
+  products = λ s t h k.
+      let p = shift_is f s h in
+      let q = shift_is f t k in
+      subst (plane_shift f) (sym (followed_by-translation s t q.matrix ∙ ap (λ w. record { matrix = w; shift = plus s.shift t.shift }) p.matrix))
+      (shift_by f (plus s.shift t.shift) (plane-plus f s.shift t.shift p.shift q.shift));
+  inverses = λ s h.
+      let p = shift_is f s h in
+      let back : Motion = record { matrix = unit_matrix; shift = opposite s.shift } in (
+        back,
+        shift_by f (opposite s.shift) (plane-multiple f (negsuc 0) s.shift p.shift),
+        record {
+          after = followed_by-translation s back refl ∙ motion_path p.matrix (minus-same s.shift);
+          before = followed_by-translation back s p.matrix ∙ motion_path refl (opposite-plus_same s.shift);
+        },
+      );
+}
+
+pub plane_home_is_same : (f : Basis) (m : Motion3) → IsSame (plane_kind f) (motion_of (home_of_motion f m)) (motion_of m)
+plane_home_is_same f m =
+    let v = parts m.t in
+    let whole = combination f (whole_part f v) in
+    let back : Motion = record { matrix = unit_matrix; shift = opposite whole } in record {
+      shift = back;
+      is_shift = shift_by f (opposite whole) (plane-multiple f (negsuc 0) whole (whole_part f v, refl, refl));
+      is = sym (followed_by-translation (motion_of m) back refl);
+    }
+
+-- two vectors that are one without their whole parts differ by these
+exchanged : (v w p q : Vector) → minus v p ≡ minus w q → v ≡ plus w (minus p q)
+unfolding plus multiple
+exchanged v w p q e =
+    let x : v.x +ℤ negsuc 0 *ℤ p.x ≡ w.x +ℤ negsuc 0 *ℤ q.x = ap (λ (u : Vector). u.x) e in
+    let y : v.y +ℤ negsuc 0 *ℤ p.y ≡ w.y +ℤ negsuc 0 *ℤ q.y = ap (λ (u : Vector). u.y) e in
+    let z : v.z +ℤ negsuc 0 *ℤ p.z ≡ w.z +ℤ negsuc 0 *ℤ q.z = ap (λ (u : Vector). u.z) e in
+    vector_path (omega (arith, ints)) (omega (arith, ints)) (omega (arith, ints))
+
+pub plane_homes : (f : Basis) → pos 1 ≤ℤ volume f → (m n : Motion3)
+    → IsSame (plane_kind f) (motion_of m) (motion_of n) ↔ (motion_of (home_of_motion f m) ≡ motion_of (home_of_motion f n))
+plane_homes f spans m n = (to, from)
+  where
+    to : IsSame (plane_kind f) (motion_of m) (motion_of n) → motion_of (home_of_motion f m) ≡ motion_of (home_of_motion f n)
+    to p =
+        let s = shift_is f p.shift p.is_shift in
+        let (c, e, flat) = s.shift in
+        let is = p.is ∙ followed_by-translation (motion_of n) p.shift s.matrix in
+        let moved : parts m.t ≡ plus (parts n.t) (combination f c) = ap (λ (k : Motion). k.shift) is ∙ ap (plus (parts n.t)) (sym e) in
+        motion_path (ap (λ (k : Motion). k.matrix) is) (ap (home_shift f) moved ∙ home_shift-combination f spans (parts n.t) c flat)
+
+    from : motion_of (home_of_motion f m) ≡ motion_of (home_of_motion f n) → IsSame (plane_kind f) (motion_of m) (motion_of n)
+    from e =
+        let p = whole_part f (parts m.t) in
+        let q = whole_part f (parts n.t) in
+        let apart = minus (combination f p) (combination f q) in
+        let s : Motion = record { matrix = unit_matrix; shift = apart } in record {
+          shift = s;
+          is_shift = shift_by f apart (plane-plus f (combination f p) (opposite (combination f q)) (p, refl, refl)
+              (plane-multiple f (negsuc 0) (combination f q) (q, refl, refl)));
+          is = motion_path (ap (λ (k : Motion). k.matrix) e)
+              (exchanged (parts m.t) (parts n.t) (combination f p) (combination f q) (ap (λ (k : Motion). k.shift) e))
+              ∙ sym (followed_by-translation (motion_of n) s refl);
+        }
+
+-- ---- motions that carry shifts into shifts
+
+along_a : (f : Basis) → combination f (record { x = pos 1; y = pos 0; z = pos 0 }) ≡ f.a
+unfolding plus multiple
+along_a f = vector_path (omega (arith, ints)) (omega (arith, ints)) (omega (arith, ints))
+
+along_b : (f : Basis) → combination f (record { x = pos 0; y = pos 1; z = pos 0 }) ≡ f.b
+unfolding plus multiple
+along_b f = vector_path (omega (arith, ints)) (omega (arith, ints)) (omega (arith, ints))
+
+flat_combination : (f : Basis) (c : Vector) → c.z ≡ pos 0 → combination f c ≡ plus (multiple c.x f.a) (multiple c.y f.b)
+unfolding plus multiple
+flat_combination f c e =
+    vector_path (left (c.x *ℤ f.a.x +ℤ c.y *ℤ f.b.x) f.tau.x) (left (c.x *ℤ f.a.y +ℤ c.y *ℤ f.b.y) f.tau.y) (left (c.x *ℤ f.a.z +ℤ c.y *ℤ f.b.z) f.tau.z)
+  where
+    left : (s t : ℤ) → s +ℤ c.z *ℤ t ≡ s
+    left s t = ap (λ z. s +ℤ z *ℤ t) e ∙ nothing s t
+      where
+        nothing : (s t : ℤ) → s +ℤ pos 0 *ℤ t ≡ s
+        nothing s t = omega (arith, ints)
+
+-- W t is a whole combination of a and b for each that t is
+pub image_keeps_plane : (f : Basis) (w : Matrix) → IsPlaneCombination f (image w f.a) → IsPlaneCombination f (image w f.b)
+    → (v : Vector) → IsPlaneCombination f v → IsPlaneCombination f (image w v)
+image_keeps_plane f w a b v (c, e, flat) =
+    let is : image w v ≡ plus (multiple c.x (image w f.a)) (multiple c.y (image w f.b)) =
+    ap (image w) (sym e ∙ flat_combination f c flat) ∙ image-plus w (multiple c.x f.a) (multiple c.y f.b)
+    ∙ (λ i. plus (image-multiple w c.x f.a i) (image-multiple w c.y f.b i)) in
+    subst (IsPlaneCombination f) (sym is)
+    (plane-plus f (multiple c.x (image w f.a)) (multiple c.y (image w f.b)) (plane-multiple f c.x (image w f.a) a) (plane-multiple f c.y (image w f.b) b))
+
+cancelled : (u v w : Vector) → plus u v ≡ plus v w → w ≡ u
+unfolding plus
+cancelled u v w e =
+    let x : u.x +ℤ v.x ≡ v.x +ℤ w.x = ap (λ (u : Vector). u.x) e in
+    let y : u.y +ℤ v.y ≡ v.y +ℤ w.y = ap (λ (u : Vector). u.y) e in
+    let z : u.z +ℤ v.z ≡ v.z +ℤ w.z = ap (λ (u : Vector). u.z) e in
+    vector_path (omega (arith, ints)) (omega (arith, ints)) (omega (arith, ints))
+
+-- a motion carries shifts into shifts exactly where it takes a and b into the plane lattice
+pub plane_keeps : (f : Basis) (m : Motion)
+    → (IsPlaneCombination f (image m.matrix f.a) × IsPlaneCombination f (image m.matrix f.b)) ↔ Keeps (plane_kind f) m
+plane_keeps f m = (
+  λ (a, b) t h.
+      let p = shift_is f t h in
+      let v = image m.matrix t.shift in
+      let s : Motion = record { matrix = unit_matrix; shift = v } in (
+        s,
+        shift_by f v (image_keeps_plane f m.matrix a b t.shift p.shift),
+        translation-followed_by m t p.matrix ∙ motion_path refl (plus_comm v m.shift) ∙ sym (followed_by-translation m s refl),
+      ),
+  λ keeps. (
+    kept keeps f.a (record { x = pos 1; y = pos 0; z = pos 0 }, along_a f, refl),
+    kept keeps f.b (record { x = pos 0; y = pos 1; z = pos 0 }, along_b f, refl),
+  ),
+)
+  where
+    kept : Keeps (plane_kind f) m → (v : Vector) → IsPlaneCombination f v → IsPlaneCombination f (image m.matrix v)
+    kept keeps v h =
+        let t : Motion = record { matrix = unit_matrix; shift = v } in
+        let (s, is, e) = keeps t (shift_by f v h) in
+        let p = shift_is f s is in
+        let same = sym (translation-followed_by m t refl) ∙ e ∙ followed_by-translation m s p.matrix in
+        subst (IsPlaneCombination f) (cancelled (image m.matrix v) m.shift s.shift (ap (λ (k : Motion). k.shift) same)) p.shift
