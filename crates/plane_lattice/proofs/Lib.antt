@@ -1,2 +1,5 @@
 pub mod Cramer
 pub mod FrameTestFacts
+pub mod Passed
+pub mod Quotients
+pub mod Wide

@@ -1,2 +1,4 @@
 // Frames of a plane.
 #![tactic(auto)]
+
+mod coordinates;

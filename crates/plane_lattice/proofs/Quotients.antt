@@ -1,0 +1,34 @@
+-- Remainders of multiples.
+use Rattle.std.proofs.Common.{◌≡◌, ℤ, zero, suc, pos, negsuc, ◌+ℤ◌, ◌-ℤ◌, ◌*ℤ◌, ◌≤ℤ◌, ◌<ℤ◌, ◌%◌, ◌/◌, refl, sym, ap, subst, ◌∙◌, arith}
+use Rattle.std.specs.Int.{int_div_euclid, int_rem_euclid}
+use Rattle.std.proofs.lemmas.Int.{ints}
+use Rattle.plane_lattice.specs.QuotientLaws.{div_euclid-multiple}
+
+-- the remainder is what the quotient leaves
+pub rem_euclid_is : (x d : ℤ) → pos 1 ≤ℤ d → int_rem_euclid x d ≡ x -ℤ d *ℤ int_div_euclid x d
+rem_euclid_is (pos a) (pos zero) h = absurd (omega (arith, ints))
+rem_euclid_is (pos a) (pos (suc b)) h = omega (arith, ints)
+rem_euclid_is (negsuc a) (pos zero) h = absurd (omega (arith, ints))
+rem_euclid_is (negsuc a) (pos (suc b)) h = omega (arith, ints)
+rem_euclid_is x (negsuc b) h = absurd (omega (arith, ints))
+
+-- a multiple of d leaves nothing
+pub rem-multiple : (d q : ℤ) → pos 1 ≤ℤ d → int_rem_euclid (d *ℤ q) d ≡ pos 0
+rem-multiple d q h =
+    let none : int_div_euclid (pos 0) d ≡ pos 0 = nothing d h in
+    let quotient : int_div_euclid (pos 0 +ℤ d *ℤ q) d ≡ int_div_euclid (pos 0) d +ℤ q = div_euclid-multiple (pos 0) d q h in
+    let sum : pos 0 +ℤ d *ℤ q ≡ d *ℤ q = omega (arith, ints) in
+    let whole : int_div_euclid (d *ℤ q) d ≡ q =
+    ap (λ x. int_div_euclid x d) (sym sum) ∙ quotient ∙ ap (λ z. z +ℤ q) none ∙ first q in
+    rem_euclid_is (d *ℤ q) d h ∙ ap (λ z. d *ℤ q -ℤ d *ℤ z) whole ∙ same (d *ℤ q)
+  where
+    nothing : (d : ℤ) → pos 1 ≤ℤ d → int_div_euclid (pos 0) d ≡ pos 0
+    nothing (pos zero) h = absurd (omega (arith, ints))
+    nothing (pos (suc b)) h = omega (arith, ints)
+    nothing (negsuc b) h = absurd (omega (arith, ints))
+
+    first : (q : ℤ) → pos 0 +ℤ q ≡ q
+    first q = omega (arith, ints)
+
+    same : (x : ℤ) → x -ℤ x ≡ pos 0
+    same x = omega (arith, ints)

@@ -1,0 +1,112 @@
+// Coordinates of vectors in a basis, by Cramer's rule.
+ghost use Rattle.std.specs.Prelude.{◌≡◌, ℤ, ◌-ℤ◌, ◌*◌, ◌*ℤ◌, ◌^◌, ◌≤ℤ◌, pos, MatchOption};
+ghost use Rattle.integers.specs.Size.{IsWithin};
+ghost use Rattle.symmetry.specs.Frames.{combination};
+ghost use Rattle.symmetry.specs.Sizes.{IsVectorWithin};
+ghost use Rattle.symmetry.specs.Vectors.{cross, dot};
+ghost use Rattle.motions.specs.BasisView.{basis_of};
+ghost use Rattle.motions.specs.Views.{parts, vector_of};
+ghost use Rattle.plane_lattice.specs.Bounds.{largest_cross, largest_entry, largest_scaled};
+ghost use Rattle.plane_lattice.specs.Coordinates.{IsCombination, scaled, volume};
+
+use fractions::Part;
+use motions::Basis;
+
+/// The volume of the cell that the basis spans: positive where the basis is right-handed.
+pub(crate) fn volume(basis: &Basis) -> i128
+    ensures is { result ≡ volume (basis_of basis.now) }
+    ensures small { IsWithin largest_scaled result }
+{
+    row_by_column(&cross(&basis.a, &basis.b), &basis.tau)
+}
+
+/// The coordinates of a vector in the basis, times the volume. Each entry is at most 2^52 parts in size.
+pub(crate) fn scaled(basis: &Basis, v: &[Part; 3]) -> [i128; 3]
+    requires { IsVectorWithin (2 ^ 52) (parts v.now) }
+    ensures is { vector_of result ≡ scaled (basis_of basis.now) (parts v.now) }
+    ensures small { IsVectorWithin largest_scaled (vector_of result) }
+{
+    [
+        row_by_column(&cross(&basis.b, &basis.tau), v),
+        row_by_column(&cross(&basis.tau, &basis.a), v),
+        row_by_column(&cross(&basis.a, &basis.b), v),
+    ]
+}
+
+/// A row times a column.
+#[tactic(auto, unfolding(symmetry::specs::Vectors::dot))]
+pub(crate) fn row_by_column(row: &[i64; 3], v: &[Part; 3]) -> i128
+    requires row { IsVectorWithin largest_cross (vector_of row.now) }
+    requires v { IsVectorWithin (2 ^ 52) (parts v.now) }
+    ensures is { result ≡ dot (vector_of row.now) (parts v.now) }
+    ensures small { IsWithin largest_scaled result }
+{
+    wide_product(row[0], v[0]) + wide_product(row[1], v[1]) + wide_product(row[2], v[2])
+}
+
+/// The product of two numbers, of which the second is a number of parts.
+fn wide_product(x: i64, part: Part) -> i128
+    requires x { IsWithin largest_cross x }
+    requires part { IsWithin (2 ^ 52) part.0 }
+    ensures is { result ≡ x *ℤ part.0 }
+    ensures small { IsWithin (largest_cross * 2 ^ 52) result }
+{
+    x as i128 * part.0 as i128
+}
+
+/// The cross product of two vectors of a basis.
+#[tactic(auto, unfolding(symmetry::specs::Vectors::cross))]
+pub(crate) fn cross(v: &[Part; 3], w: &[Part; 3]) -> [i64; 3]
+    requires v { IsVectorWithin largest_entry (parts v.now) }
+    requires w { IsVectorWithin largest_entry (parts w.now) }
+    ensures is { vector_of result ≡ cross (parts v.now) (parts w.now) }
+    ensures small { IsVectorWithin largest_cross (vector_of result) }
+{
+    [
+        minor(v[1], v[2], w[1], w[2]),
+        minor(v[2], v[0], w[2], w[0]),
+        minor(v[0], v[1], w[0], w[1]),
+    ]
+}
+
+/// The determinant of the rows (a, b) and (c, d).
+fn minor(a: Part, b: Part, c: Part, d: Part) -> i64
+    requires a { IsWithin largest_entry a.0 }
+    requires b { IsWithin largest_entry b.0 }
+    requires c { IsWithin largest_entry c.0 }
+    requires d { IsWithin largest_entry d.0 }
+    ensures is { result ≡ a.0 *ℤ d.0 -ℤ b.0 *ℤ c.0 }
+    ensures small { IsWithin largest_cross result }
+{
+    a.0 * d.0 - b.0 * c.0
+}
+
+/// The coordinates of a vector in the basis, where these are whole numbers. None comes exactly where they are not.
+pub(crate) fn coordinates(basis: &Basis, v: &[Part; 3]) -> Option<[i128; 3]>
+    requires vector { IsVectorWithin (2 ^ 52) (parts v.now) }
+    requires volume { pos 1 ≤ℤ volume (basis_of basis.now) }
+    ensures { MatchOption result (¬ IsCombination (basis_of basis.now) (parts v.now))
+        (λ c. combination (basis_of basis.now) (vector_of c) ≡ parts v.now) }
+{
+    let volume = volume(basis);
+    let [x, y, z] = scaled(basis, v);
+    Some([
+        whole_quotient(x, volume)?,
+        whole_quotient(y, volume)?,
+        whole_quotient(z, volume)?,
+    ])
+}
+
+/// The quotient of two numbers, where it is a whole number. None comes exactly where it is not.
+fn whole_quotient(x: i128, d: i128) -> Option<i128>
+    requires x { IsWithin largest_scaled x }
+    requires d { IsWithin largest_scaled d }
+    requires positive { pos 1 ≤ℤ d }
+    ensures { MatchOption result ((q : ℤ) → ¬ (d *ℤ q ≡ x)) (λ q. d *ℤ q ≡ x) }
+{
+    if x.rem_euclid(d) == 0 {
+        Some(x.div_euclid(d))
+    } else {
+        None
+    }
+}
