@@ -1,5 +1,7 @@
 -- Remainders of multiples.
-use Rattle.std.proofs.Common.{◌≡◌, ℤ, zero, suc, pos, negsuc, ◌+ℤ◌, ◌-ℤ◌, ◌*ℤ◌, ◌≤ℤ◌, ◌<ℤ◌, ◌%◌, ◌/◌, refl, sym, ap, subst, ◌∙◌, arith}
+use Rattle.std.proofs.Common.{◌≡◌, ℕ, ◌≤◌, ℤ, zero, suc, pos, negsuc, ◌+ℤ◌, ◌-ℤ◌, ◌*ℤ◌, ◌≤ℤ◌, nat_abs, sym, ap, ◌∙◌, arith}
+use Rattle.std.proofs.Math.Nat.{div-le_self}
+use Rattle.integers.specs.Size.{IsWithin}
 use Rattle.std.specs.Int.{int_div_euclid, int_rem_euclid}
 use Rattle.std.proofs.lemmas.Int.{ints}
 use Rattle.plane_lattice.specs.QuotientLaws.{div_euclid-multiple}
@@ -32,3 +34,14 @@ rem-multiple d q h =
 
     same : (x : ℤ) → x -ℤ x ≡ pos 0
     same x = omega (arith, ints)
+
+-- a quotient is no larger in size than the number
+pub abs-div_euclid-le : (x d : ℤ) → pos 1 ≤ℤ d → nat_abs (int_div_euclid x d) ≤ nat_abs x
+abs-div_euclid-le (pos a) (pos zero) h = absurd (omega (arith, ints))
+abs-div_euclid-le (pos a) (pos (suc b)) h = div-le_self a (suc b)
+abs-div_euclid-le (negsuc a) (pos zero) h = absurd (omega (arith, ints))
+abs-div_euclid-le (negsuc a) (pos (suc b)) h = let le = div-le_self a (suc b) in omega arith
+abs-div_euclid-le x (negsuc b) h = absurd (omega (arith, ints))
+
+pub IsWithin-div_euclid : (n : ℕ) (x d : ℤ) → pos 1 ≤ℤ d → IsWithin n x → IsWithin n (int_div_euclid x d)
+IsWithin-div_euclid n x d h k = let le = abs-div_euclid-le x d h in record { most = omega arith }

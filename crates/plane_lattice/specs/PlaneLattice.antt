@@ -1,13 +1,12 @@
 -- Motions modulo the whole combinations of a and b, and the motion at home.
 use Rattle.std.specs.Prelude.{◌≡◌, ℤ, pos, List, [], ◌∷◌}
-use Rattle.std.specs.Int.{int_div_euclid}
 use Rattle.fractions.specs.declared.part.Part.{Part}
 use Rattle.motions.specs.declared.motion.Motion3.{Motion3}
 use Rattle.motions.specs.Views.{motion_of, parts}
 use Rattle.symmetry.specs.Vectors.{Vector, minus, unit_matrix}
 use Rattle.symmetry.specs.Motions.{Motion}
 use Rattle.symmetry.specs.Frames.{Basis, combination}
-use Rattle.plane_lattice.specs.Coordinates.{volume, scaled, IsPlaneCombination}
+use Rattle.plane_lattice.specs.Coordinates.{floors, volume, scaled, IsPlaneCombination}
 
 -- the motion is the translation by a whole combination of a and b
 pub record IsPlaneShift (f : Basis) (m : Motion) : Type 0 where
@@ -16,11 +15,7 @@ pub record IsPlaneShift (f : Basis) (m : Motion) : Type 0 where
 
 -- how often the vector has a whole a and a whole b: its first two coordinates, rounded down
 abbrev pub whole_part : Basis → Vector → Vector
-whole_part f v = record {
-  x = int_div_euclid (scaled f v).x (volume f);
-  y = int_div_euclid (scaled f v).y (volume f);
-  z = pos 0;
-}
+whole_part f v = floors (scaled f v) (volume f)
 
 -- the vector without these
 abbrev pub home_shift : Basis → Vector → Vector

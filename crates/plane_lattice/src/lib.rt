@@ -2,3 +2,6 @@
 #![tactic(auto)]
 
 mod coordinates;
+mod frame;
+
+pub use frame::Frame;
