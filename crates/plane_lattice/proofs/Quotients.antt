@@ -45,3 +45,7 @@ abs-div_euclid-le x (negsuc b) h = absurd (omega (arith, ints))
 
 pub IsWithin-div_euclid : (n : ℕ) (x d : ℤ) → pos 1 ≤ℤ d → IsWithin n x → IsWithin n (int_div_euclid x d)
 IsWithin-div_euclid n x d h k = let le = abs-div_euclid-le x d h in record { most = omega arith }
+
+-- a quotient that leaves nothing
+pub exact_quotient : (x d : ℤ) → pos 1 ≤ℤ d → int_rem_euclid x d ≡ pos 0 → d *ℤ int_div_euclid x d ≡ x
+exact_quotient x d h e = let is = sym (rem_euclid_is x d h) ∙ e in omega (arith, ints)
