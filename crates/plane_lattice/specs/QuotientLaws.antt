@@ -274,3 +274,6 @@ plane_keeps f m = (
         let p = shift_is f s is in
         let same = sym (translation-followed_by m t refl) ∙ e ∙ followed_by-translation m s p.matrix in
         subst (IsPlaneCombination f) (cancelled (image m.matrix v) m.shift s.shift (ap (λ (k : Motion). k.shift) same)) p.shift
+
+pub plane_by_meaning : (f : Basis) (m n : Motion3) → motion_of m ≡ motion_of n → IsPlaneShift f (motion_of m) → IsPlaneShift f (motion_of n)
+plane_by_meaning f m n e h = subst (IsPlaneShift f) e h

@@ -1,5 +1,5 @@
 // Coordinates of vectors in a basis, by Cramer's rule.
-ghost use Rattle.std.specs.Prelude.{◌≡◌, ℤ, ◌+ℤ◌, ◌-ℤ◌, ◌*◌, ◌*ℤ◌, ◌^◌, ◌≤ℤ◌, pos, FitsSigned, MatchOption};
+ghost use Rattle.std.specs.Prelude.{◌≡◌, ℤ, ◌+ℤ◌, ◌-ℤ◌, ◌*◌, ◌*ℤ◌, ◌^◌, ◌≤ℤ◌, pos, ◌↔◌, FitsSigned, IsTrue, MatchOption};
 ghost use Rattle.std.specs.Int.{int_div_euclid, int_rem_euclid, w64};
 ghost use Rattle.fractions.specs.declared.part.TheConstants.{UNIT};
 ghost use Rattle.integers.specs.Size.{IsWithin};
@@ -9,7 +9,7 @@ ghost use Rattle.symmetry.specs.Vectors.{cross, dot, minus};
 ghost use Rattle.motions.specs.BasisView.{basis_of};
 ghost use Rattle.motions.specs.Views.{parts, vector_of};
 ghost use Rattle.plane_lattice.specs.Bounds.{largest_combined, largest_cross, largest_entry, largest_home, largest_scaled};
-ghost use Rattle.plane_lattice.specs.Coordinates.{floors, IsCombination, scaled, volume};
+ghost use Rattle.plane_lattice.specs.Coordinates.{floors, IsCombination, IsPlaneCombination, scaled, volume};
 
 use fractions::{Part, UNIT};
 use motions::Basis;
@@ -191,4 +191,16 @@ pub(crate) fn edge_coordinate(x: i128, d: i128) -> i64
     ensures { d *ℤ result ≡ x *ℤ UNIT }
 {
     (x * UNIT as i128).div_euclid(d) as i64
+}
+
+/// Whether a vector is a whole combination of a and b.
+pub(crate) fn is_in_plane(basis: &Basis, v: &[Part; 3]) -> bool
+    requires vector { IsVectorWithin (2 ^ 52) (parts v.now) }
+    requires volume { pos 1 ≤ℤ volume (basis_of basis.now) }
+    ensures { IsTrue result ↔ IsPlaneCombination (basis_of basis.now) (parts v.now) }
+{
+    match coordinates(basis, v) {
+        Some(c) => c[2] == 0,
+        None => false,
+    }
 }

@@ -7,9 +7,9 @@ ghost use Rattle.motions.specs.Views.{parts, row_of};
 ghost use Rattle.plane_lattice.specs.Coordinates.{HoldsEdges, vectors, volume};
 
 use fractions::{Part, Ratio};
-use motions::{Basis, Miller, Motion3};
+use motions::{Basis, Miller};
 
-use crate::coordinates::{edge_coordinate, scaled, volume, whole_part, without};
+use crate::coordinates::{edge_coordinate, scaled, volume};
 
 /// A frame of an orientation of planes: the vectors a and b span the planes, and tau leads from one to the next of
 /// the same kind. Together they are a right-handed basis of the translation lattice.
@@ -39,13 +39,12 @@ pub struct Frame {
 impl Frame {
     ghost use Rattle.std.specs.Prelude.{ℤ, ◌^◌, FitsSigned};
     ghost use Rattle.std.specs.Int.{w64};
-    ghost use Rattle.symmetry.specs.Frames.{combination, IsAtHome};
-    ghost use Rattle.symmetry.specs.Vectors.{Vector, minus, multiple};
+    ghost use Rattle.symmetry.specs.Frames.{combination};
+    ghost use Rattle.symmetry.specs.Vectors.{Vector, multiple};
     ghost use Rattle.motions.specs.BasisView.{basis_of};
-    ghost use Rattle.motions.specs.Views.{motion_of, vector_of};
-    ghost use Rattle.plane_lattice.specs.Coordinates.{FitsWord, IsPlaneCombination};
+    ghost use Rattle.motions.specs.Views.{vector_of};
+    ghost use Rattle.plane_lattice.specs.Coordinates.{FitsWord};
     ghost use Rattle.plane_lattice.specs.FrameView.{basis_of_frame};
-    ghost use Rattle.plane_lattice.specs.PlaneLattice.{home_motion};
 
     /// The vectors a, b and tau.
     pub fn basis(&self) -> Basis
@@ -74,27 +73,5 @@ impl Frame {
             edge_coordinate(y, volume),
             edge_coordinate(z, volume),
         ]
-    }
-
-    /// The motion at home that differs from this one by a whole combination of a and b: its translation has
-    /// coordinates of 0 to below 1 along a and b.
-    ///
-    /// The translation is at most 2^20 parts in size.
-    pub fn brought_home(&self, m: &Motion3) -> Motion3
-        requires { IsVectorWithin (2 ^ 20) (motion_of m.now).shift }
-        ensures is { motion_of result ≡ home_motion (basis_of_frame self.now) (motion_of m.now) }
-        ensures at_home { IsAtHome (basis_of_frame self.now) (motion_of result) }
-        ensures same_matrix { (motion_of result).matrix ≡ (motion_of m.now).matrix }
-        ensures differs { IsPlaneCombination (basis_of_frame self.now) (minus (motion_of m.now).shift (motion_of result).shift) }
-        ensures level { dot (row_of self.now.plane) (motion_of result).shift ≡ dot (row_of self.now.plane) (motion_of m.now).shift }
-        ensures small { IsVectorWithin (2 ^ 44) (motion_of result).shift }
-    {
-        let basis = self.basis();
-        let volume = volume(&basis);
-        let whole = whole_part(&scaled(&basis, &m.t), volume);
-        Motion3 {
-            w: m.w,
-            t: without(&m.t, &basis, &whole),
-        }
     }
 }

@@ -3,5 +3,7 @@
 
 mod coordinates;
 mod frame;
+mod images;
+mod space;
 
 pub use frame::Frame;

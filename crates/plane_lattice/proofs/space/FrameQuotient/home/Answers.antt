@@ -16,7 +16,7 @@ use Rattle.plane_lattice.specs.PlaneLattice.{whole_part, home_shift, home_motion
 use Rattle.plane_lattice.specs.declared.frame.Frame.{Frame}
 use Rattle.plane_lattice.proofs.Homes.{home_at_home, home_differs, home_level, home_within}
 use Rattle.plane_lattice.proofs.Wide.{wide, wide_is}
-use Rattle.plane_lattice.proofs.frame.Frame.brought_home.Goals as goal
+use Rattle.plane_lattice.proofs.space.FrameQuotient.home.Goals as goal
 
 -- what was computed from the basis, the volume and the coordinates
 without_whole : (f g : Basis) (v : Vector) (d : ℤ) (s w : Vector) → g ≡ f → IsWithin largest_scaled d → d ≡ volume g → s ≡ scaled g v → w ≡ floors s (wide d)
@@ -50,9 +50,9 @@ returns c =
     let motion : motion_of (record { w = c.args.m.now.w; t = c.without.result }) ≡ home_motion f m = motion_path refl shift in
     let small : IsVectorWithin (2 ^ 44) (home_shift f m.shift) = IsVectorWithin-more (within q m.shift c.requires) (lit≤ tt) in
     record {
-      is = motion;
+      value = motion;
       at_home = subst (IsAtHome f) (sym motion) (home_at_home f q.right_handed m);
-      same_matrix = refl;
+      matrix = refl;
       differs = subst (λ v. IsPlaneCombination f (minus m.shift v)) (sym shift) (home_differs f m.shift);
       level = ap (dot (row_of q.plane)) shift ∙ home_level (row_of q.plane) f q.a_in_plane q.b_in_plane m.shift;
       small = subst (IsVectorWithin (2 ^ 44)) (sym shift) small;
