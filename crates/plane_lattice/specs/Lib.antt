@@ -4,3 +4,5 @@ pub mod FrameTests
 pub mod FrameView
 pub mod PlaneLattice
 pub mod QuotientLaws
+pub mod Scanning
+pub mod Skews

@@ -3,7 +3,10 @@
 
 mod coordinates;
 mod frame;
+mod frame_tests;
 mod images;
+mod means;
+mod skews;
 mod space;
 
 pub use frame::Frame;
