@@ -7,5 +7,6 @@ pub mod Options
 pub mod Oriented
 pub mod Passed
 pub mod Quotients
+pub mod Scanning
 pub mod Sizes
 pub mod Wide

@@ -10,6 +10,10 @@ use Rattle.motions.specs.Views.{motion_of}
 use Rattle.motions.specs.declared.motion.Motion3.{Motion3}
 use Rattle.plane_lattice.specs.Skews.{Skews}
 
+-- the operation at a place of a list
+abbrev pub operation_at : List Motion3 → ℕ → Motion3
+operation_at ops i = get_or ops i (record { w = []; t = [] })
+
 -- a fact of all motions that a list stands for, at one of them
 pub all_at : {X Y : Type 0} (f : X → Y) (P : Y → Type 0) (xs : List X) → All P (map f xs) → (k : ℕ) (d : X) → k < length xs → P (f (get_or xs k d))
 all_at f P xs h k d l =

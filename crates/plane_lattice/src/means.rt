@@ -100,7 +100,8 @@ fn difference(v: &[Part; 3], w: &[Part; 3]) -> [Part; 3]
 /// How many operations keep the orientation.
 fn count_scanning(ops: &[Motion3], plane: &Miller) -> usize
     requires { All IsSmall (map motion_of ops.now) }
-    ensures { result ≡ length (scanning_ops (row_of plane.now) (map motion_of ops.now)) }
+    ensures is { result ≡ length (scanning_ops (row_of plane.now) (map motion_of ops.now)) }
+    ensures few { result ≤ length ops.now }
 {
     let mut count = 0;
     for m in ops {
