@@ -9,9 +9,9 @@ use Rattle.closure.specs.declared.limits.TheConstants.{MAX_RESIDUES}
 use Rattle.closure.specs.Fineness.{IsTooFine}
 use Rattle.closure.specs.Residues.{residue, has_residue}
 use Rattle.closure.specs.Spans.{AreResiduesOf, coset, with_centring}
-use Rattle.closure.proofs.ResidueLaws.{residue-residue}
+use Rattle.closure.specs.ResidueLaws.{residue-residue, has_residue-is, has_residue-false}
 use Rattle.closure.proofs.Cosets.{AreCosets, cosets_none, cosets_more, cosets_all, cosets_too_fine}
-use Rattle.closure.proofs.Membership.{has_residue-is, has_residue-false}
+
 
 -- one more residue of the coset: the one at i, which the code reads from the list as it has grown
 pub coset_more : (old now new : List (List Part)) (step : Vector) (i : ℕ) (r sum : List Part)

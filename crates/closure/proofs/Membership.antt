@@ -16,23 +16,9 @@ use Rattle.motions.specs.MotionLaws.{same_vector-is}
 use Rattle.closure.specs.Residues.{residue, has_residue, IsResidue}
 use Rattle.closure.specs.Spans.{coset}
 
--- ---- the residue of a vector is listed
-
-pub has_residue-is : (rs : List Vector) (v : Vector) → IsTrue (has_residue rs v) ↔ Contains rs (residue v)
-has_residue-is rs v = (
-    λ t. Contains-from_any {eq = λ q r. same_vector r q} (λ x y e. sym ((same_vector-is y x).0 e)) (residue v) rs t,
-    λ (k, within, is). list_any_at (λ r. same_vector r (residue v)) rs k (residue v) within ((same_vector-is (get_or rs k (residue v)) (residue v)).1 is),
-  )
-
-pub has_residue-false : (rs : List Vector) (v : Vector) → has_residue rs v ≡ false → ¬ Contains rs (residue v)
-has_residue-false rs v e is = true_and_false (sym ((has_residue-is rs v).1 is) ∙ e)
-  where
-    true_and_false : true ≡ false → ⊥
-    true_and_false h = cc
-
 -- ---- arrays of three parts
 
-three_entries : (r : List Part) → length r ≡ 3 → r ≡ record { 0 = part_at r 0 } ∷ record { 0 = part_at r 1 } ∷ record { 0 = part_at r 2 } ∷ []
+pub three_entries : (r : List Part) → length r ≡ 3 → r ≡ record { 0 = part_at r 0 } ∷ record { 0 = part_at r 1 } ∷ record { 0 = part_at r 2 } ∷ []
 three_entries [] e = absurd (omega arith)
 three_entries (a ∷ []) e = absurd (omega arith)
 three_entries (a ∷ b ∷ []) e = absurd (omega arith)

@@ -1,10 +1,11 @@
 -- Residues of vectors modulo whole cell edges.
-use Rattle.std.specs.Prelude.{◌≡◌, ℤ, pos, ◌≤ℤ◌, ◌<ℤ◌, Bool, IsTrue, ◌&&◌, ◌||◌, List, length, AllPairs, int_lt, unsigned_abs}
+use Rattle.std.specs.Prelude.{◌≡◌, ℤ, pos, ◌≤ℤ◌, ◌<ℤ◌, Bool, IsTrue, List, length, AllPairs, unsigned_abs}
 use Rattle.std.specs.List.{list_any}
-use Rattle.std.specs.Ordering.{int_eq}
+use Rattle.std.specs.declared.cmp.Ordering.{Ordering}
+use Rattle.std.specs.Ordering.{int_cmp, is_lt, ordering_then}
 use Rattle.fractions.specs.declared.part.Part.{Part}
 use Rattle.fractions.specs.declared.part.TheConstants.{UNIT}
-use Rattle.std.specs.Int.{int_rem_euclid}
+use Rattle.fractions.specs.Parts.{reduced_parts}
 use Rattle.integers.specs.Size.{Divides}
 use Rattle.symmetry.specs.Vectors.{Vector, origin, plus, opposite}
 use Rattle.symmetry.specs.Frames.{same_vector}
@@ -15,10 +16,6 @@ pub record IsWhole (v : Vector) : Type 0 where
   pub x : Divides (unsigned_abs UNIT) v.x
   pub y : Divides (unsigned_abs UNIT) v.y
   pub z : Divides (unsigned_abs UNIT) v.z
-
--- what is left of a number of parts without the whole edges in it
-abbrev pub reduced_parts : ℤ → ℤ
-reduced_parts n = int_rem_euclid n UNIT
 
 -- the vector modulo whole edges, with entries from 0 to below UNIT
 unfoldable pub residue : Vector → Vector
@@ -46,9 +43,13 @@ pub record IsResidue (r : List Part) : Type 0 where
   pub y : IsResidueEntry (record { 0 = part_at r 1 })
   pub z : IsResidueEntry (record { 0 = part_at r 2 })
 
--- whether v comes before w in the lexicographic order of the entries
+-- the lexicographic order: by x, then by y, then by z
+abbrev pub vector_cmp : Vector → Vector → Ordering
+vector_cmp v w = ordering_then (int_cmp v.x w.x) (ordering_then (int_cmp v.y w.y) (int_cmp v.z w.z))
+
+-- whether v comes before w in it
 abbrev pub is_before : Vector → Vector → Bool
-is_before v w = int_lt v.x w.x || (int_eq v.x w.x && (int_lt v.y w.y || (int_eq v.y w.y && int_lt v.z w.z)))
+is_before v w = is_lt (vector_cmp v w)
 
 -- each vector comes before all that stand behind it
 abbrev pub AreInOrder : List Vector → Type 0

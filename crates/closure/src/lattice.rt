@@ -11,7 +11,7 @@ use std::alloc::Global;
 use fractions::Part;
 
 use crate::lattice_fault::LatticeFault;
-use crate::residues::add_vector;
+use crate::residues::residues_of_sums;
 
 /// A translation lattice that holds all whole vectors, as the set of its residues modulo whole cell edges.
 ///
@@ -40,11 +40,7 @@ impl Lattice {
         ensures fine { IfOk result (λ _. ¬ IsTooFine (centrings_alone (map parts vectors.now))) }
         ensures fault { IfErr result (IsLatticeFault (centrings_alone (map parts vectors.now))) }
     {
-        let mut residues = Vec::new(alloc);
-        residues.push([Part(0), Part(0), Part(0)])?;
-        for v in vectors {
-            add_vector(&mut residues, v)?;
-        }
+        let mut residues = residues_of_sums(alloc, vectors)?;
         residues.sort()?;
         Ok(Lattice { residues })
     }

@@ -1,28 +1,21 @@
 // Lists of residues modulo whole cell edges, and how a group of them grows by one more vector.
-ghost use Rattle.std.specs.Prelude.{◌≡◌, ◌+◌, ◌≤◌, ◌<◌, ◌^◌, ◌++◌, All, IfErr, OnOk, map, take, vec_len};
+ghost use Rattle.std.specs.Prelude.{◌≡◌, ◌+◌, ◌≤◌, ◌<◌, ◌^◌, ◌++◌, All, IfErr, IfOk, OnOk, map, take, vec_len};
 ghost use Rattle.motions.specs.Views.{parts};
 ghost use Rattle.symmetry.specs.Groups.{Listing};
 ghost use Rattle.symmetry.specs.Vectors.{plus};
 ghost use Rattle.symmetry.specs.Sizes.{IsVectorWithin};
 ghost use Rattle.closure.specs.declared.limits.TheConstants.{MAX_RESIDUES};
-ghost use Rattle.closure.specs.Residues.{reduced_parts, residue, has_residue, IsResidueEntry, IsResidue};
+ghost use Rattle.closure.specs.Residues.{residue, has_residue, IsResidue};
 ghost use Rattle.closure.specs.Spans.{AreResiduesOf, coset, with_centring};
+ghost use Rattle.closure.specs.Fineness.{centrings_alone};
 ghost use Rattle.closure.specs.Faults.{IsLatticeFault};
 
-use std::alloc::AllocError;
+use std::alloc::{AllocError, Global};
 
-use fractions::{Part, UNIT};
+use fractions::Part;
 
 use crate::lattice_fault::LatticeFault;
 use crate::limits::MAX_RESIDUES;
-
-/// The part of 0 to below an edge that is whole edges away.
-fn reduced(part: Part) -> Part
-    ensures value { result.0 ≡ reduced_parts part.0 }
-    ensures entry { IsResidueEntry result }
-{
-    Part(part.0.rem_euclid(UNIT))
-}
 
 /// The residue of a vector.
 #[tactic(auto, unfolding(crate::specs::Residues::residue))]
@@ -30,21 +23,17 @@ pub(crate) fn residue_of(v: &[Part; 3]) -> [Part; 3]
     ensures value { parts result ≡ residue (parts v.now) }
     ensures reduced { IsResidue result }
 {
-    [reduced(v[0]), reduced(v[1]), reduced(v[2])]
+    [v[0].reduced(), v[1].reduced(), v[2].reduced()]
 }
 
 /// The residue of the sum of two vectors.
 pub(crate) fn residue_of_sum(v: &[Part; 3], w: &[Part; 3]) -> [Part; 3]
-    requires first { IsVectorWithin (2 ^ 40) (parts v.now) }
-    requires second { IsVectorWithin (2 ^ 40) (parts w.now) }
+    requires first { IsVectorWithin (2 ^ 52) (parts v.now) }
+    requires second { IsVectorWithin (2 ^ 52) (parts w.now) }
     ensures value { parts result ≡ residue (plus (parts v.now) (parts w.now)) }
     ensures reduced { IsResidue result }
 {
-    residue_of(&[
-        Part(v[0].0 + w[0].0),
-        Part(v[1].0 + w[1].0),
-        Part(v[2].0 + w[2].0),
-    ])
+    residue_of(&[v[0].add(w[0]), v[1].add(w[1]), v[2].add(w[2])])
 }
 
 /// Whether the residue of the vector is listed.
@@ -96,4 +85,22 @@ pub(crate) fn add_vector(residues: &mut Vec<[Part; 3]>, v: &[Part; 3]) -> Result
         step = residue_of_sum(&step, v);
     }
     Ok(())
+}
+
+/// The residues of all sums of whole multiples of the cell edges and the vectors, each once.
+///
+/// [`LatticeFault::TooFine`] comes where there are more than [`MAX_RESIDUES`].
+pub(crate) fn residues_of_sums(alloc: Global, vectors: &[[Part; 3]]) -> Result<Vec<[Part; 3]>, LatticeFault>
+    requires { All (λ v. IsVectorWithin (2 ^ 40) (parts v)) vectors.now }
+    ensures reduced { IfOk result (λ residues. All IsResidue residues.items) }
+    ensures few { IfOk result (λ residues. vec_len residues ≤ MAX_RESIDUES) }
+    ensures lattice { IfOk result (λ residues. AreResiduesOf (centrings_alone (map parts vectors.now)) (map parts residues.items)) }
+    ensures fault { IfErr result (IsLatticeFault (centrings_alone (map parts vectors.now))) }
+{
+    let mut residues = Vec::new(alloc);
+    residues.push([Part(0), Part(0), Part(0)])?;
+    for v in vectors {
+        add_vector(&mut residues, v)?;
+    }
+    Ok(residues)
 }

@@ -1,13 +1,20 @@
--- Vectors of whole edges, and residues modulo these.
-use Rattle.std.proofs.Common.{◌≡◌, ℕ, ◌<◌, arith, refl, sym, ap, subst, ◌∙◌, lit<, ℤ, pos, negsuc, ◌+ℤ◌, ◌-ℤ◌, ◌*ℤ◌}
-use Rattle.std.specs.Prelude.{unsigned_abs}
+-- Vectors of whole edges, and residues modulo these. Proofs: they stand here since an `impl` cites them.
+use Rattle.std.proofs.Common.{◌≡◌, ℕ, ◌<◌, ◌↔◌, true, false, IsTrue, arith, sym, ap, subst, ◌∙◌, lit<, ℤ, negsuc, ◌+ℤ◌, ◌-ℤ◌, ◌*ℤ◌, List, get_or}
+use Rattle.std.specs.Prelude.{Contains, unsigned_abs}
+use Rattle.std.proofs.lemmas.List.Folds.{list_any_at}
+use Rattle.std.proofs.lemmas.Map.Views.{Contains-from_any}
 use Rattle.std.proofs.lemmas.Int.{ints}
 use Rattle.integers.specs.Size.{Divides}
 use Rattle.fractions.specs.declared.part.TheConstants.{UNIT}
 use Rattle.symmetry.specs.Vectors.{Vector, Matrix, origin, plus, minus, multiple, opposite, dot, image}
 use Rattle.symmetry.proofs.VectorLaws.{vector_path, minus-same, minus-plus-minus, minus-exchange, opposite-minus}
-use Rattle.closure.specs.Residues.{IsWhole, residue, reduced_parts}
-use Rattle.closure.proofs.Remainders.{rem-same, same_rem, minus-rem, rem-small, Divides-zero, Divides-self, Divides-add, Divides-multiple}
+use Rattle.symmetry.specs.Frames.{same_vector}
+use Rattle.fractions.specs.Parts.{reduced_parts}
+use Rattle.fractions.specs.declared.part.Part.{Part}
+use Rattle.motions.specs.Views.{parts, part_at}
+use Rattle.motions.specs.MotionLaws.{same_vector-is}
+use Rattle.closure.specs.Residues.{IsWhole, residue, has_residue, IsResidue}
+use Rattle.closure.specs.Remainders.{rem-same, same_rem, minus-rem, rem-small, Divides-zero, Divides-self, Divides-add, Divides-multiple}
 
 -- the parts of an edge
 abbrev edge : ℕ
@@ -97,3 +104,24 @@ minus-minus u v w = vector_path (omega (arith, ints)) (omega (arith, ints)) (ome
 pub residue-minus : (u v w : Vector) → residue v ≡ residue w → residue (minus u v) ≡ residue (minus u w)
 residue-minus u v w e =
     residue-same (minus u v) (minus u w) (subst IsWhole (minus-minus u v w) (whole-opposite (minus v w) (whole_from_residues v w e)))
+
+-- ---- the residue of a vector is listed
+
+pub has_residue-is : (rs : List Vector) (v : Vector) → IsTrue (has_residue rs v) ↔ Contains rs (residue v)
+has_residue-is rs v = (
+    λ t. Contains-from_any {eq = λ q r. same_vector r q} (λ x y e. sym ((same_vector-is y x).0 e)) (residue v) rs t,
+    λ (k, within, is). list_any_at (λ r. same_vector r (residue v)) rs k (residue v) within ((same_vector-is (get_or rs k (residue v)) (residue v)).1 is),
+  )
+
+pub has_residue-false : (rs : List Vector) (v : Vector) → has_residue rs v ≡ false → ¬ Contains rs (residue v)
+has_residue-false rs v e is = true_and_false (sym ((has_residue-is rs v).1 is) ∙ e)
+  where
+    true_and_false : true ≡ false → ⊥
+    true_and_false h = cc
+
+-- an array of reduced entries is its own residue
+pub residue-parts : (r : List Part) → IsResidue r → residue (parts r) ≡ parts r
+unfolding residue
+residue-parts r h =
+    vector_path (rem-small edge edge_positive (part_at r 0) h.x.least h.x.below) (rem-small edge edge_positive (part_at r 1) h.y.least h.y.below)
+    (rem-small edge edge_positive (part_at r 2) h.z.least h.z.below)

@@ -1,9 +1,11 @@
--- Lists: pairs of places, and what a map contains.
-use Rattle.std.proofs.Common.{◌≡◌, ℕ, zero, suc, ◌+◌, ◌-◌, ◌<◌, ◌≤◌, inl, inr, arith, refl, sym, ap, subst, ◌∙◌, List, [], ◌∷◌, ◌++◌, length, get_or, map, take, ⊎_elim}
+-- Lists: pairs of places, and what a map contains. Proofs: they stand here since an `impl` cites them.
+use Rattle.std.proofs.Common.{◌≡◌, ℕ, zero, suc, Bool, true, false, ◌+◌, ◌-◌, ◌<◌, ◌≤◌, inl, inr, arith, refl, sym, ap, subst, ◌∙◌, List, [], ◌∷◌, ◌++◌, length, get_or, map, take, ⊎_elim}
 use Rattle.std.specs.Prelude.{All, AllPairs, Contains}
 use Rattle.std.proofs.lemmas.Bool.{cases_lt}
 use Rattle.std.proofs.lemmas.List.{get_or-map, get_or_default, length-map, length-append, get_or_append_left, get_or-append_right, take-append-drop}
-use Rattle.std.proofs.lemmas.List.Elements.{Contains-get_or, Contains-append_left}
+use Rattle.std.specs.List.{IsDistinct}
+use Rattle.std.proofs.lemmas.List.Elements.{Contains-get_or, Contains-append_left, recursion_from_All, All-from_recursion}
+use Rattle.std.proofs.lemmas.List.Kept.{AllPairs-cons}
 
 -- ---- pairs of places
 
@@ -68,3 +70,22 @@ module _ {X Y : Type 0} (f : X → Y) where
       let h : k < length xs = subst (λ n. k < n) (length-map xs f) within in
       let x = item_at xs k h in
       (x.0, (k, h, x.1), sym (ap f x.1) ∙ sym (get_or-map f xs k x.0 y h) ∙ is)
+
+-- ---- elements that differ, by a test of equality
+
+module _ {X : Type 0} (E : X → X → Bool) where
+  pub distinct_from_apart : ((x y : X) → ¬ (x ≡ y) → E x y ≡ false) → (xs : List X) → AllPairs (λ x y. ¬ (x ≡ y)) xs → IsDistinct E xs
+  unfolding IsDistinct
+  distinct_from_apart tells [] p = tt
+  distinct_from_apart tells (x ∷ xs) p = (
+    recursion_from_All (λ y. E x y ≡ false) xs (λ k d l. tells x (get_or xs k d) (p 0 (suc k) d (omega arith) (omega arith))),
+    distinct_from_apart tells xs (λ i j d less within. p (suc i) (suc j) d (omega arith) (omega arith)),
+  )
+
+  pub apart_from_distinct : ((x y : X) → E x y ≡ false → ¬ (x ≡ y)) → (xs : List X) → IsDistinct E xs → AllPairs (λ x y. ¬ (x ≡ y)) xs
+  unfolding IsDistinct
+  apart_from_distinct tells [] d = λ i j e less within. absurd (omega arith)
+  apart_from_distinct tells (x ∷ xs) d =
+      AllPairs-cons (λ x y. ¬ (x ≡ y)) x xs
+      (λ k e l. tells x (get_or xs k e) (All-from_recursion (λ y. E x y ≡ false) xs d.0 k e l))
+      (apart_from_distinct tells xs d.1)
