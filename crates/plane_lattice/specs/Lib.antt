@@ -1,5 +1,6 @@
 pub mod Bounds
 pub mod Coordinates
+pub mod FrameOf
 pub mod FrameTests
 pub mod FrameView
 pub mod PlaneLattice
