@@ -5,6 +5,7 @@ mod coordinates;
 mod frame;
 mod frame_tests;
 mod images;
+mod make;
 mod means;
 mod skews;
 mod space;
