@@ -76,7 +76,7 @@ module _ (Same : Motion → Motion → Type 0) (E : IsEquivalence Same) where
       → (q : ℕ) × IsFirstPlace firsts (Same m) q
   to_firsts _ _ none m p f = absurd (let w = f.within in omega arith)
   to_firsts _ _ (kept list firsts x a n) m p f = elim (cases_lt p (length list)) [
-    inl l ↦
+    | inl l ↦
         let r = to_firsts list firsts a m p (first-back (Same m) list x p l f) in
         (r.0, first-push (Same m) firsts x r.0 r.1)
     | inr l ↦
@@ -84,7 +84,7 @@ module _ (Same : Motion → Motion → Type 0) (E : IsEquivalence Same) where
         (length firsts, first-new (Same m) firsts x r.0 (none_of_firsts list firsts a m r.1))
   ]
   to_firsts _ _ (left_out list firsts x a n) m p f = elim (cases_lt p (length list)) [
-    inl l ↦ to_firsts list firsts a m p (first-back (Same m) list x p l f)
+    | inl l ↦ to_firsts list firsts a m p (first-back (Same m) list x p l f)
     | inr l ↦ let r = first-last (Same m) list x p l f in absurd (not_first list x m n r.0 r.1)
   ]
 
@@ -92,7 +92,7 @@ module _ (Same : Motion → Motion → Type 0) (E : IsEquivalence Same) where
       → (p : ℕ) × IsFirstPlace list (Same m) p
   from_firsts _ _ none m q f = absurd (let w = f.within in omega arith)
   from_firsts _ _ (kept list firsts x a n) m q f = elim (cases_lt q (length firsts)) [
-    inl l ↦
+    | inl l ↦
         let r = from_firsts list firsts a m q (first-back (Same m) firsts x q l f) in
         (r.0, first-push (Same m) list x r.0 r.1)
     | inr l ↦
@@ -128,7 +128,7 @@ module _ (Same : Motion → Motion → Type 0) (E : IsEquivalence Same) where
   before_in_firsts : (list firsts : List Motion) → AreFirst Same list firsts → (m n : Motion) → ComesBefore Same list m n → ComesBefore Same firsts m n
   before_in_firsts _ _ none m n b = b
   before_in_firsts _ _ (kept list firsts x a c) m n b = elim (cases_lt b.q (length list)) [
-    inl l ↦ before_push firsts x m n (before_in_firsts list firsts a m n (before_back list x m n b l))
+    | inl l ↦ before_push firsts x m n (before_in_firsts list firsts a m n (before_back list x m n b l))
     | inr l ↦
         let r = first-last (Same n) list x b.q l b.first_of_n in
         let s = to_firsts list firsts a m b.p (first-back (Same m) list x b.p (earlier list x m n b) b.first_of_m) in
@@ -141,14 +141,14 @@ module _ (Same : Motion → Motion → Type 0) (E : IsEquivalence Same) where
         }
   ]
   before_in_firsts _ _ (left_out list firsts x a c) m n b = elim (cases_lt b.q (length list)) [
-    inl l ↦ before_in_firsts list firsts a m n (before_back list x m n b l)
+    | inl l ↦ before_in_firsts list firsts a m n (before_back list x m n b l)
     | inr l ↦ let r = first-last (Same n) list x b.q l b.first_of_n in absurd (not_first list x n c r.0 r.1)
   ]
 
   before_in_list : (list firsts : List Motion) → AreFirst Same list firsts → (m n : Motion) → ComesBefore Same firsts m n → ComesBefore Same list m n
   before_in_list _ _ none m n b = b
   before_in_list _ _ (kept list firsts x a c) m n b = elim (cases_lt b.q (length firsts)) [
-    inl l ↦ before_push list x m n (before_in_list list firsts a m n (before_back firsts x m n b l))
+    | inl l ↦ before_push list x m n (before_in_list list firsts a m n (before_back firsts x m n b l))
     | inr l ↦
         let r = first-last (Same n) firsts x b.q l b.first_of_n in
         let s = from_firsts list firsts a m b.p (first-back (Same m) firsts x b.p (earlier firsts x m n b) b.first_of_m) in

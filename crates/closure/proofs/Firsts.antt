@@ -31,7 +31,7 @@ module _ (g : Listing) (vectors : List Vector) (same : (v : Vector) → Generate
   inside : (v : Vector) → IsInLattice (centrings_alone vectors) v ↔ IsInLattice g v
   inside v = (
     lattice-more (centrings_alone vectors) g (λ u made. lattice-made g u ((same u).0 made)) v,
-    lattice-more g (centrings_alone vectors) (λ u made. lattice-made (centrings_alone vectors) u ((same u).1 made)) v
+    lattice-more g (centrings_alone vectors) (λ u made. lattice-made (centrings_alone vectors) u ((same u).1 made)) v,
   )
 
   pub lattice_of_listed : (lattice : Lattice) → IsLatticeOf (centrings_alone vectors) lattice → IsLatticeOf g lattice
@@ -73,17 +73,17 @@ module _ (g : Listing) (lattice : Lattice) (h : IsLatticeOf g lattice) where
     pub kept_lattice : IsLatticeOf kept_listing lattice
     kept_lattice v = (
       λ is. lattice-by_residue kept_listing v (residue v) (sym (residue-residue v)) (lattice-made kept_listing (residue v) (inr (inl is))),
-      λ is. (h v).1 (lattice-more kept_listing g generates_kept v is)
+      λ is. (h v).1 (lattice-more kept_listing g generates_kept v is),
     )
 
     pub kept_member : (m : Motion) → IsMember g m ↔ IsMember kept_listing m
     kept_member m = (
       λ is. (member_is kept_listing lattice kept_lattice m).0 ((firsts_are_listed (modulo lattice) followed_by_laws (shifts_lem lattice) g.ops ops by_quotient m).0 ((member_is g lattice h m).1 is)),
-      λ is. (member_is g lattice h m).0 ((firsts_are_listed (modulo lattice) followed_by_laws (shifts_lem lattice) g.ops ops by_quotient m).1 ((member_is kept_listing lattice kept_lattice m).1 is))
+      λ is. (member_is g lattice h m).0 ((firsts_are_listed (modulo lattice) followed_by_laws (shifts_lem lattice) g.ops ops by_quotient m).1 ((member_is kept_listing lattice kept_lattice m).1 is)),
     )
 
     pub kept_group : IsGroup g ↔ IsGroupModulo (modulo lattice) ops
     kept_group = (
       λ k. (group_of_firsts (modulo lattice) followed_by_laws (shifts_lem lattice) g.ops ops by_quotient).0 ((group_is g lattice h).1 k),
-      λ k. (group_is g lattice h).0 ((group_of_firsts (modulo lattice) followed_by_laws (shifts_lem lattice) g.ops ops by_quotient).1 k)
+      λ k. (group_is g lattice h).0 ((group_of_firsts (modulo lattice) followed_by_laws (shifts_lem lattice) g.ops ops by_quotient).1 k),
     )

@@ -32,7 +32,7 @@ module _ (g : Listing) (lattice : Lattice) (h : IsLatticeOf g lattice) (ops : Li
   listed_is : (m : Motion) → IsListed (modulo lattice) ops m ↔ IsMember g m
   listed_is m = (
     λ l. (kept_member g lattice h ops f m).1 ((member_is (kept_listing g lattice h ops f) lattice (kept_lattice g lattice h ops f) m).0 l),
-    λ l. (member_is (kept_listing g lattice h ops f) lattice (kept_lattice g lattice h ops f) m).1 ((kept_member g lattice h ops f m).0 l)
+    λ l. (member_is (kept_listing g lattice h ops f) lattice (kept_lattice g lattice h ops f) m).1 ((kept_member g lattice h ops f m).0 l),
   )
 
   -- a listed operation is the same as one of the first
@@ -100,14 +100,22 @@ module _ (g : Listing) (lattice : Lattice) (h : IsLatticeOf g lattice) (ops : Li
 
   pub fault_is : (fault : GroupFault) → IsFault (modulo lattice) ops fault → IsFaultAt g ops fault
   fault_is NoIdentity n = λ p. n ((listed_is identity).1 p)
-  fault_is (ShiftMoved i) (one, w) = ((listed_is identity).0 one, record {
-    position = w.position;
-    lacks = λ k. w.lacks ((keeps_lattice g lattice h _).1 k);
-    before = λ k p l. (keeps_lattice g lattice h _).0 (w.before k p l);
-  })
+  fault_is (ShiftMoved i) (one, w) = (
+    (listed_is identity).0 one,
+    record {
+      position = w.position;
+      lacks = λ k. w.lacks ((keeps_lattice g lattice h _).1 k);
+      before = λ k p l. (keeps_lattice g lattice h _).0 (w.before k p l);
+    },
+  )
   fault_is (NotClosed i j) (one, k, o) = ((listed_is identity).0 one, all_keep k, first_open i j o)
-  fault_is (NoInverse i) (one, k, c, w) = ((listed_is identity).0 one, all_keep k, all_closed k c, record {
-    position = w.position;
-    lacks = λ p. w.lacks (inverse_to k (motion_at (modulo lattice) ops i) ((keeps_lattice g lattice h (motion_at (modulo lattice) ops i)).0 (k (motion_at (modulo lattice) ops i) (at_position i w.position))) p);
-    before = λ j p l. inverse_from _ (w.before j p l);
-  })
+  fault_is (NoInverse i) (one, k, c, w) = (
+    (listed_is identity).0 one,
+    all_keep k,
+    all_closed k c,
+    record {
+      position = w.position;
+      lacks = λ p. w.lacks (inverse_to k (motion_at (modulo lattice) ops i) ((keeps_lattice g lattice h (motion_at (modulo lattice) ops i)).0 (k (motion_at (modulo lattice) ops i) (at_position i w.position))) p);
+      before = λ j p l. inverse_from _ (w.before j p l);
+    },
+  )

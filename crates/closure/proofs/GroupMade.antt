@@ -91,6 +91,12 @@ lattice_accepted g NoMemory f limits = refl
 
 -- ---- the operations that are kept
 
+-- the code's list of the first motions, read as a slice
+pub kept_first : (g : Listing) (lattice : Lattice) → IsLatticeOf g lattice → (list now firsts : List Motion3) → now ≡ list
+    → AreFirst (λ m n. IsSame (modulo lattice) (motion_of m) (motion_of n)) now firsts → AreFirst (SameModulo g) (map motion_of list) (map motion_of firsts)
+kept_first g lattice h list now firsts read f =
+    subst (λ ms. AreFirst (SameModulo g) (map motion_of ms) (map motion_of firsts)) read (first_listed g lattice h now firsts f)
+
 module _ (g : Listing) (lattice : Lattice) (h : IsLatticeOf g lattice) (ops : List Motion3) (f : AreFirst (SameModulo g) g.ops (map motion_of ops)) where
   pub kept_apart : AreApart (listing_with ops lattice)
   kept_apart i j d less within s =
@@ -103,19 +109,24 @@ module _ (g : Listing) (lattice : Lattice) (h : IsLatticeOf g lattice) (ops : Li
   pub kept_translations : HoldsTranslations (listing_with ops lattice) lattice
   kept_translations v is = (has_residue-is (residues_of lattice) v).1 ((kept_lattice g lattice h (map motion_of ops) f v).1 is)
 
-  -- what was accepted is a group, and so is what is kept
-  pub accepted_group : IsGroupModulo (modulo lattice) (map motion_of ops) → IsGroup g
-  accepted_group = (kept_group g lattice h (map motion_of ops) f).1
+  module _ (now : List Motion3) (read : now ≡ ops) where
+    -- what was accepted is a group, and so is what is kept
+    checked : IsGroupModulo (modulo lattice) (map motion_of now) → IsGroupModulo (modulo lattice) (map motion_of ops)
+    checked = subst (λ ms. IsGroupModulo (modulo lattice) (map motion_of ms)) read
 
-  pub kept_is_group : IsGroupModulo (modulo lattice) (map motion_of ops) → IsGroup (listing_with ops lattice)
-  kept_is_group = (group_is (listing_with ops lattice) lattice (kept_lattice g lattice h (map motion_of ops) f)).0
+    pub accepted_group : IsGroupModulo (modulo lattice) (map motion_of now) → IsGroup g
+    accepted_group k = (kept_group g lattice h (map motion_of ops) f).1 (checked k)
 
-  -- what was refused is no group, by a cause
-  pub refused_fault : IsWithinLimits g → (fault : GroupFault) → IsFault (modulo lattice) (map motion_of ops) fault → IsGroupError g (Fault fault)
-  refused_fault limits fault is = (limits, (map motion_of ops, f, fault_is g lattice h (map motion_of ops) f fault is))
+    pub kept_is_group : IsGroupModulo (modulo lattice) (map motion_of now) → IsGroup (listing_with ops lattice)
+    kept_is_group k = (group_is (listing_with ops lattice) lattice (kept_lattice g lattice h (map motion_of ops) f)).0 (checked k)
 
-  pub refused_group : IsGroup g → IsGroupModulo (modulo lattice) (map motion_of ops)
-  refused_group = (kept_group g lattice h (map motion_of ops) f).0
+    -- what was refused is no group, by a cause
+    pub refused_group : IsGroup g → IsGroupModulo (modulo lattice) (map motion_of now)
+    refused_group k = subst (λ ms. IsGroupModulo (modulo lattice) (map motion_of ms)) (sym read) ((kept_group g lattice h (map motion_of ops) f).0 k)
+
+    pub refused_fault : IsWithinLimits g → (fault : GroupFault) → IsFault (modulo lattice) (map motion_of now) fault → IsGroupError g (Fault fault)
+    refused_fault limits fault is =
+        (limits, (map motion_of ops, f, fault_is g lattice h (map motion_of ops) f fault (subst (λ ms. IsFault (modulo lattice) (map motion_of ms) fault) read is)))
 
   pub kept_members : (m : Motion) → IsMember g m ↔ IsMember (listing_with ops lattice) m
   kept_members = kept_member g lattice h (map motion_of ops) f

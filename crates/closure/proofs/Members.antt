@@ -20,19 +20,19 @@ module _ (g : Listing) (lattice : Lattice) (h : IsLatticeOf g lattice) where
   pub same_modulo : (m n : Motion) → IsSame (modulo lattice) m n ↔ SameModulo g m n
   same_modulo m n = (
     λ s. let p = (same_is lattice m n).0 s in record { matrix = p.0; shift = (h (minus m.shift n.shift)).0 p.1 },
-    λ s. (same_is lattice m n).1 (s.matrix, (h (minus m.shift n.shift)).1 s.shift)
+    λ s. (same_is lattice m n).1 (s.matrix, (h (minus m.shift n.shift)).1 s.shift),
   )
 
   pub member_is : (m : Motion) → IsListed (modulo lattice) g.ops m ↔ IsMember g m
   member_is m = (
     λ l. record { of = l.of; listed = l.listed; same = (same_modulo m l.of).0 l.same },
-    λ l. record { of = l.of; listed = l.listed; same = (same_modulo m l.of).1 l.same }
+    λ l. record { of = l.of; listed = l.listed; same = (same_modulo m l.of).1 l.same },
   )
 
   pub keeps_lattice : (m : Motion) → Keeps (modulo lattice) m ↔ KeepsLattice g m
   keeps_lattice m = (
     λ k t is. (h (image m.matrix t)).0 ((keeps_vectors lattice m).0 k t ((h t).1 is)),
-    λ k. (keeps_vectors lattice m).1 (λ t is. (h (image m.matrix t)).1 (k t ((h t).0 is)))
+    λ k. (keeps_vectors lattice m).1 (λ t is. (h (image m.matrix t)).1 (k t ((h t).0 is))),
   )
 
   to_listed : IsGroupModulo (modulo lattice) g.ops → IsListedGroup g

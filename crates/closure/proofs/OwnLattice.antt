@@ -17,7 +17,7 @@ module _ (group : Group) where
   pub own_lattice : IsLatticeOf (group_listing group) (lattice_of group)
   own_lattice v = (
     λ is. lattice-by_residue (group_listing group) v (residue v) (sym (residue-residue v)) (lattice-made (group_listing group) (residue v) (inr (inl is))),
-    λ is. (has_residue-is (residues_of group.lattice) v).0 (group.translations v is)
+    λ is. (has_residue-is (residues_of group.lattice) v).0 (group.translations v is),
   )
 
   pub own_group : IsGroup (group_listing group)
@@ -28,7 +28,7 @@ module _ (group : Group) where
       → IsTrue b ↔ IsInLattice (group_listing group) v
   has_told now is v b e = (
     λ t. (own_lattice v).0 ((has_residue-is (residues_of group.lattice) v).0 (sym told ∙ t)),
-    λ h. told ∙ (has_residue-is (residues_of group.lattice) v).1 ((own_lattice v).1 h)
+    λ h. told ∙ (has_residue-is (residues_of group.lattice) v).1 ((own_lattice v).1 h),
   )
     where
       told : b ≡ has_residue (residues_of group.lattice) v

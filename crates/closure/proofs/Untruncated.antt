@@ -21,7 +21,7 @@ found : {A : Type 0} (P : A → Type 0) (test : A → Bool) → ((x : A) → IsT
     → ∥ ((x : A) × Contains xs x × P x) ∥₁ → (x : A) × Contains xs x × P x
 found P test is xs known =
     let t : list_any test xs ≡ true = ∥∥₁_elim known (Bool-set _ _)
-        (λ (x, (k, within, at), p). list_any-from_Any test xs (k, x, within, at, (is x).1 p)) in
+    (λ (x, (k, within, at), p). list_any-from_Any test xs (k, x, within, at, (is x).1 p)) in
     let (k, x, within, at, p) = Any-from_list_any test xs t in
     (x, (k, within, at), (is x).0 p)
 
@@ -51,7 +51,7 @@ module _ (g : Listing) (lattice : Lattice) (h : IsLatticeOf g lattice) where
         let p = both (same_matrix m.matrix n.matrix) (in_test (minus m.shift n.shift)) t in
         record { matrix = (same_matrix-is m.matrix n.matrix).0 p.0; shift = (in_test-is (minus m.shift n.shift)).0 p.1 },
     λ s. all_true (same_matrix m.matrix n.matrix) (in_test (minus m.shift n.shift)) ((same_matrix-is m.matrix n.matrix).1 s.matrix)
-        ((in_test-is (minus m.shift n.shift)).1 s.shift)
+        ((in_test-is (minus m.shift n.shift)).1 s.shift),
   )
 
   inverse_test-is : (m n : Motion) → IsTrue (same_test (followed_by m n) identity && same_test (followed_by n m) identity)
@@ -61,7 +61,7 @@ module _ (g : Listing) (lattice : Lattice) (h : IsLatticeOf g lattice) where
         let p = both (same_test (followed_by m n) identity) (same_test (followed_by n m) identity) t in
         ((same_test-is (followed_by m n) identity).0 p.0, (same_test-is (followed_by n m) identity).0 p.1),
     λ (a, b). all_true (same_test (followed_by m n) identity) (same_test (followed_by n m) identity) ((same_test-is (followed_by m n) identity).1 a)
-        ((same_test-is (followed_by n m) identity).1 b)
+        ((same_test-is (followed_by n m) identity).1 b),
   )
 
   listed_group : ∥ IsListedGroup g ∥₁ → IsListedGroup g
@@ -74,9 +74,9 @@ module _ (g : Listing) (lattice : Lattice) (h : IsLatticeOf g lattice) where
         (∥∥₁_map known (λ k. k.products m n p q));
     inverses = λ m is.
         let (n, at, (a, b)) =
-            found (λ n. SameModulo g (followed_by m n) identity × SameModulo g (followed_by n m) identity)
-            (λ n. same_test (followed_by m n) identity && same_test (followed_by n m) identity) (inverse_test-is m) g.ops
-            (∥∥₁_map known (λ k. let i = k.inverses m is in (i.0, i.1, (i.2, i.3)))) in
+        found (λ n. SameModulo g (followed_by m n) identity × SameModulo g (followed_by n m) identity)
+        (λ n. same_test (followed_by m n) identity && same_test (followed_by n m) identity) (inverse_test-is m) g.ops
+        (∥∥₁_map known (λ k. let i = k.inverses m is in (i.0, i.1, (i.2, i.3)))) in
         (n, at, a, b);
   }
 

@@ -176,7 +176,7 @@ module _ (lattice : Lattice) where
             translation w,
             shift_from w (all t.shift a.1),
             ap (λ k. followed_by k m) a.0 ∙ translation-followed_by m t.shift
-            ∙ motion_path refl (plus_comm w m.shift) ∙ sym (followed_by-translation m w),
+                ∙ motion_path refl (plus_comm w m.shift) ∙ sym (followed_by-translation m w),
           )
 
   -- it is enough that the residues go into the lattice
@@ -186,5 +186,5 @@ module _ (lattice : Lattice) where
         (λ r is. (keeps_vectors m).0 k r (subst (Contains rs) (sym (All-contains (λ r. residue r ≡ r) rs r residues-reduced is)) is))
         rs (All-contains_itself rs),
     λ all. (keeps_vectors m).1 (λ v is. subst (Contains rs) (residue-image m.matrix v)
-        (All-contains (λ r. InLattice lattice (image m.matrix r)) rs (residue v) all is))
+        (All-contains (λ r. InLattice lattice (image m.matrix r)) rs (residue v) all is)),
   )

@@ -10,14 +10,12 @@ ghost use Rattle.closure.specs.Faults.{IsLatticeFault};
 ghost use Rattle.closure.specs.Fineness.{centrings_alone, IsTooFine};
 ghost use Rattle.closure.specs.Lattices.{IsLatticeOf};
 
-use std::alloc::{AllocError, Global};
-
-use fractions::Part;
-use motions::Listed;
-
 use crate::lattice::Lattice;
 use crate::lattice_fault::LatticeFault;
 use crate::shifts::is_translation;
+use fractions::Part;
+use motions::Listed;
+use std::alloc::{AllocError, Global};
 
 /// The lattice of what is listed: of the cell edges, the centring vectors and the listed translations.
 ///
