@@ -1,11 +1,11 @@
 -- What 128-bit code computes at numbers of bounded size.
-use Rattle.std.proofs.Common.{◌≡◌, ℕ, ◌+◌, ◌*◌, ◌^◌, ◌<◌, ℤ, ◌+ℤ◌, ◌-ℤ◌, ◌*ℤ◌, ◌<ℤ◌, pos, ◌↔◌, Bool, true, false, IsTrue, FitsSigned, to_z, of_z, ap, refl, sym, subst, ◌∙◌, arith}
+use Rattle.std.proofs.Common.{◌≡◌, ℕ, ◌+◌, ◌^◌, ◌<◌, ℤ, ◌+ℤ◌, ◌<ℤ◌, pos, ◌↔◌, Bool, true, false, IsTrue, FitsSigned, to_z, of_z, ap, refl, sym, subst, ◌∙◌, arith}
 use Rattle.std.specs.Prelude.{int_lt, int_le}
 use Rattle.std.specs.Int.{w128}
 use Rattle.std.proofs.lemmas.Int.{ints, to_z-of_z, fits_signed_from_abs}
 use native.Mathlib.Nat.{lt_of_le_of_lt}
 use Rattle.integers.specs.Size.{IsWithin}
-use Rattle.integers.proofs.Ring.{IsWithin-add, IsWithin-sub, IsWithin-mul}
+use Rattle.integers.proofs.Ring.{IsWithin-add}
 
 -- a number that went to bits, read again
 abbrev pub wide : ℤ → ℤ

@@ -7,10 +7,9 @@ ghost use Rattle.motions.specs.Views.{parts, row_of};
 ghost use Rattle.plane_lattice.specs.Bounds.{largest_entry};
 ghost use Rattle.plane_lattice.specs.Coordinates.{HoldsEdges, vectors, volume};
 
+use crate::coordinates::{edge_coordinate, scaled, volume};
 use fractions::{Part, Ratio};
 use motions::{Basis, Miller};
-
-use crate::coordinates::{edge_coordinate, scaled, volume};
 
 /// A frame of an orientation of planes: the vectors a and b span the planes, and tau leads from one to the next of
 /// the same kind. Together they are a right-handed basis of the translation lattice.

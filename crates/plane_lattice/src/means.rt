@@ -12,10 +12,9 @@ ghost use Rattle.closure.specs.declared.limits.TheConstants.{MAX_OPERATIONS};
 ghost use Rattle.plane_lattice.specs.Bounds.{largest_entry, largest_total, largest_turned};
 ghost use Rattle.plane_lattice.specs.Scanning.{keeps_orientation, IsPointOf, scanning_ops};
 
+use crate::images::image;
 use fractions::{Part, Ratio, UNIT};
 use motions::{Miller, Motion3, Sign, side};
-
-use crate::images::image;
 
 /// The mean of the vectors e W tau over the scanning operations, of which there is one at least.
 pub(crate) fn mean(ops: &[Motion3], plane: &Miller, tau: &[Part; 3]) -> [Ratio; 3]
