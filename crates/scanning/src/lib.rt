@@ -1,0 +1,2 @@
+// The planes of an orientation, height by height.
+#![tactic(auto)]
