@@ -1,13 +1,12 @@
 // A sink in memory.
-ghost use Rattle.std.specs.Prelude.{◌≡◌, ◌≢◌, ℕ, ◌+◌, ◌-◌, ◌<◌, ◌≤◌, ◌↔◌, ◌⊎◌, [], ◌++◌, length, take, Some, Contains, IfOk, IsErr, OnErr};
+ghost use Rattle.std.specs.Prelude.{◌≡◌, ◌+◌, ◌-◌, ◌<◌, ◌≤◌, ◌↔◌, ◌⊎◌, [], ◌++◌, length, take, Some, Contains, IfOk, IsErr, OnErr};
 ghost use Rattle.devices.specs.Calls.{next_count};
-ghost use Rattle.devices.specs.Memory.{Store, new_store, least};
-
-use std::alloc::{AllocError, Global};
-use std::marker::Model;
+ghost use Rattle.devices.specs.Memory.{new_store, least};
 
 use crate::schedule::Schedule;
 use crate::traits::{Failed, Sink};
+use std::alloc::{AllocError, Global};
+use std::marker::Model;
 
 /// There was no memory.
 pub type NoMemory = AllocError;
@@ -28,12 +27,12 @@ impl Model for BytesSink {
     ghost Value = { Store };
 
     ghost view = { λ s. record {
-        held = s.bytes.items;
-        room = s.room;
-        piece = s.piece;
-        failing = s.schedule.failing.items;
-        calls = s.schedule.calls;
-        faults = s.schedule.faults.0;
+      held = s.bytes.items;
+      room = s.room;
+      piece = s.piece;
+      failing = s.schedule.failing.items;
+      calls = s.schedule.calls;
+      faults = s.schedule.faults.0;
     } };
 
     ghost invariant = { λ s. (1 ≤ s.piece) × (vec_len s.bytes ≤ s.room) × (s.room ≤ vec_capacity s.bytes) };

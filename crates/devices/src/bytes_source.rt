@@ -1,12 +1,11 @@
 // A source in memory.
-ghost use Rattle.std.specs.Prelude.{◌≡◌, ℕ, ◌-◌, ◌<◌, ◌≤◌, ◌↔◌, [], ◌++◌, length, take, drop, Some, Contains, IfOk, IsOk, IsErr, OnOk, OnErr};
-ghost use Rattle.devices.specs.Calls.{next_count, Rose};
-ghost use Rattle.devices.specs.Memory.{Supply, new_supply, least};
-
-use std::marker::Model;
+ghost use Rattle.std.specs.Prelude.{◌≡◌, ◌<◌, ◌≤◌, ◌↔◌, [], ◌++◌, length, take, drop, Some, Contains, IfOk, IsErr, OnErr};
+ghost use Rattle.devices.specs.Calls.{next_count};
+ghost use Rattle.devices.specs.Memory.{new_supply, least};
 
 use crate::schedule::Schedule;
 use crate::traits::{Failed, Source};
+use std::marker::Model;
 
 /// A source of bytes in memory, which fails at listed calls.
 #[derive(Drop)]
@@ -24,11 +23,11 @@ impl Model for BytesSource {
     ghost Value = { Supply };
 
     ghost view = { λ s. record {
-        left = drop s.place s.bytes.items;
-        piece = s.piece;
-        failing = s.schedule.failing.items;
-        calls = s.schedule.calls;
-        faults = s.schedule.faults.0;
+      left = drop s.place s.bytes.items;
+      piece = s.piece;
+      failing = s.schedule.failing.items;
+      calls = s.schedule.calls;
+      faults = s.schedule.faults.0;
     } };
 
     ghost invariant = { λ s. (1 ≤ s.piece) × (s.place ≤ length s.bytes.items) };

@@ -1,19 +1,19 @@
 // All the bytes of a source.
-ghost use Rattle.std.specs.Prelude.{◌≡◌, ◌≢◌, ◌+◌, ◌≤◌, length, Err, IfOk, IsErrOf};
+ghost use Rattle.std.specs.Prelude.{◌≡◌, ◌≢◌, ◌+◌, ◌<◌, ◌≤◌, length, Err, IfOk, IsErrOf, IfSome};
+ghost use Rattle.std.specs.Io.KnownBytes.{IsAtEnd};
 ghost use Rattle.devices.specs.Calls.{Rose};
 ghost use Rattle.devices.specs.Input.{IfWhole, OnTooLong};
-ghost use Rattle.devices.specs.Transfers.{ReadsAll, ReadsMore, ReadsWithin};
+ghost use Rattle.devices.specs.Transfers.{ReadsWithin};
 ghost use Rattle.devices.specs.declared.read.ReadFault.TheVariants.{Failed as failed, NoMemory as no_memory};
 
+use crate::traits::{Failed, Source};
 use std::alloc::{AllocError, Global};
 
-use crate::traits::{Failed, Source};
-
-// At most so many bytes are read at once.
+// A call of `next` is asked for at most so many bytes.
 const PIECE: usize = 4096;
 
 /// What a source gave up to its end.
-#[derive(Debug, Drop)]
+#[derive(Debug, PartialEq, Eq, Drop)]
 pub enum Input {
     /// All its bytes.
     Whole(Vec<u8>),
@@ -46,22 +46,20 @@ impl From<AllocError> for ReadFault {
     }
 }
 
-/// Reads a source to its end, which it does not pass by more than one byte beyond the limit. `TooLong` comes exactly
-/// where the source gave more than `limit` bytes, `Failed` only where its count of faults rose. Each turn takes a
-/// byte, or is the last.
-pub fn read_all<S: Source>(
-    alloc: Global,
-    source: &mut S,
-    limit: usize,
-) -> Result<Input, ReadFault>
-    ensures whole { IfOk result (λ input. IfWhole input (ReadsAll (S.left source.old) (S.left source.new))) }
+/// Reads a source to its end, but at most one byte beyond the limit. `TooLong` comes exactly where the source gave
+/// more than `limit` bytes, and `Failed` only where its count of faults rose. Each turn takes a byte, or is the last.
+pub fn read_all<S: Source>(alloc: Global, source: &mut S, limit: usize) -> Result<Input, ReadFault>
+    ensures whole { IfOk result (λ input. IfWhole input (λ bytes.
+        IfSome (S.left source.old) (λ all. bytes ≡ all))) }
+    ensures end { IfOk result (λ input. IfWhole input (λ _. IsAtEnd (S.left source.new))) }
     ensures short { IfOk result (λ input. IfWhole input (λ bytes. length bytes ≤ limit)) }
-    ensures too_long { IfOk result (λ input. OnTooLong input (ReadsMore (S.left source.old) (S.left source.new) limit)) }
+    ensures too_long { IfOk result (λ input. OnTooLong input
+        (IfSome (S.left source.old) (λ all. limit < length all))) }
     ensures within { ReadsWithin (S.left source.old) (S.left source.new) (limit + 1) }
     ensures counts { S.faults source.old ≤ S.faults source.new }
     ensures failed { IsErrOf result ReadFault.Failed → Rose (S.faults source.old) (S.faults source.new) }
-    ensures steady { S.NeverFails source.old →
-        (result ≢ Err ReadFault.Failed) × S.NeverFails source.new × (S.faults source.new ≡ S.faults source.old) }
+    ensures steady { S.NeverFails source.old → (result ≢ Err ReadFault.Failed)
+        × S.NeverFails source.new × (S.faults source.new ≡ S.faults source.old) }
 {
     let mut bytes = Vec::new(alloc);
     let mut piece = [0; PIECE];

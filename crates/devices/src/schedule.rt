@@ -1,28 +1,9 @@
-// Counts of calls and of faults.
-ghost use Rattle.std.specs.Prelude.{◌≡◌, ◌≤◌, ◌↔◌, Contains, IsErr, OnErr, OnOk};
+// Which calls of a device in memory fail.
+ghost use Rattle.std.specs.Prelude.{◌≡◌, ◌↔◌, Contains, IsErr, OnErr, OnOk};
 ghost use Rattle.devices.specs.Calls.{next_count};
 
+use crate::faults::Faults;
 use crate::traits::Failed;
-
-/// How often a device failed. At its last number the count stays.
-#[derive(Drop)]
-pub(crate) struct Faults(u64);
-
-impl Faults {
-    pub(crate) fn none() -> Faults
-        ensures { result.0 ≡ 0 }
-    {
-        Faults(0)
-    }
-
-    pub(crate) fn count(&mut self) -> Failed
-        ensures next { self.new.0 ≡ next_count self.old.0 }
-        ensures grows { self.old.0 ≤ self.new.0 }
-    {
-        self.0 = self.0.saturating_add(1);
-        Failed
-    }
-}
 
 /// Which calls of a device in memory fail, and how many calls and faults there were.
 #[derive(Drop)]

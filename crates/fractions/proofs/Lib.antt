@@ -1,0 +1,6 @@
+pub mod Digits
+pub mod Divisor
+pub mod Faults
+pub mod Gcd
+pub mod Lowest
+pub mod Reduced

@@ -1,1 +1,6 @@
 pub mod Fraction
+pub mod FractionOf
+pub mod LowestTerms
+pub mod Parts
+pub mod RatioText
+pub mod WrittenRatio

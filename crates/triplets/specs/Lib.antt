@@ -1,3 +1,4 @@
+pub mod Bytes
 pub mod Marks
 pub mod Denominators
 pub mod Rows
@@ -12,3 +13,5 @@ pub mod Texts
 pub mod TextAnswers
 pub mod PlaceBounds
 pub mod TextReading
+pub mod Writing
+pub mod Writable

@@ -1,13 +1,12 @@
 // The reader of a line, byte by byte.
 ghost use Rattle.std.specs.Prelude.{◌≡◌, ◌≤◌, ℕ, length, IfOk, IfErr, Ok};
 
-use fractions::Part;
-use motions::{Motion3, Sign};
-
 use crate::fault::TextKind;
 use crate::marks::Mark;
 use crate::part::{PartReader, Spot};
 use crate::triplet::{Nth, TripletReader};
+use fractions::Part;
+use motions::{Motion3, Sign};
 
 /// What is known of the centring vector that is being read.
 #[derive(Clone, Copy, Debug)]

@@ -2,11 +2,10 @@
 ghost use Rattle.std.specs.Prelude.{◌≡◌, ◌<◌};
 ghost use Rattle.triplets.specs.Rows.{signed};
 
-use motions::Sign;
-
 use crate::denominator::{Denominator, PARTS};
 use crate::fault::TextKind;
 use crate::marks::{Axis, Mark};
+use motions::Sign;
 
 /// What a part says: a row of the matrix part, and an entry of the translation, in parts of a cell edge.
 #[derive(Clone, Copy, Debug, PartialEq, Eq)]

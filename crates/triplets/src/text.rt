@@ -2,12 +2,11 @@
 ghost use Rattle.std.specs.Prelude.{◌≤◌, ◌+◌};
 ghost use Rattle.triplets.specs.PlaceBounds.{IsPlaceWithin, IsPlaceWithin-prop};
 
-use motions::Listed;
-use std::alloc::Global;
-
 use crate::fault::{TextFault, TextKind};
 use crate::line::LinePlace;
 use crate::marks::mark_of;
+use motions::Listed;
+use std::alloc::Global;
 
 /// Reads a group text that comes in pieces, cut anywhere.
 ///
@@ -27,10 +26,11 @@ pub struct LineReader {
 }
 
 impl LineReader {
-    ghost use Rattle.std.specs.Prelude.{◌≡◌, ◌⊎◌, ◌++◌, [], ℕ, List, length, Err, Some, None, IfSome, IfErr};
+    ghost use Rattle.std.specs.Prelude.{◌≡◌, ◌⊎◌, ◌++◌, [], ℕ, List, length, Err, Some, None, IfSome, IfOk, IfErr};
     ghost use Rattle.triplets.specs.declared.fault.TextFault.TheVariants.{At, NoMemory};
     ghost use Rattle.triplets.specs.TextReading.{Stands, Gives, AreAlike, kept, finished, byte_step, bytes_fed, fault_answered};
     ghost use Rattle.triplets.specs.TextAnswers.{IsAnswer, IsAnswerSoFar};
+    ghost use Rattle.motions.specs.ListedSizes.{IsListedSmall};
 
     /// A reader that was fed nothing. It takes no memory.
     pub fn make(alloc: Global) -> Self
@@ -134,6 +134,7 @@ impl LineReader {
     /// Ends the text: what it lists, or its first fault.
     pub fn finish(self) -> Result<Listed, TextFault>
         ensures answer { (text : List ℕ) → Stands self text → IsAnswer text result }
+        ensures small { (text : List ℕ) → Stands self text → IfOk result (IsListedSmall 9) }
         ensures again { IfSome (fault_answered self) (λ fault. result ≡ Err fault) }
     {
         if let Some(fault) = self.fault {

@@ -1,4 +1,4 @@
-use Rattle.std.proofs.Common.{◌≡◌, ℕ, ◌+◌, ◌-◌, ◌≤◌, length, take, drop, length-drop, length-take, arith, subst, ◌∙◌}
+use Rattle.std.proofs.Common.{◌≡◌, ◌+◌, ◌-◌, length-drop, length-take, arith, subst, ◌∙◌}
 use Rattle.devices.proofs.Known.{append_known-take}
 use Rattle.devices.proofs.put.put_all.Goals as goal
 
@@ -9,12 +9,12 @@ loop-taken-preserved g c =
     let more = c.in_ok-taken.field-0 in
     let rest = simp (length-take, length-drop) at c.in_ok-taken.ensures.fits in
     record {
-        fits = omega (arith, rest);
-        holds = append_known-take _ _ _ taken more text c.loop-taken.invariant.holds c.in_ok-taken.ensures.taken;
-        counts = omega (arith, c.loop-taken.invariant.counts, c.in_ok-taken.ensures.counts);
-        steady = λ n takes room.
-            let now = c.loop-taken.invariant.steady n takes room in
-            let then = c.in_ok-taken.ensures.steady (n - taken) now.0 (simp (length-take, length-drop) (omega arith)) in
-            let same : n - taken - more ≡ n - (taken + more) = omega arith in
-            (subst (λ k. g.K.Sink.Takes c.put.new.self k) same then.0, then.1 ∙ now.1);
+      fits = omega (arith, rest);
+      holds = append_known-take _ _ _ taken more text c.loop-taken.invariant.holds c.in_ok-taken.ensures.taken;
+      counts = omega (arith, c.loop-taken.invariant.counts, c.in_ok-taken.ensures.counts);
+      steady = λ n takes room.
+          let now = c.loop-taken.invariant.steady n takes room in
+          let then = c.in_ok-taken.ensures.steady (n - taken) now.0 (simp (length-take, length-drop) (omega arith)) in
+          let same : n - taken - more ≡ n - (taken + more) = omega arith in
+          (subst (λ k. g.K.Sink.Takes c.put.new.self k) same then.0, then.1 ∙ now.1);
     }

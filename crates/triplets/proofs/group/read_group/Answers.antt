@@ -9,8 +9,11 @@ gave : (u : Unit {0}) (p : Type 0) → ((let z : Result (Unit {0}) TextFault = O
 gave u p (inl z) = absurd cc
 gave u p (inr h) = h
 
-pub returns-in-Ok : goal.returns-in-Ok
-returns-in-Ok c = c.finish.ensures.answer c.args.bytes.now (gave c.in-Ok.field-0 _ c.in-Ok.ensures.stands [] c.make-reader.ensures.stands)
+pub returns-in-Ok-clause-answer : goal.returns-in-Ok-clause-answer
+returns-in-Ok-clause-answer c = c.finish.ensures.answer c.args.bytes.now (gave c.in-Ok.field-0 _ c.in-Ok.ensures.stands [] c.make-reader.ensures.stands)
 
-pub returns-in-Err : goal.returns-in-Err
-returns-in-Err c = answer_shown c.in-Err.fault c.args.bytes.now (c.in-Err.ensures.answer [] c.make-reader.ensures.stands).fault
+pub returns-in-Ok-clause-small : goal.returns-in-Ok-clause-small
+returns-in-Ok-clause-small c = c.finish.ensures.small c.args.bytes.now (gave c.in-Ok.field-0 _ c.in-Ok.ensures.stands [] c.make-reader.ensures.stands)
+
+pub returns-in-Err-clause-answer : goal.returns-in-Err-clause-answer
+returns-in-Err-clause-answer c = answer_shown c.in-Err.fault c.args.bytes.now (c.in-Err.ensures.answer [] c.make-reader.ensures.stands).fault

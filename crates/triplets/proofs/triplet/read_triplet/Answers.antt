@@ -1,9 +1,10 @@
-use Rattle.std.proofs.Common.{◌≡◌, length, get_or, Ok, sym, ◌∙◌, ap, refl, arith}
-use Rattle.motions.specs.declared.motion.Motion3.{Motion3}
+use Rattle.std.proofs.Common.{◌≡◌, length, get_or, sym, ◌∙◌, ap, refl, arith}
 use Rattle.triplets.specs.Marks.{mark}
 use Rattle.triplets.specs.TripletReading.{step}
 use Rattle.triplets.proofs.Wholes.{going, stopped, is_triplet}
+use Rattle.motions.specs.Views.{motion_of}
 use Rattle.triplets.proofs.KindFacts.{not_good}
+use Rattle.triplets.proofs.Sizes.{triplet_small}
 use Rattle.triplets.proofs.Bounds.{within_step}
 use Rattle.triplets.proofs.Ends.{step_on, stopped_bad, fault_at, all_read, fault_end, one_value}
 use Rattle.triplets.proofs.triplet.read_triplet.Goals as goal
@@ -30,6 +31,11 @@ loop-i-preserved c = record {
 pub returns-in-Some-clause-found : goal.returns-in-Some-clause-found
 returns-in-Some-clause-found c =
     is_triplet c.args.bytes.now c.loop-i.reader c.in-Some.value (all_read c.loop-i.i c.args.bytes.now c.loop-i.reader (omega arith) c.loop-i.invariant.read) (sym c.value.ensures ∙ c.in-Some.is)
+
+pub returns-in-Some-clause-small : goal.returns-in-Some-clause-small
+returns-in-Some-clause-small c =
+    triplet_small c.args.bytes.now (motion_of c.in-Some.value) (omega arith)
+    (is_triplet c.args.bytes.now c.loop-i.reader c.in-Some.value (all_read c.loop-i.i c.args.bytes.now c.loop-i.reader (omega arith) c.loop-i.invariant.read) (sym c.value.ensures ∙ c.in-Some.is))
 
 pub returns-in-Some-clause-only : goal.returns-in-Some-clause-only
 returns-in-Some-clause-only c v h =

@@ -1,0 +1,15 @@
+-- Parts of a cell edge modulo whole edges.
+use Rattle.std.specs.Prelude.{◌≡◌, ℤ, pos, ◌+ℤ◌, ◌*ℤ◌, ◌≤ℤ◌, ◌<ℤ◌}
+use Rattle.std.specs.Int.{int_rem_euclid}
+use Rattle.fractions.specs.declared.part.TheConstants.{UNIT}
+
+-- what is left of a number of parts without the whole edges in it
+abbrev pub reduced_parts : ℤ → ℤ
+reduced_parts parts = int_rem_euclid parts UNIT
+
+-- the other number is from 0 to below an edge, and whole edges away
+pub record IsReduced (parts rest : ℤ) : Type 0 where
+  pub least : pos 0 ≤ℤ rest
+  pub below : rest <ℤ UNIT
+  pub edges : ℤ
+  pub is : parts ≡ rest +ℤ edges *ℤ UNIT
