@@ -1,0 +1,10 @@
+pub mod Spans
+pub mod Cosets
+pub mod Membership
+pub mod Growth
+pub mod Made
+pub mod Sorting
+pub mod Counting
+pub mod Homes
+pub mod Decisions
+pub mod Generators

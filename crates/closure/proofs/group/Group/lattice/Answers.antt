@@ -1,0 +1,4 @@
+use Rattle.closure.proofs.group.Group.lattice.Goals as goal
+
+pub returns-clause-same : goal.returns-clause-same
+returns-clause-same c = ?

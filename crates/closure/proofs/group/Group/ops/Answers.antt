@@ -1,0 +1,4 @@
+use Rattle.closure.proofs.group.Group.ops.Goals as goal
+
+pub returns-clause-group : goal.returns-clause-group
+returns-clause-group c = ?
