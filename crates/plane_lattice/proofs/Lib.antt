@@ -1,0 +1,7 @@
+pub mod Cramer
+pub mod Edges
+pub mod FrameTestFacts
+pub mod Homes
+pub mod Passed
+pub mod Quotients
+pub mod Wide

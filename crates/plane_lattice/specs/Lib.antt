@@ -1,0 +1,6 @@
+pub mod Bounds
+pub mod Coordinates
+pub mod FrameTests
+pub mod FrameView
+pub mod PlaneLattice
+pub mod QuotientLaws
