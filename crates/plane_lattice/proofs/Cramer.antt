@@ -1,12 +1,14 @@
 -- Coordinates in three vectors, by Cramer's rule.
-use Rattle.std.proofs.Common.{◌≡◌, ℤ, pos, negsuc, ◌+ℤ◌, ◌*ℤ◌, ◌≤ℤ◌, ◌<ℤ◌, sym, ap, ◌∙◌, arith}
-use Rattle.std.proofs.lemmas.Int.{ints}
+use Rattle.std.proofs.Common.{◌≡◌, ◌↔◌, ℤ, pos, ◌*ℤ◌, ◌≤ℤ◌, FitsSigned, IsTrue, nat_eq, of_z, to_z, eq-eqb, sym, ap, ◌∙◌, arith}
+use Rattle.std.specs.Int.{w128}
+use borrow.Author.Tests.{eqb-true}
+use Rattle.std.proofs.lemmas.Int.{ints, to_z-of_z}
 use Rattle.integers.proofs.Ring.{mul_left_cancel}
 use Rattle.symmetry.specs.Vectors.{Vector, multiple}
 use Rattle.symmetry.specs.Frames.{Basis, combination}
 use Rattle.symmetry.proofs.VectorLaws.{vector_path}
 use Rattle.symmetry.proofs.FrameLaws.{combination-multiple, cramer}
-use Rattle.plane_lattice.specs.Coordinates.{volume, scaled, IsCombination}
+use Rattle.plane_lattice.specs.Coordinates.{volume, scaled, IsPlaneCombination}
 use Rattle.plane_lattice.specs.QuotientLaws.{scaled-combination}
 
 -- a common factor other than zero
@@ -43,3 +45,12 @@ module _ (f : Basis) (v : Vector) where
       let c : Vector = record { x = x; y = y; z = z } in
       multiple_cancel (volume f) (combination f c) v (λ e. absurd (omega (arith, ints)))
       (sym (combination-multiple f (volume f) c) ∙ ap (combination f) (vector_path p q s) ∙ cramer f v)
+
+-- a vector with whole coordinates is a whole combination of the first two exactly where the third coordinate is 0
+pub in_plane_by_third : (f : Basis) (v c : Vector) → FitsSigned w128 c.z → pos 1 ≤ℤ volume f → combination f c ≡ v
+    → IsTrue (nat_eq (of_z w128 c.z) 0) ↔ IsPlaneCombination f v
+in_plane_by_third f v c fits h is = (
+  λ t. (c, is, sym (to_z-of_z w128 c.z fits) ∙ ap (to_z w128) (eqb-true (of_z w128 c.z) 0 t)),
+  λ (k, e, flat). eq-eqb (of_z w128 c.z) 0
+      (ap (of_z w128) (ap (λ (u : Vector). u.z) (combination_once f (λ z. absurd (omega (arith, ints))) c k (is ∙ sym e)) ∙ flat)),
+)

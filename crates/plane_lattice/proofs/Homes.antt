@@ -16,6 +16,7 @@ use Rattle.plane_lattice.specs.Bounds.{largest_entry, largest_level, largest_hom
 use Rattle.plane_lattice.specs.Coordinates.{volume, scaled, IsPlaneCombination}
 use Rattle.plane_lattice.specs.PlaneLattice.{whole_part, home_shift, home_motion}
 use Rattle.plane_lattice.specs.QuotientLaws.{div_euclid_from, div_euclid_below}
+use Rattle.plane_lattice.proofs.Sizes.{dot_within}
 
 minus-minus : (v w : Vector) → minus v (minus v w) ≡ w
 unfolding plus multiple
@@ -125,10 +126,6 @@ entry_within d x y z a b t e n k h is hx hy hz ha hb ht =
   where
     gathered : (d n k : ℕ) → d * n + d * n + d * k * n ≡ d * (n + n + k * n)
     gathered d n k = omega arith
-
-dot_within : {m n : ℕ} {r v : Vector} → IsVectorWithin m r → IsVectorWithin n v → IsWithin (m * n + m * n + m * n) (dot r v)
-unfolding dot
-dot_within h k = IsWithin-add (IsWithin-add (IsWithin-mul h.x k.x) (IsWithin-mul h.y k.y)) (IsWithin-mul h.z k.z)
 
 module _ (r : Vector) (f : Basis) (h : pos 1 ≤ℤ volume f) (a_flat : dot r f.a ≡ pos 0) (b_flat : dot r f.b ≡ pos 0) (above : pos 1 ≤ℤ dot r f.tau)
     (a : IsVectorWithin largest_entry f.a) (b : IsVectorWithin largest_entry f.b) (tau : IsVectorWithin largest_entry f.tau)

@@ -4,4 +4,5 @@ pub mod FrameTestFacts
 pub mod Homes
 pub mod Passed
 pub mod Quotients
+pub mod Sizes
 pub mod Wide

@@ -1,15 +1,16 @@
 // Motions of space modulo the plane lattice of a frame.
-ghost use Rattle.std.specs.Prelude.{◌≡◌, ◌^◌, pos};
+ghost use Rattle.std.specs.Prelude.{◌≡◌, ◌↔◌, ◌^◌, ◌≤ℤ◌, pos, IsTrue};
 ghost use Rattle.symmetry.specs.Frames.{IsAtHome};
-ghost use Rattle.symmetry.specs.Sizes.{IsVectorWithin};
-ghost use Rattle.symmetry.specs.Vectors.{dot, minus};
+ghost use Rattle.symmetry.specs.Sizes.{IsSmall, IsVectorWithin};
+ghost use Rattle.symmetry.specs.Vectors.{dot, image, minus};
+ghost use Rattle.motions.specs.BasisView.{basis_of};
 ghost use Rattle.motions.specs.Views.{motion_of, row_of};
-ghost use Rattle.plane_lattice.specs.Coordinates.{IsPlaneCombination};
+ghost use Rattle.plane_lattice.specs.Coordinates.{IsPlaneCombination, volume};
 ghost use Rattle.plane_lattice.specs.FrameView.{basis_of_frame};
 ghost use Rattle.plane_lattice.specs.PlaneLattice.{IsPlaneShift, home_of_motion};
 ghost use Rattle.plane_lattice.specs.QuotientLaws.{plane_by_meaning, plane_shifts, plane_home_is_same, plane_homes};
 
-use motions::Motion3;
+use motions::{Basis, Motion3};
 use quotient::Quotient;
 
 use crate::coordinates::{is_in_plane, scaled, volume, whole_part, without};
@@ -54,8 +55,7 @@ impl Quotient for Frame {
 
     /// Whether the matrix takes each whole combination of a and b to such a combination.
     fn keeps(&self, m: &Motion3) -> bool {
-        let basis = self.basis();
-        is_in_plane(&basis, &image(m, &basis.a)) && is_in_plane(&basis, &image(m, &basis.b))
+        keeps_plane(&self.basis(), m)
     }
 
     ghost by_meaning = { λ q m n. plane_by_meaning (basis_of_frame q) m n };
@@ -65,4 +65,15 @@ impl Quotient for Frame {
     ghost home_is_same = { λ q m. plane_home_is_same (basis_of_frame q) m };
 
     ghost homes = { λ q m n. plane_homes (basis_of_frame q) q.right_handed m n };
+}
+
+/// Whether the matrix of the motion takes a and b to whole combinations of a and b.
+fn keeps_plane(basis: &Basis, m: &Motion3) -> bool
+    requires motion { IsSmall (motion_of m.now) }
+    requires volume { pos 1 ≤ℤ volume (basis_of basis.now) }
+    ensures { IsTrue result
+        ↔ (IsPlaneCombination (basis_of basis.now) (image (motion_of m.now).matrix (basis_of basis.now).a)
+        × IsPlaneCombination (basis_of basis.now) (image (motion_of m.now).matrix (basis_of basis.now).b)) }
+{
+    is_in_plane(basis, &image(m, &basis.a)) && is_in_plane(basis, &image(m, &basis.b))
 }
