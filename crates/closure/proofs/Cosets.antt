@@ -73,9 +73,9 @@ one_multiple v = vector_path (omega (arith, ints)) (omega (arith, ints)) (omega 
 less_nothing : (g : Listing) (v u : Vector) → IsInLattice g u ↔ IsInLattice g (minus u (multiple (pos 0) v))
 unfolding multiple
 less_nothing g v u = (
-    λ h. subst (λ w. IsInLattice g (minus u w)) (sym (multiple-zero v)) (subst (IsInLattice g) (sym (from_origin u)) h),
-    λ h. subst (IsInLattice g) (from_origin u) (subst (λ w. IsInLattice g (minus u w)) (multiple-zero v) h),
-  )
+  λ h. subst (λ w. IsInLattice g (minus u w)) (sym (multiple-zero v)) (subst (IsInLattice g) (sym (from_origin u)) h),
+  λ h. subst (IsInLattice g) (from_origin u) (subst (λ w. IsInLattice g (minus u w)) (multiple-zero v) h),
+)
   where
     from_origin : (u : Vector) → minus u origin ≡ u
     from_origin u = plus-origin u
@@ -92,7 +92,7 @@ cosets_none g v rs step h e = record {
   apart = h.apart;
   same = λ u. (
     λ is. record { times = 0; below = omega arith; rest = (less_nothing g v u).0 ((h.same u).0 is) },
-    λ m. (h.same u).1 ((less_nothing g v u).1 (subst (λ (i : ℕ). IsInLattice g (minus u (multiple (pos i) v))) (none m.times m.below) m.rest))
+    λ m. (h.same u).1 ((less_nothing g v u).1 (subst (λ (i : ℕ). IsInLattice g (minus u (multiple (pos i) v))) (none m.times m.below) m.rest)),
   );
 }
   where
@@ -142,14 +142,14 @@ module _ (g : Listing) (v : Vector) (size : ℕ) (rs : List Vector) (step : Vect
   more_same : (u : Vector) → Contains (rs ++ coset step group) (residue u) ↔ IsCosetMember g v (suc h.count) u
   more_same u = (
     λ is. elim (Contains-append_cases rs (coset step group) (residue u) is) [
-      inl old ↦ let m = (h.same u).0 old in record { times = m.times; below = let l = m.below in omega arith; rest = m.rest }
+      | inl old ↦ let m = (h.same u).0 old in record { times = m.times; below = let l = m.below in omega arith; rest = m.rest }
       | inr new ↦ record { times = h.count; below = omega arith; rest = (by_step u).0 (from_coset u new) }
     ],
     λ m. elim (cases_lt m.times h.count) [
-      inl l ↦ Contains-append_left rs (coset step group) (residue u) ((h.same u).1 (record { times = m.times; below = l; rest = m.rest }))
+      | inl l ↦ Contains-append_left rs (coset step group) (residue u) ((h.same u).1 (record { times = m.times; below = l; rest = m.rest }))
       | inr l ↦ Contains-append_right rs (coset step group) (residue u)
           (to_coset u ((by_step u).1 (subst (λ (i : ℕ). IsInLattice g (minus u (multiple (pos i) v))) (the_last m.times m.below l) m.rest)))
-    ]
+    ],
   )
     where
       the_last : (i : ℕ) → i < suc h.count → h.count ≤ i → i ≡ h.count
@@ -162,10 +162,10 @@ module _ (g : Listing) (v : Vector) (size : ℕ) (rs : List Vector) (step : Vect
   coset_apart : AllPairs (λ u w. ¬ (u ≡ w)) (coset step group)
   coset_apart = AllPairs-map (λ r. residue (plus r step)) (λ u w. ¬ (u ≡ w)) group
       (λ i j d less within e.
-          let x = get_or group i d in
-          let y = get_or group j d in
-          h.group.apart i j d less within
-          (sym (h.group.reduced i d (omega arith)) ∙ same_rest x y step e ∙ h.group.reduced j d within))
+      let x = get_or group i d in
+      let y = get_or group j d in
+      h.group.apart i j d less within
+      (sym (h.group.reduced i d (omega arith)) ∙ same_rest x y step e ∙ h.group.reduced j d within))
 
   -- and from the old ones, since the step is in none of the old cosets
   apart_from_old : ¬ Contains rs (residue step) → (x y : Vector) → Contains rs x → Contains (coset step group) y → ¬ (x ≡ y)
@@ -219,14 +219,14 @@ module _ (g : Listing) (v : Vector) (size : ℕ) (rs : List Vector) (step : Vect
   -- u + v is in a coset where u is
   plus_v : (u : Vector) → IsCosetMember g v h.count u → IsCosetMember g v h.count (plus u v)
   plus_v u m = elim (cases_lt (suc m.times) h.count) [
-    inl l ↦ record { times = suc m.times; below = l; rest = subst (IsInLattice g) (sym (next m.times)) m.rest }
+    | inl l ↦ record { times = suc m.times; below = l; rest = subst (IsInLattice g) (sym (next m.times)) m.rest }
     | inr l ↦ record {
-        times = again.times;
-        below = again.below;
-        rest = subst (IsInLattice g) (past u v (multiple (pos m.times) v) (multiple (pos again.times) v))
-            (lattice-plus g (minus u (multiple (pos m.times) v)) (minus (plus (multiple (pos m.times) v) v) (multiple (pos again.times) v)) m.rest
-            (subst (λ w. IsInLattice g (minus w (multiple (pos again.times) v))) (the_last m.times m.below l) round));
-      }
+      times = again.times;
+      below = again.below;
+      rest = subst (IsInLattice g) (past u v (multiple (pos m.times) v) (multiple (pos again.times) v))
+          (lattice-plus g (minus u (multiple (pos m.times) v)) (minus (plus (multiple (pos m.times) v) v) (multiple (pos again.times) v)) m.rest
+          (subst (λ w. IsInLattice g (minus w (multiple (pos again.times) v))) (the_last m.times m.below l) round));
+    }
   ]
     where
       next : (i : ℕ) → minus (plus u v) (multiple (pos (suc i)) v) ≡ minus u (multiple (pos i) v)
@@ -269,11 +269,11 @@ module _ (g : Listing) (v : Vector) (size : ℕ) (rs : List Vector) (step : Vect
   all_members : (u : Vector) → IsInLattice (with_centring g v) u → IsCosetMember g v h.count u
   all_members _ zero_vector = record { times = 0; below = h.positive; rest = (less_nothing g v origin).0 zero_vector }
   all_members _ (added t w k made) = elim (generates_with g v w made) [
-    inl old ↦ plus_member t w (all_members t k) (lattice-made g w old)
+    | inl old ↦ plus_member t w (all_members t k) (lattice-made g w old)
     | inr e ↦ subst (λ w. IsCosetMember g v h.count (plus t w)) e (plus_v t (all_members t k))
   ]
   all_members _ (subtracted t w k made) = elim (generates_with g v w made) [
-    inl old ↦ plus_member t (opposite w) (all_members t k) (lattice-opposite g w (lattice-made g w old))
+    | inl old ↦ plus_member t (opposite w) (all_members t k) (lattice-opposite g w (lattice-made g w old))
     | inr e ↦ subst (λ w. IsCosetMember g v h.count (minus t w)) e (minus_v t (all_members t k))
   ]
 

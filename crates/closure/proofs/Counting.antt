@@ -56,13 +56,13 @@ module _ (g : Listing) (rs : List Vector) (h : AreResiduesOf g rs) where
       let long : length ks ≡ length ms = length-places ms f.inside in
       let apart : AllPairs (λ (j k : ℕ). ¬ (j ≡ k)) ks =
       λ i j d less within e.
-          f.apart i j origin less (omega arith)
-          (whole_from_residues (get_or ms i origin) (get_or ms j origin)
-          (sym (place-is ms f.inside i d origin (omega arith)) ∙ ap (λ (k : ℕ). get_or rs k origin) e ∙ place-is ms f.inside j d origin (omega arith))) in
+      f.apart i j origin less (omega arith)
+      (whole_from_residues (get_or ms i origin) (get_or ms j origin)
+      (sym (place-is ms f.inside i d origin (omega arith)) ∙ ap (λ (k : ℕ). get_or rs k origin) e ∙ place-is ms f.inside j d origin (omega arith))) in
       let all_below : (q : ℕ) → list_any (eqb q) ks ≡ true → q < length rs =
       λ q t.
-          let c = Contains-from_any {eq = eqb} eqb-true q ks t in
-          subst (λ (k : ℕ). k < length rs) c.2 (places-below ms f.inside c.0 q (omega (arith, c.1))) in
+      let c = Contains-from_any {eq = eqb} eqb-true q ks t in
+      subst (λ (k : ℕ). k < length rs) c.2 (places-below ms f.inside c.0 q (omega (arith, c.1))) in
       let fits : length ks ≤ length rs = length-le_from_distinct_below ks (length rs) (distinct_from_apart eqb different ks apart) all_below in
       let many = f.many in
       absurd (omega arith)

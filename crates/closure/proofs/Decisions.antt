@@ -18,7 +18,7 @@ module _ (lattice : Lattice) (m : Motion3) (now : List (List Part)) (is : map pa
   pub shift_decided : (b : Bool) → b ≡ has_residue (map parts now) (parts m.t) → (motion_of m).matrix ≡ unit_matrix → IsTrue b ↔ IsLatticeShift lattice m
   shift_decided b e matrix = (
     λ t. record { matrix = matrix; shift = (has_residue-is (residues_of lattice) (parts m.t)).0 (sym told ∙ t) },
-    λ s. told ∙ (has_residue-is (residues_of lattice) (parts m.t)).1 s.shift
+    λ s. told ∙ (has_residue-is (residues_of lattice) (parts m.t)).1 s.shift,
   )
     where
       told : b ≡ has_residue (residues_of lattice) (parts m.t)
@@ -32,7 +32,7 @@ module _ (lattice : Lattice) (m : Motion3) (now : List (List Part)) (is : map pa
         (All-map (λ r. IsTrue (has_residue (map parts now) (image (motion_of m).matrix r))) parts now (told.0 t)))),
     λ k. told.1 (λ i d l. to_test (parts (get_or now i d)) (subst (λ r. InLattice lattice (image (motion_of m).matrix r)) (get_or-map parts now i d (parts d) l)
         (subst (λ rs. All (λ r. InLattice lattice (image (motion_of m).matrix r)) rs) (sym is) ((keeps_is lattice (motion_of m)).0 k) i (parts d)
-        (subst (λ n. i < n) (sym (length-map now parts)) l))))
+        (subst (λ n. i < n) (sym (length-map now parts)) l)))),
   )
     where
       from_test : (r : Vector) → IsTrue (has_residue (map parts now) (image (motion_of m).matrix r)) → InLattice lattice (image (motion_of m).matrix r)

@@ -23,7 +23,7 @@ pub collects_none : (centrings vectors : List Vector) → vectors ≡ centrings 
 collects_none centrings vectors e = record {
   same = λ v. (
     λ is. inl (subst (λ vs. Contains vs v) e is),
-    λ is. elim is [ inl old ↦ subst (λ vs. Contains vs v) (sym e) old | inr none ↦ absurd (nothing_listed (translation v) none) ]
+    λ is. elim is [ inl old ↦ subst (λ vs. Contains vs v) (sym e) old | inr none ↦ absurd (nothing_listed (translation v) none) ],
   );
 }
 
@@ -37,14 +37,14 @@ module _ (centrings : List Vector) (ops : List Motion) (vectors : List Vector) (
 
       to : (v : Vector) → Contains (vectors ++ m.shift ∷ []) v → Contains centrings v ⊎ Contains (ops ++ m ∷ []) (translation v)
       to v is = elim (Contains-push_cases vectors m.shift v is) [
-        inl old ↦ elim ((h.same v).0 old) [ inl c ↦ inl c | inr o ↦ inr (Contains-append_left ops (m ∷ []) (translation v) o) ]
+        | inl old ↦ elim ((h.same v).0 old) [ inl c ↦ inl c | inr o ↦ inr (Contains-append_left ops (m ∷ []) (translation v) o) ]
         | inr new ↦ inr (subst (Contains (ops ++ m ∷ [])) (is_translation ∙ ap translation new) (Contains-push ops m))
       ]
 
       from : (v : Vector) → Contains centrings v ⊎ Contains (ops ++ m ∷ []) (translation v) → Contains (vectors ++ m.shift ∷ []) v
       from v (inl c) = Contains-append_left vectors (m.shift ∷ []) v ((h.same v).1 (inl c))
       from v (inr o) = elim (Contains-push_cases ops m (translation v) o) [
-        inl old ↦ Contains-append_left vectors (m.shift ∷ []) v ((h.same v).1 (inr old))
+        | inl old ↦ Contains-append_left vectors (m.shift ∷ []) v ((h.same v).1 (inr old))
         | inr new ↦ subst (Contains (vectors ++ m.shift ∷ [])) (ap (λ (k : Motion). k.shift) new) (Contains-push vectors m.shift)
       ]
 
@@ -58,7 +58,7 @@ module _ (centrings : List Vector) (ops : List Motion) (vectors : List Vector) (
       from : (v : Vector) → Contains centrings v ⊎ Contains (ops ++ m ∷ []) (translation v) → Contains vectors v
       from v (inl c) = (h.same v).1 (inl c)
       from v (inr o) = elim (Contains-push_cases ops m (translation v) o) [
-        inl old ↦ (h.same v).1 (inr old)
+        | inl old ↦ (h.same v).1 (inr old)
         | inr new ↦ absurd (n (ap (λ (k : Motion). k.matrix) new))
       ]
 

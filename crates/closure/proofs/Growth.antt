@@ -12,7 +12,6 @@ use Rattle.closure.specs.Spans.{AreResiduesOf, coset, with_centring}
 use Rattle.closure.specs.ResidueLaws.{residue-residue, has_residue-is, has_residue-false}
 use Rattle.closure.proofs.Cosets.{AreCosets, cosets_none, cosets_more, cosets_all, cosets_too_fine}
 
-
 -- one more residue of the coset: the one at i, which the code reads from the list as it has grown
 pub coset_more : (old now new : List (List Part)) (step : Vector) (i : ℕ) (r sum : List Part)
     → map parts now ≡ map parts old ++ coset step (take i (map parts old)) → i < length old → r ≡ get_or now i r
@@ -62,7 +61,7 @@ module _ (g : Listing) (v : Vector) (size : ℕ) (now : List (List Part)) (step 
   cosets_overflow many =
       let all = map parts now ++ coset (parts step) (take size (map parts now)) in
       let whole : length all ≡ length now + size =
-          length-with_coset (map parts now) all (parts step) size h.within refl ∙ ap (λ n. n + size) (length-map now parts) in
+      length-with_coset (map parts now) all (parts step) size h.within refl ∙ ap (λ n. n + size) (length-map now parts) in
       cosets_too_fine g v size all (residue (plus (parts step) v)) grown (subst (λ n. MAX_RESIDUES < n) (sym whole) many)
 
 -- after the last turn

@@ -8,3 +8,10 @@ pub mod Counting
 pub mod Homes
 pub mod Decisions
 pub mod Generators
+pub mod Members
+pub mod Firsts
+pub mod FirstOrder
+pub mod GroupFaults
+pub mod Untruncated
+pub mod OwnLattice
+pub mod GroupMade

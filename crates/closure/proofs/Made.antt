@@ -57,7 +57,7 @@ residues-none = record {
   apart = λ i j d less within. absurd (omega arith);
   same = λ v. (
     λ (k, within, is). lattice-whole (centrings_alone []) v (subst IsWhole (from_origin v) (whole_from_residues v origin (at_origin v k within is))),
-    λ h. (0, omega arith, sym (residue-same v origin (subst IsWhole (sym (from_origin v)) (edges-whole v h)) ∙ residue-origin))
+    λ h. (0, omega arith, sym (residue-same v origin (subst IsWhole (sym (from_origin v)) (edges-whole v h)) ∙ residue-origin)),
   );
 }
   where

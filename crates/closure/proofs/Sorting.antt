@@ -59,7 +59,7 @@ residues-permuted g rs qs p h = record {
   apart = apart_from_distinct same_vector apart_from_test qs (IsDistinct-IsPermutation same_vector same_flip rs qs p (distinct_from_apart same_vector test_from_apart rs h.apart));
   same = λ v. (
     λ is. (h.same v).0 (Contains-permutation qs rs (residue v) (IsPermutation-sym rs qs p) is),
-    λ is. Contains-permutation rs qs (residue v) p ((h.same v).1 is)
+    λ is. Contains-permutation rs qs (residue v) p ((h.same v).1 is),
   );
 }
 

@@ -54,8 +54,8 @@ module _ (rs : List Vector) (group : IsResidueGroup rs) (reduced : All (λ r. re
       let r = Contains-from_map (λ r. residue (plus r v)) rs w is in (
         ap residue (sym r.2) ∙ residue-residue (plus r.0 v) ∙ r.2,
         in_by_residue r.0 (minus w v)
-        (ap residue (sym (without_last r.0 v)) ∙ residue-plus (plus r.0 v) w (opposite v) (sym (residue-residue (plus r.0 v)) ∙ ap residue r.2))
-        (in_listed r.0 r.1),
+            (ap residue (sym (without_last r.0 v)) ∙ residue-plus (plus r.0 v) w (opposite v) (sym (residue-residue (plus r.0 v)) ∙ ap residue r.2))
+            (in_listed r.0 r.1),
       )
 
   to_candidate : (v w : Vector) → residue w ≡ w → In (minus w v) → Contains (coset v rs) w

@@ -15,7 +15,7 @@ module _ {X : Type 0} (R : X → X → Type 0) where
       → ((x y : X) → Contains xs x → Contains ys y → R x y) → AllPairs R (xs ++ ys)
   AllPairs-append xs ys p q across i j d less within =
       elim (cases_lt j (length xs)) [
-        inl h ↦ subst (λ x. R x (get_or (xs ++ ys) j d)) (sym (left i (omega arith))) (subst (R (get_or xs i d)) (sym (left j h)) (p i j d less h))
+        | inl h ↦ subst (λ x. R x (get_or (xs ++ ys) j d)) (sym (left i (omega arith))) (subst (R (get_or xs i d)) (sym (left j h)) (p i j d less h))
         | inr h ↦ subst (R (get_or (xs ++ ys) i d)) (sym (right j h)) (beyond h)
       ]
     where
@@ -30,7 +30,7 @@ module _ {X : Type 0} (R : X → X → Type 0) where
 
       beyond : length xs ≤ j → R (get_or (xs ++ ys) i d) (get_or ys (j - length xs) d)
       beyond h = elim (cases_lt i (length xs)) [
-        inl k ↦ subst (λ x. R x (get_or ys (j - length xs) d)) (sym (left i k))
+        | inl k ↦ subst (λ x. R x (get_or ys (j - length xs) d)) (sym (left i k))
             (across (get_or xs i d) (get_or ys (j - length xs) d) (Contains-get_or xs i d k) (Contains-get_or ys (j - length xs) d (here h)))
         | inr k ↦ subst (λ x. R x (get_or ys (j - length xs) d)) (sym (right i k)) (q (i - length xs) (j - length xs) d (omega arith) (here h))
       ]

@@ -1,6 +1,5 @@
 -- The operations of a group.
 use Rattle.std.specs.Prelude.{AllPairs, IsTrue, List, map}
-
 use Rattle.symmetry.specs.Vectors.{Vector}
 use Rattle.symmetry.specs.Groups.{Listing, IsInLattice, SameModulo}
 use Rattle.motions.specs.declared.motion.Motion3.{Motion3}

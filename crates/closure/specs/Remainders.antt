@@ -48,9 +48,9 @@ rem-same d h x y k =
     let q = divided d h y in
     let v = var in
     let e : pos q.rest ≡ pos p.rest +ℤ (p.times -ℤ k.times -ℤ q.times) *ℤ pos d =
-        linear (x ∷ y ∷ k.times ∷ p.times ∷ q.times ∷ pos p.rest ∷ pos q.rest ∷ pos d ∷ []) (v 6) (v 5 ⊕ (v 3 ⊝ v 2 ⊝ v 4) ⊗ v 7)
-        (given (num (negsuc 0)) (v 0 ⊝ v 1) (v 2 ⊗ v 7) ∷ given (num (pos 1)) (v 0) (v 3 ⊗ v 7 ⊕ v 5) ∷ given (num (negsuc 0)) (v 1) (v 4 ⊗ v 7 ⊕ v 6) ∷ [])
-        tt (k.is, (p.is, (q.is, tt))) in
+    linear (x ∷ y ∷ k.times ∷ p.times ∷ q.times ∷ pos p.rest ∷ pos q.rest ∷ pos d ∷ []) (v 6) (v 5 ⊕ (v 3 ⊝ v 2 ⊝ v 4) ⊗ v 7)
+    (given (num (negsuc 0)) (v 0 ⊝ v 1) (v 2 ⊗ v 7) ∷ given (num (pos 1)) (v 0) (v 3 ⊗ v 7 ⊕ v 5) ∷ given (num (negsuc 0)) (v 1) (v 4 ⊗ v 7 ⊕ v 6) ∷ [])
+    tt (k.is, (p.is, (q.is, tt))) in
     p.rem ∙ ap pos (one_rest d p.rest q.rest (p.times -ℤ k.times -ℤ q.times) p.below q.below e) ∙ sym q.rem
 
 -- a number and its rest differ by a multiple of d

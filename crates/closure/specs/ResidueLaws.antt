@@ -109,9 +109,9 @@ residue-minus u v w e =
 
 pub has_residue-is : (rs : List Vector) (v : Vector) → IsTrue (has_residue rs v) ↔ Contains rs (residue v)
 has_residue-is rs v = (
-    λ t. Contains-from_any {eq = λ q r. same_vector r q} (λ x y e. sym ((same_vector-is y x).0 e)) (residue v) rs t,
-    λ (k, within, is). list_any_at (λ r. same_vector r (residue v)) rs k (residue v) within ((same_vector-is (get_or rs k (residue v)) (residue v)).1 is),
-  )
+  λ t. Contains-from_any {eq = λ q r. same_vector r q} (λ x y e. sym ((same_vector-is y x).0 e)) (residue v) rs t,
+  λ (k, within, is). list_any_at (λ r. same_vector r (residue v)) rs k (residue v) within ((same_vector-is (get_or rs k (residue v)) (residue v)).1 is),
+)
 
 pub has_residue-false : (rs : List Vector) (v : Vector) → has_residue rs v ≡ false → ¬ Contains rs (residue v)
 has_residue-false rs v e is = true_and_false (sym ((has_residue-is rs v).1 is) ∙ e)

@@ -159,25 +159,32 @@ module _ (lattice : Lattice) where
       → followed_by (translation v) m ≡ record { matrix = m.matrix; shift = plus (image m.matrix v) m.shift }
   translation-followed_by m v = motion_path (product-unit_right m.matrix) refl
 
-  pub keeps_is : (m : Motion) → Keeps (modulo lattice) m ↔ All (λ r. InLattice lattice (image m.matrix r)) rs
-  keeps_is m = (to, from)
+  pub keeps_vectors : (m : Motion) → Keeps (modulo lattice) m ↔ ((v : Vector) → InLattice lattice v → InLattice lattice (image m.matrix v))
+  keeps_vectors m = (to, from)
     where
-      to : Keeps (modulo lattice) m → All (λ r. InLattice lattice (image m.matrix r)) rs
-      to k = All-weaker (Contains rs) (λ r. InLattice lattice (image m.matrix r)) moved rs (All-contains_itself rs)
-        where
-          moved : (r : Vector) → Contains rs r → InLattice lattice (image m.matrix r)
-          moved r is =
-              let t = k (translation r) (shift_from r (subst (Contains rs) (sym (All-contains (λ r. residue r ≡ r) rs r residues-reduced is)) is)) in
-              let a = to_shift t.0 t.1 in
-              let e = sym (translation-followed_by m r) ∙ t.2 ∙ ap (followed_by m) a.0 ∙ followed_by-translation m t.0.shift in
-              subst (InLattice lattice) (sym (taken_off (image m.matrix r) m.shift t.0.shift (ap (λ (k : Motion). k.shift) e))) a.1
+      to : Keeps (modulo lattice) m → (v : Vector) → InLattice lattice v → InLattice lattice (image m.matrix v)
+      to k v is =
+          let t = k (translation v) (shift_from v is) in
+          let a = to_shift t.0 t.1 in
+          let e = sym (translation-followed_by m v) ∙ t.2 ∙ ap (followed_by m) a.0 ∙ followed_by-translation m t.0.shift in
+          subst (InLattice lattice) (sym (taken_off (image m.matrix v) m.shift t.0.shift (ap (λ (k : Motion). k.shift) e))) a.1
 
-      from : All (λ r. InLattice lattice (image m.matrix r)) rs → Keeps (modulo lattice) m
+      from : ((v : Vector) → InLattice lattice v → InLattice lattice (image m.matrix v)) → Keeps (modulo lattice) m
       from all t is =
           let a = to_shift t is in
           let w = image m.matrix t.shift in (
             translation w,
-            shift_from w (subst (Contains rs) (residue-image m.matrix t.shift) (All-contains (λ r. InLattice lattice (image m.matrix r)) rs (residue t.shift) all a.1)),
+            shift_from w (all t.shift a.1),
             ap (λ k. followed_by k m) a.0 ∙ translation-followed_by m t.shift
-            ∙ motion_path refl (plus_comm w m.shift) ∙ sym (followed_by-translation m w),
+                ∙ motion_path refl (plus_comm w m.shift) ∙ sym (followed_by-translation m w),
           )
+
+  -- it is enough that the residues go into the lattice
+  pub keeps_is : (m : Motion) → Keeps (modulo lattice) m ↔ All (λ r. InLattice lattice (image m.matrix r)) rs
+  keeps_is m = (
+    λ k. All-weaker (Contains rs) (λ r. InLattice lattice (image m.matrix r))
+        (λ r is. (keeps_vectors m).0 k r (subst (Contains rs) (sym (All-contains (λ r. residue r ≡ r) rs r residues-reduced is)) is))
+        rs (All-contains_itself rs),
+    λ all. (keeps_vectors m).1 (λ v is. subst (Contains rs) (residue-image m.matrix v)
+        (All-contains (λ r. InLattice lattice (image m.matrix r)) rs (residue v) all is)),
+  )

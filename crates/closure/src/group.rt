@@ -11,17 +11,15 @@ ghost use Rattle.closure.specs.declared.limits.TheConstants.{MAX_ENTRY, MAX_OPER
 ghost use Rattle.closure.specs.Lattices.{InLattice, IsLatticeOf};
 ghost use Rattle.closure.specs.Operations.{listing_with, AreApart, HoldsTranslations};
 
-use std::alloc::Global;
-
-use fractions::Part;
-use motions::{Listed, Motion3};
-use quotient::{check_group, distinct};
-
 use crate::group_error::GroupError;
 use crate::lattice::Lattice;
 use crate::limits::MAX_OPERATIONS;
 use crate::residues::lists_residue;
-use crate::translations::lattice_vectors;
+use crate::translations::listed_lattice;
+use fractions::Part;
+use motions::{Listed, Motion3};
+use quotient::{check_group, distinct};
+use std::alloc::{AllocError, Global};
 
 /// A space group: its operations, each once modulo its translation lattice.
 ///
@@ -71,9 +69,8 @@ impl Group {
         if count > MAX_OPERATIONS {
             return Err(GroupError::TooMany(count));
         }
-        let vectors = lattice_vectors(alloc, &listed)?;
-        let lattice = Lattice::make(alloc, &vectors)?;
-        let ops = distinct(alloc, &lattice, &listed.ops)?;
+        let lattice = listed_lattice(alloc, &listed)?;
+        let ops = first_operations(alloc, &lattice, &listed)?;
         check_group(&lattice, &ops)?;
         Ok(Group { ops, lattice })
     }
@@ -103,4 +100,20 @@ impl Group {
     {
         lists_residue(self.lattice.residues(), &v)
     }
+}
+
+/// The listed operations that are the same as no earlier one modulo the lattice.
+fn first_operations(
+    alloc: Global,
+    lattice: &Lattice,
+    listed: &Listed,
+) -> Result<Vec<Motion3>, AllocError>
+    requires small { IsListedSmall (unsigned_abs MAX_ENTRY) listed.now }
+    requires lattice { IsLatticeOf (listing_of listed.now) lattice.now }
+    ensures first { IfOk result (λ ops.
+        AreFirst (SameModulo (listing_of listed.now)) (listing_of listed.now).ops (map motion_of ops.items)) }
+    ensures small { IfOk result (λ ops. All (IsSmallWithin (unsigned_abs MAX_ENTRY)) (map motion_of ops.items)) }
+    ensures few { IfOk result (λ ops. vec_len ops ≤ vec_len listed.now.ops) }
+{
+    distinct(alloc, lattice, &listed.ops)
 }

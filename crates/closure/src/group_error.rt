@@ -3,11 +3,9 @@ ghost use Rattle.std.specs.Prelude.{◌≡◌};
 ghost use Rattle.closure.specs.declared.group_error.GroupError.TheVariants.{Fault, NoMemory};
 ghost use Rattle.closure.specs.FromLattice.{error_of};
 
-use std::alloc::{AllocError, AllocFailed};
-
-use quotient::GroupFault;
-
 use crate::lattice_fault::LatticeFault;
+use quotient::GroupFault;
+use std::alloc::AllocError;
 
 /// Why what is listed makes no [`Group`](crate::Group).
 #[derive(Clone, Copy, PartialEq, Eq, Debug)]
@@ -45,14 +43,6 @@ impl From<AllocError> for GroupError {
     ghost from_gives = { λ _ error. error ≡ NoMemory };
 
     fn from(_error: AllocError) -> GroupError {
-        GroupError::NoMemory
-    }
-}
-
-impl<T: Drop> From<AllocFailed<T>> for GroupError {
-    ghost from_gives = { λ _ error. error ≡ NoMemory };
-
-    fn from(_error: AllocFailed<T>) -> GroupError {
         GroupError::NoMemory
     }
 }

@@ -6,12 +6,10 @@ ghost use Rattle.closure.specs.declared.limits.TheConstants.{MAX_RESIDUES};
 ghost use Rattle.closure.specs.Residues.{IsResidue, IsResidueGroup, AreInOrder};
 ghost use Rattle.closure.specs.Fineness.{centrings_alone, IsTooFine};
 
-use std::alloc::Global;
-
-use fractions::Part;
-
 use crate::lattice_fault::LatticeFault;
 use crate::residues::residues_of_sums;
+use fractions::Part;
+use std::alloc::Global;
 
 /// A translation lattice that holds all whole vectors, as the set of its residues modulo whole cell edges.
 ///

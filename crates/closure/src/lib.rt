@@ -6,11 +6,14 @@
 
 mod group;
 mod group_error;
+mod group_shifts;
 mod lattice;
 mod lattice_fault;
 mod limits;
 mod residues;
 mod shifts;
+#[cfg(test)]
+mod tests;
 mod translations;
 
 pub use group::Group;

@@ -10,12 +10,10 @@ ghost use Rattle.closure.specs.Spans.{AreResiduesOf, coset, with_centring};
 ghost use Rattle.closure.specs.Fineness.{centrings_alone};
 ghost use Rattle.closure.specs.Faults.{IsLatticeFault};
 
-use std::alloc::{AllocError, Global};
-
-use fractions::Part;
-
 use crate::lattice_fault::LatticeFault;
 use crate::limits::MAX_RESIDUES;
+use fractions::Part;
+use std::alloc::{AllocError, Global};
 
 /// The residue of a vector.
 #[tactic(auto, unfolding(crate::specs::Residues::residue))]
@@ -44,7 +42,11 @@ pub(crate) fn lists_residue(residues: &[[Part; 3]], v: &[Part; 3]) -> bool
 }
 
 /// Appends the first `size` residues, each with the step added.
-fn append_coset(residues: &mut Vec<[Part; 3]>, size: usize, step: &[Part; 3]) -> Result<(), AllocError>
+fn append_coset(
+    residues: &mut Vec<[Part; 3]>,
+    size: usize,
+    step: &[Part; 3],
+) -> Result<(), AllocError>
     requires size { size ≤ vec_len residues.old }
     requires residues { All IsResidue residues.old.items }
     requires step { IsResidue step.now }
@@ -90,7 +92,10 @@ pub(crate) fn add_vector(residues: &mut Vec<[Part; 3]>, v: &[Part; 3]) -> Result
 /// The residues of all sums of whole multiples of the cell edges and the vectors, each once.
 ///
 /// [`LatticeFault::TooFine`] comes where there are more than [`MAX_RESIDUES`].
-pub(crate) fn residues_of_sums(alloc: Global, vectors: &[[Part; 3]]) -> Result<Vec<[Part; 3]>, LatticeFault>
+pub(crate) fn residues_of_sums(
+    alloc: Global,
+    vectors: &[[Part; 3]],
+) -> Result<Vec<[Part; 3]>, LatticeFault>
     requires { All (λ v. IsVectorWithin (2 ^ 40) (parts v)) vectors.now }
     ensures reduced { IfOk result (λ residues. All IsResidue residues.items) }
     ensures few { IfOk result (λ residues. vec_len residues ≤ MAX_RESIDUES) }

@@ -9,12 +9,11 @@ ghost use Rattle.closure.specs.Residues.{has_residue, is_before, IsResidue};
 ghost use Rattle.closure.specs.Lattices.{first_with, lattice_home, IsHome, IsLatticeShift};
 ghost use Rattle.closure.specs.ShiftLaws.{modulo, by_meaning_lem, shifts_lem, home_is_same_lem, homes_lem};
 
+use crate::lattice::Lattice;
+use crate::residues::{lists_residue, residue_of, residue_of_sum};
 use fractions::Part;
 use motions::Motion3;
 use quotient::{Motion, Quotient};
-
-use crate::lattice::Lattice;
-use crate::residues::{lists_residue, residue_of, residue_of_sum};
 
 impl Quotient for Lattice {
     type M = Motion3;
@@ -102,7 +101,9 @@ fn keeps_residues(residues: &[[Part; 3]], m: &Motion3) -> bool
     ensures { IsTrue result
         ↔ All (λ r. IsTrue (has_residue (map parts residues.now) (image (motion_of m.now).matrix (parts r)))) residues.now }
 {
-    residues.iter().all(|r| lists_residue(residues, &image_of(m, r)))
+    residues
+        .iter()
+        .all(|r| lists_residue(residues, &image_of(m, r)))
 }
 
 /// The first, in lexicographic order, of the residues of t with each residue added.

@@ -21,7 +21,7 @@ returns-in_err-add_vector-clause-fault c =
     let p = err_from_is_err_and r.result r.ensures.1 in
     let within : c.loop-v.v-index < _ = omega arith in
     rw (p.1, p.2) (fault-first c.args.vectors.now (c.loop-v.v-index + 1) c.in_err-add_vector.field-0.0
-        (subst (λ g. IsLatticeFault g c.in_err-add_vector.field-0.0) (centrings-more c.args.vectors.now c.loop-v.v-index within) (c.in_err-add_vector.ensures.fault _ c.loop-v.invariant.lattice)))
+    (subst (λ g. IsLatticeFault g c.in_err-add_vector.field-0.0) (centrings-more c.args.vectors.now c.loop-v.v-index within) (c.in_err-add_vector.ensures.fault _ c.loop-v.invariant.lattice)))
 
 pub loop-v-preserved : goal.loop-v-preserved
 loop-v-preserved c =

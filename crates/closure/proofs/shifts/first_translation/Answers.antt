@@ -12,7 +12,7 @@ loop-r-preserved c =
     let rs = c.args.residues.now in
     let i = c.loop-r.r-index in
     elim c.if-comes_before.branch [
-      then-comes_before w ↦ record {
+      | then-comes_before w ↦ record {
         reduced = subst IsResidue (sym w.first-is) other.reduced;
         is = ap parts w.first-is ∙ first_takes rs i _ (omega arith) c.loop-r.first c.residue_of_sum-other.result kept.is other.value (sym c.comes_before.ensures ∙ w.if-comes_before.true);
       }

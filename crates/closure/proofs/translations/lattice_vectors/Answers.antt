@@ -24,7 +24,7 @@ loop-m-preserved c =
     let at : get_or ops i m ≡ m = ap (λ (l : List Motion3). get_or l i m) (sym c.deref-m-items.ensures.value) ∙ get_or_default read i m (record { w = []; t = [] }) here in
     let shift : IsVectorWithin (2 ^ 40) (parts m.t) = subst (λ (n : Motion3). IsVectorWithin (2 ^ 40) (parts n.t)) at (c.requires.ops i m within).small.shift in
     elim c.if-is_translation.branch [
-      then-is_translation+in_ok-push w ↦
+      | then-is_translation+in_ok-push w ↦
           let pushed : c.if-is_translation.vectors.items ≡ c.loop-m.vectors.items ++ m.t ∷ [] = ap (λ v. v.items) w.vectors-is ∙ w.in_ok-push.ensures.items in
           record {
             small = subst (All (λ v. IsVectorWithin (2 ^ 40) (parts v))) (sym pushed)
