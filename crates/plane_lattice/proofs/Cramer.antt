@@ -1,11 +1,13 @@
 -- Coordinates in three vectors, by Cramer's rule.
-use Rattle.std.proofs.Common.{◌≡◌, ◌↔◌, ℤ, pos, ◌*ℤ◌, ◌≤ℤ◌, FitsSigned, IsTrue, nat_eq, of_z, to_z, eq-eqb, sym, ap, ◌∙◌, arith}
+use Rattle.std.proofs.Common.{◌≡◌, ◌↔◌, ℤ, pos, ◌*ℤ◌, ◌≤ℤ◌, Bool, true, false, not, refl, subst, FitsSigned, IsTrue, nat_eq, of_z, to_z, eq-eqb, sym, ap, ◌∙◌, arith}
 use Rattle.std.specs.Int.{w128}
 use borrow.Author.Tests.{eqb-true}
 use Rattle.std.proofs.lemmas.Int.{ints, to_z-of_z}
 use Rattle.integers.proofs.Ring.{mul_left_cancel}
 use Rattle.symmetry.specs.Vectors.{Vector, multiple}
 use Rattle.symmetry.specs.Frames.{Basis, combination}
+use Rattle.symmetry.specs.Sizes.{IsVectorWithin}
+use Rattle.plane_lattice.specs.Skews.{IsFar}
 use Rattle.symmetry.proofs.VectorLaws.{vector_path}
 use Rattle.symmetry.proofs.FrameLaws.{combination-multiple, cramer}
 use Rattle.plane_lattice.specs.Coordinates.{volume, scaled, IsPlaneCombination}
@@ -54,3 +56,13 @@ in_plane_by_third f v c fits h is = (
   λ (k, e, flat). eq-eqb (of_z w128 c.z) 0
       (ap (of_z w128) (ap (λ (u : Vector). u.z) (combination_once f (λ z. absurd (omega (arith, ints))) c k (is ∙ sym e)) ∙ flat)),
 )
+
+-- a vector with whole coordinates is far exactly where one of these is above 500 in size
+pub far_by_coordinates : (f : Basis) (v c : Vector) (b : Bool) → pos 1 ≤ℤ volume f → combination f c ≡ v → IsTrue b ↔ IsVectorWithin 500 c → IsTrue (not b) ↔ IsFar f v
+far_by_coordinates f v c true h is tells = (
+  λ (t : false ≡ true). absurd (cc t),
+  λ (k, e, far).
+      let only : c ≡ k = combination_once f (λ z. absurd (omega (arith, ints))) c k (is ∙ sym e) in
+      absurd (far (subst (IsVectorWithin 500) only (tells.0 refl))),
+)
+far_by_coordinates f v c false h is tells = (λ _. (c, is, λ w. absurd (cc (tells.1 w))), λ _. refl)

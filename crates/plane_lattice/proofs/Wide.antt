@@ -1,7 +1,8 @@
 -- What 128-bit code computes at numbers of bounded size.
-use Rattle.std.proofs.Common.{◌≡◌, ℕ, ◌+◌, ◌*◌, ◌^◌, ◌<◌, ℤ, ◌+ℤ◌, ◌-ℤ◌, ◌*ℤ◌, FitsSigned, to_z, of_z, ap, sym, subst, ◌∙◌, arith}
+use Rattle.std.proofs.Common.{◌≡◌, ℕ, ◌+◌, ◌*◌, ◌^◌, ◌<◌, ℤ, ◌+ℤ◌, ◌-ℤ◌, ◌*ℤ◌, ◌<ℤ◌, pos, ◌↔◌, Bool, true, false, IsTrue, FitsSigned, to_z, of_z, ap, refl, sym, subst, ◌∙◌, arith}
+use Rattle.std.specs.Prelude.{int_lt, int_le}
 use Rattle.std.specs.Int.{w128}
-use Rattle.std.proofs.lemmas.Int.{to_z-of_z, fits_signed_from_abs}
+use Rattle.std.proofs.lemmas.Int.{ints, to_z-of_z, fits_signed_from_abs}
 use native.Mathlib.Nat.{lt_of_le_of_lt}
 use Rattle.integers.specs.Size.{IsWithin}
 use Rattle.integers.proofs.Ring.{IsWithin-add, IsWithin-sub, IsWithin-mul}
@@ -43,3 +44,24 @@ module _ (n : ℕ) (x y z : ℤ) (below : n + n + n < 2 ^ 127) (h : IsWithin n x
 
   pub wide_sum_is : wide (wide (wide x +ℤ wide y) +ℤ wide z) ≡ x +ℤ y +ℤ z
   wide_sum_is = ap wide wide_sum ∙ wide_is (n + n + n) (x +ℤ y +ℤ z) below within_sum
+
+-- tests at such numbers
+pub wide_zero : (n : ℕ) (z : ℤ) → n < 2 ^ 127 → IsWithin n z → of_z w128 z ≡ 0 → z ≡ pos 0
+wide_zero n z k h e = sym (wide_is n z k h) ∙ ap (to_z w128) e
+
+pub not_above : (n : ℕ) (z : ℤ) → n < 2 ^ 127 → IsWithin n z → int_le (wide z) (pos 0) ≡ false → pos 0 <ℤ z
+not_above n z k h e = let is = wide_is n z k h in omega (arith, ints)
+
+pub above_tells : (n : ℕ) (z : ℤ) → n < 2 ^ 127 → IsWithin n z → IsTrue (int_lt (pos 0) (wide z)) ↔ (pos 0 <ℤ z)
+above_tells n z k h = (λ t. to (int_lt (pos 0) (wide z)) refl t, λ l. from (int_lt (pos 0) (wide z)) refl l)
+  where
+    is : wide z ≡ z
+    is = wide_is n z k h
+
+    to : (b : Bool) → int_lt (pos 0) (wide z) ≡ b → b ≡ true → pos 0 <ℤ z
+    to true e t = omega (arith, ints)
+    to false e t = absurd (cc t)
+
+    from : (b : Bool) → int_lt (pos 0) (wide z) ≡ b → pos 0 <ℤ z → b ≡ true
+    from true e l = refl
+    from false e l = absurd (omega (arith, ints))

@@ -19,6 +19,18 @@ largest_scaled = 3 * (largest_cross * 2 ^ 52)
 abbrev pub largest_combined : ℕ
 largest_combined = 3 * (largest_scaled * largest_entry)
 
+-- an entry of the image of such a vector under a matrix whose entries are at most 500 in size
+abbrev pub largest_turned : ℕ
+largest_turned = 500 * largest_entry + 500 * largest_entry + 500 * largest_entry
+
+-- an entry of the sum of a thousand such images
+abbrev pub largest_total : ℕ
+largest_total = 1000 * largest_turned
+
+-- (hkl).tau
+abbrev pub largest_period : ℕ
+largest_period = unsigned_abs INDEX * largest_entry + unsigned_abs INDEX * largest_entry + unsigned_abs INDEX * largest_entry
+
 -- (hkl).w, for a translation that is at most 2^20 parts in size
 abbrev pub largest_level : ℕ
 largest_level = unsigned_abs INDEX * 2 ^ 20 + unsigned_abs INDEX * 2 ^ 20 + unsigned_abs INDEX * 2 ^ 20

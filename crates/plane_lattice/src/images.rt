@@ -4,7 +4,7 @@ ghost use Rattle.symmetry.specs.Motions.{translation};
 ghost use Rattle.symmetry.specs.Sizes.{IsSmall, IsVectorWithin};
 ghost use Rattle.symmetry.specs.Vectors.{image, origin, unit_matrix};
 ghost use Rattle.motions.specs.Views.{motion_of, parts};
-ghost use Rattle.plane_lattice.specs.Bounds.{largest_entry};
+ghost use Rattle.plane_lattice.specs.Bounds.{largest_entry, largest_turned};
 
 use fractions::Part;
 use motions::Motion3;
@@ -15,7 +15,8 @@ pub(crate) fn image(m: &Motion3, v: &[Part; 3]) -> [Part; 3]
     requires motion { IsSmall (motion_of m.now) }
     requires vector { IsVectorWithin largest_entry (parts v.now) }
     ensures is { parts result ≡ image (motion_of m.now).matrix (parts v.now) }
-    ensures small { IsVectorWithin (2 ^ 52) (parts result) }
+    ensures small { IsVectorWithin largest_turned (parts result) }
+    ensures within_reach { IsVectorWithin (2 ^ 52) (parts result) }
 {
     translation_by(*v).then(&linear_part(m)).t
 }
