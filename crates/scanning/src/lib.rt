@@ -1,0 +1,12 @@
+// The planes of an orientation, height by height.
+//
+// Promises to the crates above: `operations_at` gives the list of the stabiliser of a plane.
+#![tactic(auto)]
+
+mod levels;
+mod operations;
+mod raised;
+#[cfg(test)]
+mod tests;
+
+pub use operations::{NoMemory, operations_at};
