@@ -1,0 +1,5 @@
+pub mod Words
+pub mod VectorWords
+pub mod KindNames
+pub mod Refusals
+pub mod Outcomes
