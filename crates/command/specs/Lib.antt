@@ -3,3 +3,4 @@ pub mod VectorWords
 pub mod KindNames
 pub mod Refusals
 pub mod Outcomes
+pub mod Limits

@@ -1,8 +1,6 @@
 -- The words of a request.
-use Rattle.std.specs.Prelude.{◌≡◌, ◌≢◌, ◌⊎◌, ℕ, ◌+◌, ◌≤◌, ℤ, pos, ◌*ℤ◌, List, [], ◌∷◌, length, slice_index, Option, None, codes, unsigned_abs, ◌*◌}
+use Rattle.std.specs.Prelude.{◌≡◌, ◌≢◌, ℕ, ◌+◌, ◌≤◌, ℤ, List, [], ◌∷◌, length, slice_index, Option, Some, None, codes}
 use Rattle.std.specs.Str.Parse.{IsNumeral, without_leading_sign, signed_digits_value}
-use Rattle.integers.specs.Size.{IsWithin}
-use Rattle.fractions.specs.declared.part.TheConstants.{UNIT}
 use Rattle.fractions.specs.Fraction.{Fraction}
 use Rattle.fractions.specs.LowestTerms.{lowest_terms}
 use Rattle.fractions.specs.WrittenRatio.{numerator, denominator, ratio_end, ratio_fault}
@@ -53,22 +51,11 @@ pub record FrameWords : Type 0 where
   pub b : Fractions
   pub tau : Fractions
 
--- what the words of `at` ask for, before any limit
+-- what the words of `at` ask for, before any limit. Where no frame is given, it is that of the cell edges
 pub record AtWords : Type 0 where
   pub row : Vector
-  pub frame : FrameWords
+  pub frame : Option FrameWords
   pub height : Fraction
-
-abbrev pub whole : ℤ → Fraction
-whole n = record { num = n; den = pos 1 }
-
--- the frame where none is given: the cell edges
-abbrev pub edges_frame : FrameWords
-edges_frame = record {
-  a = record { x = whole (pos 1); y = whole (pos 0); z = whole (pos 0) };
-  b = record { x = whole (pos 0); y = whole (pos 1); z = whole (pos 0) };
-  tau = record { x = whole (pos 0); y = whole (pos 0); z = whole (pos 1) };
-}
 
 -- three indices and a height
 pub record IsPlaneWords (h k l s : List ℕ) (row : Vector) (height : Fraction) : Type 0 where
@@ -77,32 +64,20 @@ pub record IsPlaneWords (h k l s : List ℕ) (row : Vector) (height : Fraction) 
   pub third : IsIndex l row.z
   pub at : IsRatio s height
 
--- nothing, for the cell edges, or `--frame a b t`
-abbrev pub IsFrameWords : List (List ℕ) → FrameWords → Type 0
-IsFrameWords [] frame = frame ≡ edges_frame
-IsFrameWords (option ∷ a ∷ b ∷ t ∷ []) frame =
-    (option ≡ codes "--frame") × IsVectorWord a frame.a × IsVectorWord b frame.b × IsVectorWord t frame.tau
-IsFrameWords _ frame = ⊥
+-- `--frame a b t`
+pub record IsFrameOption (option a b t : List ℕ) (frame : FrameWords) : Type 0 where
+  pub name : option ≡ codes "--frame"
+  pub first : IsVectorWord a frame.a
+  pub second : IsVectorWord b frame.b
+  pub third : IsVectorWord t frame.tau
+
+-- nothing, or that
+abbrev pub IsFrameWords : List (List ℕ) → Option FrameWords → Type 0
+IsFrameWords [] None = Unit {0}
+IsFrameWords (option ∷ a ∷ b ∷ t ∷ []) (Some frame) = IsFrameOption option a b t frame
+IsFrameWords _ _ = ⊥
 
 -- `at h k l s`, and a frame behind it
 abbrev pub IsAtWords : List (List ℕ) → AtWords → Type 0
-IsAtWords (command ∷ h ∷ k ∷ l ∷ s ∷ rest) w = (command ≡ codes "at") × IsPlaneWords h k l s w.row w.height × IsFrameWords rest w.frame
+IsAtWords (command ∷ h ∷ k ∷ l ∷ s ∷ others) w = (command ≡ codes "at") × IsPlaneWords h k l s w.row w.height × IsFrameWords others w.frame
 IsAtWords _ w = ⊥
-
--- an entry of a frame vector: its denominator divides UNIT, and it is at most 1,000 in size
-pub record IsFrameEntry (q : Fraction) : Type 0 where
-  pub times : ℤ
-  pub divides : times *ℤ q.den ≡ UNIT
-  pub small : IsWithin (1000 * unsigned_abs q.den) q.num
-
--- the three entries are in range
-abbrev pub AreFrameEntries : Fractions → Type 0
-AreFrameEntries v = IsFrameEntry v.x × IsFrameEntry v.y × IsFrameEntry v.z
-
-abbrev pub IsFrameInRange : FrameWords → Type 0
-IsFrameInRange f = AreFrameEntries f.a × AreFrameEntries f.b × AreFrameEntries f.tau
-
--- numerator and denominator are at most 10^9 in size
-pub record IsHeightInRange (s : Fraction) : Type 0 where
-  pub num : IsWithin 1000000000 s.num
-  pub den : IsWithin 1000000000 s.den

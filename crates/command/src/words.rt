@@ -1,10 +1,11 @@
-// Words of their own: indices, ratios and vectors.
-ghost use Rattle.std.specs.Prelude.{◌≡◌, ◌≢◌, ◌≤◌, ℕ, ℤ, MatchOption, IsTrue, ◌↔◌, slice_index, length};
+// The words of a request, before any limit.
+ghost use Rattle.std.specs.Prelude.{◌≡◌, ◌≢◌, ◌≤◌, ℕ, ℤ, Option, MatchOption, IsTrue, ◌↔◌, map, slice_index, length, string_bytes};
+ghost use Rattle.std.specs.Option.{option_map};
 ghost use Rattle.std.specs.Str.Parse.{without_leading_sign};
 ghost use Rattle.fractions.specs.Fraction.{Fraction};
 ghost use Rattle.fractions.specs.FractionOf.{fraction_of};
-ghost use Rattle.command.specs.VectorWords.{fractions_of};
-ghost use Rattle.command.specs.Words.{Fractions, IsIndex, IsRatio, IsRatioAt, IsVectorWord, BeforeComma};
+ghost use Rattle.command.specs.VectorWords.{fractions_of, frame_of, asked};
+ghost use Rattle.command.specs.Words.{AtWords, Fractions, FrameWords, IsAtWords, IsFrameOption, IsFrameWords, IsIndex, IsRatio, IsRatioAt, IsVectorWord, BeforeComma};
 
 use fractions::{Ratio, read_ratio};
 
@@ -84,4 +85,72 @@ pub fn read_vector(word: &[u8]) -> Option<VectorWord>
     let (y, third) = read_before_comma(word, second)?;
     let z = read_to_end(word, third)?;
     Some(VectorWord { x, y, z })
+}
+
+/// The vectors a, b and tau of a frame.
+#[derive(Clone, Copy, Debug)]
+pub struct FrameWord {
+    pub a: VectorWord,
+    pub b: VectorWord,
+    pub tau: VectorWord,
+}
+
+/// What the words of `at` ask for, before any limit.
+#[derive(Clone, Copy, Debug)]
+pub struct RawAt {
+    pub h: i64,
+    pub k: i64,
+    pub l: i64,
+    pub frame: Option<FrameWord>,
+    pub s: Ratio,
+}
+
+/// The frame of the words `--frame a b t`.
+fn read_frame(option: &str, a: &[u8], b: &[u8], t: &[u8]) -> Option<FrameWord>
+    ensures { MatchOption result
+        ((f : FrameWords) → ¬ (IsFrameOption option.now a.now b.now t.now f))
+        (λ f. IsFrameOption option.now a.now b.now t.now (frame_of f)) }
+{
+    if option != "--frame" {
+        return None;
+    }
+    let a = read_vector(a)?;
+    let b = read_vector(b)?;
+    let tau = read_vector(t)?;
+    Some(FrameWord { a, b, tau })
+}
+
+/// The frame that the words behind a height give, if they give one.
+fn read_frame_words(words: &[String]) -> Option<Option<FrameWord>>
+    ensures { MatchOption result
+        ((f : Option FrameWords) → ¬ (IsFrameWords (map string_bytes words.now) f))
+        (λ f. IsFrameWords (map string_bytes words.now) (option_map frame_of f)) }
+{
+    match words {
+        [] => Some(None),
+        [option, a, b, t] => {
+            let frame = read_frame(option.as_str(), a.as_bytes(), b.as_bytes(), t.as_bytes())?;
+            Some(Some(frame))
+        }
+        _ => None,
+    }
+}
+
+/// What the words `at h k l s` ask for, with or without a frame behind them.
+pub fn read_at(words: &[String]) -> Option<RawAt>
+    ensures { MatchOption result
+        ((w : AtWords) → ¬ (IsAtWords (map string_bytes words.now) w))
+        (λ raw. IsAtWords (map string_bytes words.now) (asked raw)) }
+{
+    match words {
+        [command, h, k, l, s, others @ ..] if command.as_str() == "at" => {
+            let h = read_index(h.as_str())?;
+            let k = read_index(k.as_str())?;
+            let l = read_index(l.as_str())?;
+            let s = read_whole_ratio(s.as_bytes())?;
+            let frame = read_frame_words(others)?;
+            Some(RawAt { h, k, l, frame, s })
+        }
+        _ => None,
+    }
 }

@@ -1,0 +1,14 @@
+// What the words ask for.
+use fractions::Ratio;
+use motions::{Basis, Miller};
+
+/// What the words ask for, in range.
+#[derive(Clone, Copy, Debug)]
+pub enum Request {
+    /// The operations that map the plane of the height `s` to itself, in the frame given.
+    At {
+        plane: Miller,
+        basis: Basis,
+        s: Ratio,
+    },
+}
