@@ -1,29 +1,28 @@
 -- Devices in memory, as contracts see them.
-use Rattle.std.specs.Prelude.{◌≡◌, ℕ, ◌+◌, ◌-◌, ◌≤◌, min, List, [], length, Contains}
-use Rattle.devices.specs.Calls.{next_count}
+use Rattle.std.specs.Prelude.{ℕ, min, List, []}
 
--- a source: the bytes that are left, how many a call gives at most, which calls fail, and how many calls and faults there were
+-- a source in memory
 pub record Supply : Type 0 where
-  pub left : List ℕ
-  pub piece : ℕ
-  pub failing : List ℕ
-  pub calls : ℕ
-  pub faults : ℕ
+  pub left : List ℕ  -- the bytes that are left
+  pub piece : ℕ  -- how many a call gives at most
+  pub failing : List ℕ  -- the numbers of the calls that fail, counted from 1
+  pub calls : ℕ  -- how many calls there were
+  pub faults : ℕ  -- how many of them failed
 
--- a sink: the bytes that it holds, how many it can hold, how many a call takes at most, which calls fail, and how many calls and faults there were
+-- a sink in memory
 pub record Store : Type 0 where
-  pub held : List ℕ
-  pub room : ℕ
-  pub piece : ℕ
-  pub failing : List ℕ
-  pub calls : ℕ
-  pub faults : ℕ
+  pub held : List ℕ  -- the bytes that it holds
+  pub room : ℕ  -- how many it can hold
+  pub piece : ℕ  -- how many a call takes at most
+  pub failing : List ℕ  -- the numbers of the calls that fail, counted from 1
+  pub calls : ℕ  -- how many calls there were
+  pub faults : ℕ  -- how many of them failed
 
--- what a source that has these bytes was made as
+-- a new source: all its bytes are left
 abbrev pub new_supply : List ℕ → ℕ → List ℕ → Supply
 new_supply bytes piece failing = record { left = bytes; piece = piece; failing = failing; calls = 0; faults = 0 }
 
--- an empty sink
+-- a new sink: it holds nothing
 abbrev pub new_store : ℕ → ℕ → List ℕ → Store
 new_store room piece failing =
     record { held = []; room = room; piece = piece; failing = failing; calls = 0; faults = 0 }

@@ -1,7 +1,7 @@
 // A sink in memory.
-ghost use Rattle.std.specs.Prelude.{◌≡◌, ◌≢◌, ℕ, ◌+◌, ◌-◌, ◌<◌, ◌≤◌, ◌↔◌, ◌⊎◌, [], ◌++◌, length, take, Some, Contains, IfOk, IsErr, OnErr};
+ghost use Rattle.std.specs.Prelude.{◌≡◌, ◌+◌, ◌-◌, ◌<◌, ◌≤◌, ◌↔◌, ◌⊎◌, [], ◌++◌, length, take, Some, Contains, IfOk, IsErr, OnErr};
 ghost use Rattle.devices.specs.Calls.{next_count};
-ghost use Rattle.devices.specs.Memory.{Store, new_store, least};
+ghost use Rattle.devices.specs.Memory.{new_store, least};
 
 use crate::schedule::Schedule;
 use crate::traits::{Failed, Sink};

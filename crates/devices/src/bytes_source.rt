@@ -1,7 +1,7 @@
 // A source in memory.
-ghost use Rattle.std.specs.Prelude.{◌≡◌, ℕ, ◌-◌, ◌<◌, ◌≤◌, ◌↔◌, [], ◌++◌, length, take, drop, Some, Contains, IfOk, IsOk, IsErr, OnOk, OnErr};
-ghost use Rattle.devices.specs.Calls.{next_count, Rose};
-ghost use Rattle.devices.specs.Memory.{Supply, new_supply, least};
+ghost use Rattle.std.specs.Prelude.{◌≡◌, ◌<◌, ◌≤◌, ◌↔◌, [], ◌++◌, length, take, drop, Some, Contains, IfOk, IsErr, OnErr};
+ghost use Rattle.devices.specs.Calls.{next_count};
+ghost use Rattle.devices.specs.Memory.{new_supply, least};
 
 use crate::schedule::Schedule;
 use crate::traits::{Failed, Source};

@@ -9,7 +9,7 @@ ghost use Rattle.devices.specs.declared.read.ReadFault.TheVariants.{Failed as fa
 use crate::traits::{Failed, Source};
 use std::alloc::{AllocError, Global};
 
-// At most so many bytes are read at once.
+// A call of `next` is asked for at most so many bytes.
 const PIECE: usize = 4096;
 
 /// What a source gave up to its end.
@@ -46,19 +46,20 @@ impl From<AllocError> for ReadFault {
     }
 }
 
-/// Reads a source to its end, which it does not pass by more than one byte beyond the limit. `TooLong` comes exactly
-/// where the source gave more than `limit` bytes, `Failed` only where its count of faults rose. Each turn takes a
-/// byte, or is the last.
+/// Reads a source to its end, but at most one byte beyond the limit. `TooLong` comes exactly where the source gave
+/// more than `limit` bytes, and `Failed` only where its count of faults rose. Each turn takes a byte, or is the last.
 pub fn read_all<S: Source>(alloc: Global, source: &mut S, limit: usize) -> Result<Input, ReadFault>
-    ensures whole { IfOk result (λ input. IfWhole input (λ bytes. IfSome (S.left source.old) (λ all. bytes ≡ all))) }
+    ensures whole { IfOk result (λ input. IfWhole input (λ bytes.
+        IfSome (S.left source.old) (λ all. bytes ≡ all))) }
     ensures end { IfOk result (λ input. IfWhole input (λ _. IsAtEnd (S.left source.new))) }
     ensures short { IfOk result (λ input. IfWhole input (λ bytes. length bytes ≤ limit)) }
-    ensures too_long { IfOk result (λ input. OnTooLong input (IfSome (S.left source.old) (λ all. limit < length all))) }
+    ensures too_long { IfOk result (λ input. OnTooLong input
+        (IfSome (S.left source.old) (λ all. limit < length all))) }
     ensures within { ReadsWithin (S.left source.old) (S.left source.new) (limit + 1) }
     ensures counts { S.faults source.old ≤ S.faults source.new }
     ensures failed { IsErrOf result ReadFault.Failed → Rose (S.faults source.old) (S.faults source.new) }
-    ensures steady { S.NeverFails source.old →
-        (result ≢ Err ReadFault.Failed) × S.NeverFails source.new × (S.faults source.new ≡ S.faults source.old) }
+    ensures steady { S.NeverFails source.old → (result ≢ Err ReadFault.Failed)
+        × S.NeverFails source.new × (S.faults source.new ≡ S.faults source.old) }
 {
     let mut bytes = Vec::new(alloc);
     let mut piece = [0; PIECE];

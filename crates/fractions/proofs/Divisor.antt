@@ -1,5 +1,5 @@
 -- What the code computes of the divisor and of the quotients by it: none of it overflows.
-use Rattle.std.proofs.Common.{◌≡◌, ℕ, suc, ◌^◌, ◌<◌, ◌≤◌, sym, subst, ap, ◌∙◌, ℤ, pos, negsuc, ◌-ℤ◌, ◌≤ℤ◌, ◌<ℤ◌, nat_abs, arith, FitsSigned, to_z, of_z}
+use Rattle.std.proofs.Common.{◌≡◌, ℕ, ◌^◌, ◌<◌, ◌≤◌, sym, subst, ap, ◌∙◌, ℤ, pos, negsuc, ◌-ℤ◌, ◌≤ℤ◌, ◌<ℤ◌, nat_abs, arith, FitsSigned, to_z, of_z}
 use Rattle.std.specs.Prelude.{int_div}
 use Rattle.std.specs.Int.{w128}
 use Rattle.std.proofs.lemmas.Int.{ints, to_z-of_z, quot_is, fits_signed_from_abs}
@@ -87,7 +87,7 @@ bits_above (negsuc n) h = let fits = h.fits in omega (arith, ints)
 quotient_fits : (a d : ℤ) → FitsSigned w128 a → IsWithin (2 ^ 120) a → IsDivisor d → FitsSigned w128 (coded_quotient a d)
 quotient_fits a d fits small h =
     rw (to_z-of_z w128 a fits, to_z-of_z w128 d h.fits)
-        (let le = abs-int_div-le a d in fits_signed_from_abs w128 (int_div a d) (omega arith))
+    (let le = abs-int_div-le a d in fits_signed_from_abs w128 (int_div a d) (omega arith))
 
 quotient_is : (a d : ℤ) → FitsSigned w128 a → IsWithin (2 ^ 120) a → IsDivisor d → to_z w128 (of_z w128 (coded_quotient a d)) ≡ int_div a d
 quotient_is a d fits small h =

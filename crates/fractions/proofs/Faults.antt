@@ -1,9 +1,7 @@
 -- What is wrong with a denominator, from what was read of it.
-use Rattle.std.proofs.Common.{◌≡◌, ℕ, ◌+◌, ◌==◌, Bool, true, false, List, sym, ◌∙◌, drop, slice_index}
-use Rattle.std.specs.Prelude.{Option, Some, None}
-use Rattle.std.specs.List.{list_all}
+use Rattle.std.proofs.Common.{◌≡◌, ℕ, ◌+◌, List, drop, slice_index}
+use Rattle.std.specs.Prelude.{Some, None}
 use Rattle.std.proofs.lemmas.Bool.{eq-eqb}
-use Rattle.fractions.specs.declared.read.FractionFault.{FractionFault}
 use Rattle.fractions.specs.declared.read.FractionFault.TheVariants.{ZeroDenominator}
 use Rattle.fractions.specs.WrittenRatio.{digits_at, number_at, run_fault, fault_behind}
 use Rattle.fractions.proofs.Digits.{AllDigits-take_while, digits_value_zeros, no_zeros}

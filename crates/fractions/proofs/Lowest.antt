@@ -1,14 +1,14 @@
 -- Division by the greatest common divisor gives the lowest terms, and there is one such fraction.
-use Rattle.std.proofs.Common.{◌≡◌, ℕ, zero, suc, ◌+◌, ◌*◌, ◌/◌, ◌%◌, ◌<◌, ◌≤◌, min, refl, sym, ap, subst, ◌∙◌, [], ◌∷◌, ℤ, pos, negsuc, ◌+ℤ◌, ◌*ℤ◌, ◌≤ℤ◌, neg_ℤ, nat_abs, arith}
-use Rattle.std.specs.Prelude.{int_div, int_rem, unsigned_abs}
-use Rattle.std.specs.Int.{◌∣◌, int_signum, IsGcd}
+use Rattle.std.proofs.Common.{◌≡◌, ℕ, zero, suc, ◌*◌, ◌/◌, ◌%◌, ◌<◌, ◌≤◌, refl, sym, ap, subst, ◌∙◌, [], ◌∷◌, ℤ, pos, negsuc, ◌+ℤ◌, ◌*ℤ◌, ◌≤ℤ◌, neg_ℤ, nat_abs, arith}
+use Rattle.std.specs.Prelude.{int_div, int_rem}
+use Rattle.std.specs.Int.{◌∣◌, IsGcd}
 use Rattle.std.proofs.lemmas.Int.{ints, quot-rem}
-use Rattle.std.proofs.lemmas.Nat.Gcd.{dvd_antisymm, mod-eq-zero_of_dvd, le_of_dvd}
+use Rattle.std.proofs.lemmas.Nat.Gcd.{dvd_antisymm, mod-eq-zero_of_dvd}
 use Rattle.std.proofs.Math.Nat.{div-le_self, dvd-mul_left, dvd-mul_right, mul-dvd-mul_right, dvd_of_mul-dvd-mul_right, eq-one_of_dvd-one, eq-zero_of_zero-dvd}
 use Rattle.integers.specs.Size.{Divides}
 use Rattle.integers.proofs.Ring.{abs-mul, add_zero, zero_mul, mul_neg, mul_right_cancel}
 use Rattle.integers.proofs.Solver.{Expr.{var, num as literal, neg, ◌⊕◌, ◌⊗◌}, linear, given}
-use Rattle.integers.proofs.Divisors.{Combined, combine}
+use Rattle.integers.proofs.Divisors.{combine}
 use Rattle.fractions.specs.Fraction.{Fraction, IsFraction, SameFraction, IsInLowestTerms}
 use Rattle.fractions.specs.LowestTerms.{gcd, signed_gcd, lowest_terms, IsLowestForm, IsNoLarger}
 use Rattle.fractions.proofs.Gcd.{IsGcd-gcd}
@@ -60,7 +60,7 @@ quotients num den =
 same_number : (num den d : ℤ) (q : Fraction) → AreQuotients num den d q → SameFraction q (record { num = num; den = den })
 same_number num den d q h =
     linear (q.num ∷ q.den ∷ num ∷ den ∷ d ∷ []) (var 0 ⊗ var 3) (var 2 ⊗ var 1)
-        (given (var 1) (var 0 ⊗ var 4) (var 2) ∷ given (neg (var 0)) (var 1 ⊗ var 4) (var 3) ∷ []) tt (h.num_is, (h.den_is, tt))
+    (given (var 1) (var 0 ⊗ var 4) (var 2) ∷ given (neg (var 0)) (var 1 ⊗ var 4) (var 3) ∷ []) tt (h.num_is, (h.den_is, tt))
 
 -- a number divided by one of its sign is positive
 positive_quotient : (m num den : ℤ) → ¬ (den ≡ pos 0) → m *ℤ signed_gcd num den ≡ den → pos 1 ≤ℤ m
@@ -132,9 +132,9 @@ divides_den q r lowest same =
     let k = r.num *ℤ c.u +ℤ r.den *ℤ c.v in
     let one : pos c.gcd ≡ pos 1 = ap pos (lowest c.gcd (Divides-abs c.gcd q.num c.first) (Divides-abs c.gcd q.den c.second)) in
     let e : r.den ≡ q.den *ℤ k =
-        linear (q.num ∷ q.den ∷ r.num ∷ r.den ∷ c.u ∷ c.v ∷ []) (var 3) (var 1 ⊗ (var 2 ⊗ var 4 ⊕ var 3 ⊗ var 5))
-            (given (neg (var 3)) (var 0 ⊗ var 4 ⊕ var 1 ⊗ var 5) (literal (pos 1)) ∷ given (var 4) (var 0 ⊗ var 3) (var 2 ⊗ var 1) ∷ [])
-            tt (c.is ∙ one, (same, tt)) in
+    linear (q.num ∷ q.den ∷ r.num ∷ r.den ∷ c.u ∷ c.v ∷ []) (var 3) (var 1 ⊗ (var 2 ⊗ var 4 ⊕ var 3 ⊗ var 5))
+    (given (neg (var 3)) (var 0 ⊗ var 4 ⊕ var 1 ⊗ var 5) (literal (pos 1)) ∷ given (var 4) (var 0 ⊗ var 3) (var 2 ⊗ var 1) ∷ [])
+    tt (c.is ∙ one, (same, tt)) in
     subst (λ (n : ℕ). nat_abs q.den ∣ n) (sym (ap nat_abs e ∙ abs-mul q.den k)) (dvd-mul_right (nat_abs q.den) (nat_abs k))
 
 same_positive : (m n : ℤ) → pos 1 ≤ℤ m → pos 1 ≤ℤ n → nat_abs m ≡ nat_abs n → m ≡ n

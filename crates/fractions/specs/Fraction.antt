@@ -1,6 +1,7 @@
 -- Fractions of whole numbers.
 use Rattle.std.specs.Prelude.{◌≡◌, ℕ, ℤ, pos, ◌*ℤ◌, ◌≤ℤ◌, unsigned_abs}
 use Rattle.std.specs.Int.{◌∣◌}
+use Rattle.integers.specs.Size.{IsWithin}
 
 -- the number num over den
 pub record Fraction : Type 0 where
@@ -18,3 +19,8 @@ SameFraction q r = q.num *ℤ r.den ≡ r.num *ℤ q.den
 -- no whole number above 1 divides both
 abbrev pub IsInLowestTerms : Fraction → Type 0
 IsInLowestTerms q = (d : ℕ) → d ∣ unsigned_abs q.num → d ∣ unsigned_abs q.den → d ≡ 1
+
+-- both numbers are at most the bound in size
+pub record IsFractionWithin (bound : ℕ) (q : Fraction) : Type 0 where
+  pub num : IsWithin bound q.num
+  pub den : IsWithin bound q.den

@@ -25,8 +25,8 @@ number_at bytes place = digits_value 10 (digits_at bytes place)
 -- what is wrong with it: it is empty, or has a digit more than the most
 abbrev pub run_fault : List ℕ → ℕ → Option FractionFault
 run_fault bytes place =
-  let count = length (digits_at bytes place) in
-  if count == 0 then Some (NoDigit place) else if nat_lt MOST_DIGITS count then Some (TooLong (place + MOST_DIGITS)) else None
+    let count = length (digits_at bytes place) in
+    if count == 0 then Some (NoDigit place) else if nat_lt MOST_DIGITS count then Some (TooLong (place + MOST_DIGITS)) else None
 
 -- ---- the numerator
 
@@ -45,8 +45,8 @@ numerator_end bytes at = behind_digits bytes (numerator_place bytes at)
 -- the numerator, with its sign
 abbrev pub numerator : List ℕ → ℕ → ℤ
 numerator bytes at =
-  let size = pos (number_at bytes (numerator_place bytes at)) in
-  if slice_index bytes at == 45 then neg_ℤ size else size
+    let size = pos (number_at bytes (numerator_place bytes at)) in
+    if slice_index bytes at == 45 then neg_ℤ size else size
 
 -- ---- the denominator, which is there if a slash (47) stands behind the numerator
 

@@ -9,6 +9,8 @@ mod laws;
 mod part;
 mod ratio;
 mod read;
+#[cfg(test)]
+mod tests;
 mod write;
 
 pub use laws::{lowest_form_by_divisor, one_lowest_form};

@@ -5,9 +5,21 @@ ghost use Rattle.std.specs.Char.{is_ascii_digit};
 ghost use Rattle.std.specs.Str.Parse.{AllDigits, digits_value};
 ghost use Rattle.integers.specs.Size.{IsWithin};
 ghost use Rattle.fractions.specs.FractionOf.{fraction_of};
-ghost use Rattle.fractions.specs.LowestTerms.{lowest_terms};
+ghost use Rattle.fractions.specs.Fraction.{IsFractionWithin};
+ghost use Rattle.fractions.specs.LowestTerms.{lowest_terms, IsLowestForm};
 ghost use Rattle.fractions.specs.WrittenRatio.{
-    behind_digits, number_at, run_fault, numerator, numerator_place, numerator_end, denominator, denominator_behind, end_behind, fault_behind, ratio_end, ratio_fault
+  behind_digits,
+  number_at,
+  run_fault,
+  numerator,
+  numerator_place,
+  numerator_end,
+  denominator,
+  denominator_behind,
+  end_behind,
+  fault_behind,
+  ratio_end,
+  ratio_fault,
 };
 
 use crate::ratio::Ratio;
@@ -34,8 +46,11 @@ pub fn read_ratio(bytes: &[u8], at: usize) -> Result<(Ratio, usize), FractionFau
     requires { at ≤ length bytes.now }
     ensures value { IfOk result (λ read. fraction_of read.0
         ≡ lowest_terms (numerator bytes.now at) (denominator bytes.now at)) }
+    ensures number { IfOk result (λ read. IsLowestForm (fraction_of read.0)
+        (numerator bytes.now at) (denominator bytes.now at)) }
+    ensures small { IfOk result (λ read. IsFractionWithin (10 ^ MOST_DIGITS) (fraction_of read.0)) }
     ensures end { IfOk result (λ read. read.1 ≡ ratio_end bytes.now at) }
-    ensures within { IfOk result (λ read. read.1 ≤ length bytes.now) }
+    ensures within { IfOk result (λ read. (at < read.1) × (read.1 ≤ length bytes.now)) }
     ensures fault { result_err result ≡ ratio_fault bytes.now at }
 {
     let (num, slash) = read_numerator(bytes, at)?;
@@ -47,9 +62,9 @@ pub fn read_ratio(bytes: &[u8], at: usize) -> Result<(Ratio, usize), FractionFau
 fn read_numerator(bytes: &[u8], at: usize) -> Result<(i128, usize), FractionFault>
     requires { at ≤ length bytes.now }
     ensures value { IfOk result (λ read. read.0 ≡ numerator bytes.now at) }
-    ensures small { IfOk result (λ read. IsWithin (2 ^ 120) read.0) }
+    ensures small { IfOk result (λ read. IsWithin (10 ^ MOST_DIGITS) read.0) }
     ensures end { IfOk result (λ read. read.1 ≡ numerator_end bytes.now at) }
-    ensures within { IfOk result (λ read. read.1 ≤ length bytes.now) }
+    ensures within { IfOk result (λ read. (at < read.1) × (read.1 ≤ length bytes.now)) }
     ensures fault { result_err result ≡ run_fault bytes.now (numerator_place bytes.now at) }
 {
     match bytes.get(at) {
@@ -72,10 +87,10 @@ fn read_numerator(bytes: &[u8], at: usize) -> Result<(i128, usize), FractionFaul
 fn read_denominator(bytes: &[u8], slash: usize) -> Result<(i128, usize), FractionFault>
     requires { slash ≤ length bytes.now }
     ensures value { IfOk result (λ read. read.0 ≡ denominator_behind bytes.now slash) }
-    ensures small { IfOk result (λ read. IsWithin (2 ^ 120) read.0) }
+    ensures small { IfOk result (λ read. IsWithin (10 ^ MOST_DIGITS) read.0) }
     ensures positive { IfOk result (λ read. pos 0 <ℤ read.0) }
     ensures end { IfOk result (λ read. read.1 ≡ end_behind bytes.now slash) }
-    ensures within { IfOk result (λ read. read.1 ≤ length bytes.now) }
+    ensures within { IfOk result (λ read. (slash ≤ read.1) × (read.1 ≤ length bytes.now)) }
     ensures fault { result_err result ≡ fault_behind bytes.now slash }
 {
     if bytes.get(slash) != Some(&b'/') {
@@ -94,7 +109,7 @@ fn read_digits(bytes: &[u8], place: usize) -> Result<(u64, usize), FractionFault
     ensures value { IfOk result (λ read. read.0 ≡ number_at bytes.now place) }
     ensures small { IfOk result (λ read. read.0 < 10 ^ MOST_DIGITS) }
     ensures end { IfOk result (λ read. read.1 ≡ behind_digits bytes.now place) }
-    ensures within { IfOk result (λ read. read.1 ≤ length bytes.now) }
+    ensures within { IfOk result (λ read. (place < read.1) × (read.1 ≤ length bytes.now)) }
     ensures fault { result_err result ≡ run_fault bytes.now place }
 {
     let count = digit_count(&bytes[place..]);
@@ -112,7 +127,10 @@ fn digit_count(bytes: &[u8]) -> usize
     ensures value { result ≡ length (take_while is_ascii_digit bytes.now) }
     ensures within { result ≤ length bytes.now }
 {
-    bytes.iter().take_while(|byte| byte.is_ascii_digit()).count()
+    bytes
+        .iter()
+        .take_while(|byte| byte.is_ascii_digit())
+        .count()
 }
 
 // The number that the digits write.

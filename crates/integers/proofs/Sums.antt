@@ -95,8 +95,8 @@ sum_below-reordered f to from n inside outside there back =
     ∙ sum_below-swap (λ k l. hit l (to k) *ℤ f l) n n
     ∙ sum_below-same (λ l. sum_below (λ k. hit l (to k) *ℤ f l) n) f n
     (λ l h.
-        sum_below-same (λ k. hit l (to k) *ℤ f l) (λ k. hit k (from l) *ℤ f l) n (λ k h'. ap (λ x. x *ℤ f l) (turned l k h h'))
-        ∙ sum_below-hit (λ k. f l) n (from l) (outside l h))
+    sum_below-same (λ k. hit l (to k) *ℤ f l) (λ k. hit k (from l) *ℤ f l) n (λ k h'. ap (λ x. x *ℤ f l) (turned l k h h'))
+    ∙ sum_below-hit (λ k. f l) n (from l) (outside l h))
   where
     turned : (l k : ℕ) → l < n → k < n → hit l (to k) ≡ hit k (from l)
     turned l k h h' =

@@ -1,5 +1,5 @@
 -- Which triples of numbers are Miller indices, and what is wrong with any other.
-use Rattle.std.proofs.Common.{◌≡◌, ◌↔◌, ℕ, zero, suc, ◌<◌, ◌≤◌, ℤ, pos, sym, ap, refl, subst, arith, FitsSigned, w64}
+use Rattle.std.proofs.Common.{◌≡◌, ◌↔◌, ◌∙◌, ℕ, zero, suc, ◌<◌, ◌≤◌, ℤ, pos, sym, ap, refl, subst, arith, FitsSigned, w64}
 use Rattle.std.specs.Prelude.{Result, Err, unsigned_abs}
 use Rattle.std.specs.Int.{◌∣◌, IsGcd}
 use Rattle.std.proofs.Math.Nat.{one-dvd, eq-zero_of_zero-dvd}
@@ -7,16 +7,16 @@ use Rattle.std.proofs.lemmas.Int.{ints, to_z-of_z}
 use Rattle.std.proofs.lemmas.Nat.Gcd.{dvd-zero, dvd_trans, dvd_antisymm, le_of_dvd}
 use Rattle.integers.specs.Size.{IsWithin}
 use Rattle.integers.proofs.Coded.{again}
-use Rattle.symmetry.specs.Vectors.{Vector, origin}
+use Rattle.symmetry.specs.Vectors.{Vector, opposite, origin}
 use Rattle.symmetry.specs.Planes.{IsCoprime}
 use Rattle.symmetry.specs.Sizes.{IsVectorWithin}
-use Rattle.symmetry.proofs.VectorLaws.{vector_path}
+use Rattle.symmetry.proofs.Coprime.{not_opposite}
+use Rattle.symmetry.proofs.VectorLaws.{vector_path, opposite-origin}
 use Rattle.motions.specs.declared.index.TheConstants.{INDEX}
 use Rattle.motions.specs.declared.plane_fault.PlaneFault.{PlaneFault}
 use Rattle.motions.specs.declared.plane_fault.PlaneFault.TheVariants.{OutOfRange, AllZero, NotCoprime}
 use Rattle.motions.specs.Divisors.{IsGreatestDivisor}
 use Rattle.motions.specs.PlaneFaults.{IsPlaneFault}
-use Rattle.motions.proofs.Sides.{coprime_not_origin}
 
 abbrev pub row : ℤ → ℤ → ℤ → Vector
 row h k l = record { x = h; y = k; z = l }
@@ -56,7 +56,7 @@ pub greatest_within : (n g : ℕ) (r : Vector) → IsVectorWithin n r → IsGrea
 greatest_within n g r w h = by_x (unsigned_abs r.x) refl
   where
     by_z : (m : ℕ) → unsigned_abs r.z ≡ m → unsigned_abs r.y ≡ 0 → unsigned_abs r.x ≡ 0 → g ≤ n
-    by_z zero z y x = 
+    by_z zero z y x =
         let nothing : 0 ∣ g = h.greatest 0 (subst (λ m. 0 ∣ m) (sym x) (dvd-zero 0)) (subst (λ m. 0 ∣ m) (sym y) (dvd-zero 0)) (subst (λ m. 0 ∣ m) (sym z) (dvd-zero 0)) in
         let e = eq-zero_of_zero-dvd nothing in
         omega arith
@@ -113,7 +113,7 @@ one_fault r (NotCoprime g) (NotCoprime d) h k =
 -- and Miller indices have none
 pub no_fault : (r : Vector) → IsCoprime r → IsVectorWithin (unsigned_abs INDEX) r → (f : PlaneFault) → ¬ (IsPlaneFault r f)
 no_fault r coprime within OutOfRange h = h within
-no_fault r coprime within AllZero h = coprime_not_origin r coprime h
+no_fault r coprime within AllZero h = not_opposite r coprime (h ∙ sym opposite-origin ∙ ap opposite (sym h))
 no_fault r coprime within (NotCoprime g) h =
     let e : unsigned_abs g ≡ 1 = coprime (unsigned_abs g) h.1.x h.1.y h.1.z in
     absurd (omega (arith, ints, h.2))

@@ -1,38 +1,22 @@
 -- The sign by which a matrix keeps a coprime row.
 use Rattle.std.proofs.Common.{◌≡◌, ◌↔◌, ◌∙◌, sym, ap, refl, negsuc, ◌*ℤ◌, arith}
 use Rattle.std.specs.Prelude.{Option, Some, None}
-use Rattle.std.proofs.lemmas.Int.{ints}
-use Rattle.std.proofs.lemmas.Nat.Gcd.{dvd-zero}
-use Rattle.symmetry.specs.Vectors.{Vector, multiple, opposite, origin}
+use Rattle.symmetry.specs.Vectors.{Vector, multiple, opposite}
 use Rattle.symmetry.specs.Planes.{IsCoprime}
-use Rattle.symmetry.proofs.VectorLaws.{vector_path, multiple-one}
+use Rattle.symmetry.proofs.Coprime.{not_opposite}
+use Rattle.symmetry.proofs.VectorLaws.{multiple-one}
 use Rattle.motions.specs.declared.motion.Sign.{Sign}
 use Rattle.motions.specs.declared.motion.Sign.TheVariants.{Plus, Minus}
 use Rattle.motions.specs.Signs.{sign_value}
-
--- a coprime row is not 0: 2 would divide it
-pub coprime_not_origin : (r : Vector) → IsCoprime r → ¬ (r ≡ origin)
-coprime_not_origin r coprime e =
-    let zero_coprime : IsCoprime origin = rw e at coprime in
-    absurd (omega (arith, zero_coprime 2 (dvd-zero 2) (dvd-zero 2) (dvd-zero 2)))
-
--- and so not its opposite
-pub coprime_not_opposite : (r : Vector) → IsCoprime r → ¬ (r ≡ opposite r)
-unfolding multiple
-coprime_not_opposite r coprime e =
-    let x : r.x ≡ negsuc 0 *ℤ r.x = ap (λ (v : Vector). v.x) e in
-    let y : r.y ≡ negsuc 0 *ℤ r.y = ap (λ (v : Vector). v.y) e in
-    let z : r.z ≡ negsuc 0 *ℤ r.z = ap (λ (v : Vector). v.z) e in
-    coprime_not_origin r coprime (vector_path (omega (arith, ints)) (omega (arith, ints)) (omega (arith, ints)))
 
 -- where v is s r, the sign is s and no other
 pub side_some : (s : Sign) (r v : Vector) → IsCoprime r → v ≡ multiple (sign_value s) r
     → (e : Sign) → (Some s ≡ Some e) ↔ (v ≡ multiple (sign_value e) r)
 side_some Plus r v coprime h Plus = (λ _. h, λ _. refl)
 side_some Plus r v coprime h Minus =
-    (λ (q : Some Plus ≡ Some Minus). absurd (cc), λ k. absurd (coprime_not_opposite r coprime (sym (multiple-one r) ∙ sym h ∙ k)))
+    (λ (q : Some Plus ≡ Some Minus). absurd (cc), λ k. absurd (not_opposite r coprime (sym (multiple-one r) ∙ sym h ∙ k)))
 side_some Minus r v coprime h Plus =
-    (λ (q : Some Minus ≡ Some Plus). absurd (cc), λ k. absurd (coprime_not_opposite r coprime (sym (multiple-one r) ∙ sym k ∙ h)))
+    (λ (q : Some Minus ≡ Some Plus). absurd (cc), λ k. absurd (not_opposite r coprime (sym (multiple-one r) ∙ sym k ∙ h)))
 side_some Minus r v coprime h Minus = (λ _. h, λ _. refl)
 
 abbrev nothing : Option Sign

@@ -18,7 +18,9 @@ pub(crate) fn is_same_row(row: &[i64; 3], other: &[i64; 3]) -> bool
 pub(crate) fn is_same_matrix(matrix: &[[i64; 3]; 3], other: &[[i64; 3]; 3]) -> bool
     ensures { result ≡ same_matrix (matrix_of matrix.now) (matrix_of other.now) }
 {
-    is_same_row(&matrix[0], &other[0]) && is_same_row(&matrix[1], &other[1]) && is_same_row(&matrix[2], &other[2])
+    is_same_row(&matrix[0], &other[0])
+        && is_same_row(&matrix[1], &other[1])
+        && is_same_row(&matrix[2], &other[2])
 }
 
 /// Whether two vectors of parts are equal.

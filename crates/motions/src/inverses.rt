@@ -41,7 +41,11 @@ fn cofactors(matrix: &[[i64; 3]; 3]) -> [[i64; 3]; 3]
     ensures small { IsMatrixWithin largest_cofactor (matrix_of result) }
 {
     let [first, second, third] = matrix;
-    from_columns(&cross(second, third), &cross(third, first), &cross(first, second))
+    from_columns(
+        &cross(second, third),
+        &cross(third, first),
+        &cross(first, second),
+    )
 }
 
 /// The same with each sign changed.
@@ -51,7 +55,11 @@ fn opposite_cofactors(matrix: &[[i64; 3]; 3]) -> [[i64; 3]; 3]
     ensures small { IsMatrixWithin largest_cofactor (matrix_of result) }
 {
     let [first, second, third] = matrix;
-    from_columns(&cross(third, second), &cross(first, third), &cross(second, first))
+    from_columns(
+        &cross(third, second),
+        &cross(first, third),
+        &cross(second, first),
+    )
 }
 
 /// The matrix with these columns.

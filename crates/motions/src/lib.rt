@@ -19,6 +19,8 @@ mod plane_fault;
 mod products;
 mod rows;
 mod space;
+#[cfg(test)]
+mod tests;
 
 pub use basis::Basis;
 pub use frame_fault::FrameFault;

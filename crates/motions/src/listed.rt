@@ -1,7 +1,6 @@
 // What a group text lists.
-use fractions::Part;
-
 use crate::motion::Motion3;
+use fractions::Part;
 
 /// What a group text lists: its operations and its centring vectors, each in the order of the text.
 #[derive(Debug, Drop)]

@@ -6,13 +6,12 @@ ghost use Rattle.motions.specs.Equality.{same_motion};
 ghost use Rattle.motions.specs.MotionLaws.{same_motion_laws, same_motion-is, followed_by_laws, followed_by_within, identity_within, IsVectorWithin-more};
 ghost use Rattle.motions.specs.Views.{motion_of};
 
-use fractions::Part;
-use quotient::Motion;
-
 use crate::equality::{is_same_matrix, is_same_shift};
 use crate::inverses::inverse_matrix;
 use crate::motion::Motion3;
 use crate::products::{matrix_by_matrix, matrix_by_vector, opposite, sum};
+use fractions::Part;
+use quotient::Motion;
 
 impl PartialEq for Motion3 {
     ghost eq = { λ m n. same_motion (motion_of m) (motion_of n) };
@@ -59,7 +58,10 @@ impl Motion for Motion3 {
     fn back(&self) -> Option<Self> {
         let w = inverse_matrix(&self.w)?;
         let image = matrix_by_vector(&w, &self.t);
-        Some(Motion3 { w, t: opposite(&image) })
+        Some(Motion3 {
+            w,
+            t: opposite(&image),
+        })
     }
 
     ghost monoid = { followed_by_laws };

@@ -43,3 +43,9 @@ pub record IsSame (K : Kind) (m n : K.Motion) : Type 0 where
 -- m carries shifts into shifts: first a shift and then m is first m and then some shift
 abbrev pub Keeps : (K : Kind) → K.Motion → Type 0
 Keeps K m = (t : K.Motion) → K.IsShift t → (t' : K.Motion) × K.IsShift t' × (K.then t m ≡ K.then m t')
+
+-- a relation that is an equivalence
+pub record IsEquivalence {A : Type 0} (Same : A → A → Type 0) : Type 0 where
+  pub reflexive : (a : A) → Same a a
+  pub symmetric : (a b : A) → Same a b → Same b a
+  pub transitive : (a b c : A) → Same a b → Same b c → Same a c

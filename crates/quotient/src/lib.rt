@@ -5,6 +5,12 @@
 // names the first thing that is wrong with any other.
 #![tactic(auto)]
 
+mod check;
+mod laws;
+mod lists;
 mod traits;
 
+pub use check::{GroupFault, check_group};
+pub use laws::{first_motions, products_respect_sameness, sameness_is_an_equivalence};
+pub use lists::{NoMemory, distinct, find};
 pub use traits::{Motion, Quotient};

@@ -1,18 +1,21 @@
 -- In a frame each motion differs by the plane lattice from exactly one at home.
-use Rattle.std.proofs.Common.{◌≡◌, ℤ, pos, ◌+ℤ◌, ◌*ℤ◌, ◌≤ℤ◌, ◌<ℤ◌, refl, sym, ◌∙◌, ap, subst, arith}
+use Rattle.std.proofs.Common.{inl, inr, ◌≡◌, ℤ, pos, ◌+ℤ◌, ◌*ℤ◌, ◌≤ℤ◌, ◌<ℤ◌, refl, sym, ◌∙◌, ap, subst, arith}
 use Rattle.std.proofs.lemmas.Int.{ints}
 use Rattle.integers.proofs.Division.{floor, fractional_parts}
-use Rattle.integers.proofs.Order.{one-le-mul}
+use Rattle.integers.proofs.Order.{mul_left_cancel_pos, one-le-mul}
 use Rattle.integers.proofs.Ring.{neg_as_mul}
 use Rattle.integers.proofs.Spread.{spread}
-use Rattle.symmetry.specs.Vectors.{Vector, origin, plus, minus, multiple, dot, cross}
+use Rattle.symmetry.specs.Vectors.{Vector, origin, plus, minus, multiple, dot, cross, row_times}
 use Rattle.symmetry.specs.Motions.{Motion}
-use Rattle.symmetry.specs.Groups.{Listing}
+use Rattle.symmetry.specs.Planes.{Height, IsCoprime, IsHeight}
+use Rattle.symmetry.specs.Groups.{IsGroup, InStabiliser, InRowStabiliser, SameModulo, Listing}
 use Rattle.symmetry.specs.Frames.{Basis, combination, IsFrame, DiffersInPlane, InPlaneLattice, IsAtHome}
 use Rattle.symmetry.specs.Lists.{HasOneAtHome}
-use Rattle.symmetry.proofs.VectorLaws.{vector_path, minus-plus, origin-plus, multiple-dot}
+use Rattle.symmetry.proofs.VectorLaws.{dot-minus_same, vector_path, minus-plus, origin-plus, multiple-dot}
 use Rattle.symmetry.proofs.PlaneLattice.{differs_sym, differs_trans}
 use Rattle.symmetry.proofs.MotionLaws.{motion_path}
+use Rattle.symmetry.proofs.Coprime.{not_opposite}
+use Rattle.symmetry.proofs.PlaneRows.{stabiliser_by_row}
 use Rattle.symmetry.proofs.FrameLaws.{cramer, combination-minus, combination-multiple, plane_lattice}
 
 minus-minus : (v w : Vector) → minus v (minus v w) ≡ w
@@ -124,3 +127,22 @@ module _ (g : Listing) (r : Vector) (f : Basis) (frame : IsFrame g r f) where
     only = λ n in_it at_home differs.
         home_once (home m) n (home_at_home m) at_home (differs_trans g r (home m) m n (differs_sym g r m (home m) (home_differs m)) differs);
   }
+
+-- ---- the stabilisers have at most one member at home for each listed operation
+
+-- members of the stabiliser with one matrix have one (hkl).w
+stabiliser_shift : (g : Listing) (r : Vector) (s : Height) (m n : Motion) → IsCoprime r → IsHeight s → m.matrix ≡ n.matrix
+    → InRowStabiliser g r s m → InRowStabiliser g r s n → dot r m.shift ≡ dot r n.shift
+stabiliser_shift g r s m n coprime high e (_, inl k) (_, inl l) = k.1 ∙ sym l.1
+stabiliser_shift g r s m n coprime high e (_, inl k) (_, inr t) = absurd (not_opposite r coprime (sym k.0 ∙ ap (row_times r) e ∙ t.0))
+stabiliser_shift g r s m n coprime high e (_, inr t) (_, inl k) = absurd (not_opposite r coprime (sym k.0 ∙ ap (row_times r) (sym e) ∙ t.0))
+stabiliser_shift g r s m n coprime high e (_, inr t) (_, inr u) = mul_left_cancel_pos s.den _ _ high (sym t.1 ∙ u.1)
+
+pub stabiliser_home_once : (g : Listing) (r : Vector) (f : Basis) (s : Height) (m n : Motion)
+    → IsFrame g r f → IsGroup g → IsCoprime r → IsHeight s → InStabiliser g r s m → InStabiliser g r s n
+    → IsAtHome f m → IsAtHome f n → SameModulo g m n → m ≡ n
+stabiliser_home_once g r f s m n frame group coprime high in_m in_n home_m home_n same =
+    let row_m = (stabiliser_by_row g r s m group coprime high).0 in_m in
+    let row_n = (stabiliser_by_row g r s n group coprime high).0 in_n in
+    let level = stabiliser_shift g r s m n coprime high same.matrix row_m row_n in
+    home_once g r f frame m n home_m home_n (record { matrix = same.matrix; shift = (same.shift, dot-minus_same r m.shift n.shift level) })

@@ -13,3 +13,4 @@ pub mod ListLaws
 pub mod ListFacts
 pub mod PlaneLattice
 pub mod HomeLaws
+mod Samples

@@ -85,12 +85,15 @@ module _ (Same : Motion → Motion → Type 0) (ops : List Motion) (IsHome S : M
 
 -- sets with the same members have the same lists
 pub list_of_same_set : (Same : Motion → Motion → Type 0) (ops : List Motion) (IsHome S S' : Motion → Type 0) (ms : List Motion)
-    → ((m : Motion) → S m ↔ S' m) → IsListOf Same ops IsHome S ms → IsListOf Same ops IsHome S' ms
-list_of_same_set Same ops IsHome S S' ms same of_ms = record {
-  listed = λ k h. let is = of_ms.listed k h in ((same (motion_at ms k)).0 is.0, is.1);
-  once = λ m in_it home. of_ms.once m ((same m).1 in_it) home;
-  ordered = of_ms.ordered;
-}
+    → ((m : Motion) → S m ↔ S' m) → IsListOf Same ops IsHome S ms ↔ IsListOf Same ops IsHome S' ms
+list_of_same_set Same ops IsHome S S' ms same = (one_way S S' same, one_way S' S (λ m. ((same m).1, (same m).0)))
+  where
+    one_way : (S S' : Motion → Type 0) → ((m : Motion) → S m ↔ S' m) → IsListOf Same ops IsHome S ms → IsListOf Same ops IsHome S' ms
+    one_way S S' same of_ms = record {
+      listed = λ k h. let is = of_ms.listed k h in ((same (motion_at ms k)).0 is.0, is.1);
+      once = λ m in_it home. of_ms.once m ((same m).1 in_it) home;
+      ordered = of_ms.ordered;
+    }
 
 -- ---- modulo the plane lattice
 

@@ -1,5 +1,5 @@
 -- The laws of vectors: sums, multiples, and a row times a column.
-use Rattle.std.proofs.Common.{◌≡◌, ℤ, pos, ◌+ℤ◌, ◌*ℤ◌, refl, sym, ◌∙◌, arith}
+use Rattle.std.proofs.Common.{◌≡◌, ℤ, pos, negsuc, ◌+ℤ◌, ◌*ℤ◌, refl, sym, ◌∙◌, arith}
 use Rattle.std.proofs.lemmas.Int.{ints}
 use Rattle.integers.proofs.Ring.{mul_assoc}
 use Rattle.integers.proofs.Spread.{spread}
@@ -64,10 +64,6 @@ pub multiple-multiple : (c d : ℤ) (v : Vector) → multiple c (multiple d v) �
 unfolding multiple
 multiple-multiple c d v = vector_path (sym (mul_assoc c d v.x)) (sym (mul_assoc c d v.y)) (sym (mul_assoc c d v.z))
 
-pub opposite-opposite : (v : Vector) → opposite (opposite v) ≡ v
-unfolding multiple
-opposite-opposite v = vector_path (omega (arith, ints)) (omega (arith, ints)) (omega (arith, ints))
-
 pub opposite-origin : opposite origin ≡ origin
 unfolding multiple
 opposite-origin = refl
@@ -125,3 +121,11 @@ opposite-plus v w = vector_path (omega (arith, ints)) (omega (arith, ints)) (ome
 pub opposite-minus : (v w : Vector) → opposite (minus v w) ≡ minus w v
 unfolding plus multiple
 opposite-minus v w = vector_path (omega (arith, ints)) (omega (arith, ints)) (omega (arith, ints))
+
+-- where the row gives one number at two columns, it gives 0 at their difference
+pub dot-minus_same : (r v w : Vector) → dot r v ≡ dot r w → dot r (minus v w) ≡ pos 0
+dot-minus_same r v w e =
+    dot-plus r v (opposite w) ∙ (λ i. e i +ℤ dot-multiple r (negsuc 0) w i) ∙ cancelled (dot r w)
+  where
+    cancelled : (a : ℤ) → a +ℤ negsuc 0 *ℤ a ≡ pos 0
+    cancelled a = omega (arith, ints)

@@ -4,8 +4,8 @@ ghost use Rattle.fractions.specs.declared.part.TheConstants.{UNIT};
 ghost use Rattle.symmetry.specs.Vectors.{Vector, dot, image, multiple, opposite, row_times};
 ghost use Rattle.symmetry.specs.Motions.{Motion};
 ghost use Rattle.symmetry.specs.Planes.{Height, IsHeight, IsCoprime};
-ghost use Rattle.symmetry.specs.Groups.{IsMember, Listing, IsGroup, IsInLattice};
-ghost use Rattle.symmetry.specs.Frames.{IsSpecial, Basis, IsFrame, IsPeriod, InPlaneLattice, KeepsOrientation, combination, mean_of, sign_at};
+ghost use Rattle.symmetry.specs.Groups.{IsMember, Listing, IsGroup, IsInLattice, SameModulo};
+ghost use Rattle.symmetry.specs.Frames.{IsSpecial, Basis, IsFrame, IsPeriod, DiffersInPlane, InPlaneLattice, KeepsOrientation, combination, mean_of, sign_at};
 ghost use Rattle.symmetry.specs.Lists.{AreScanning};
 
 /// An orientation has one period.
@@ -21,6 +21,16 @@ pub fn frame_gives()
         (k : ℤ) × (dot r t ≡ k *ℤ dot r f.tau) }
     ensures plane { (g : Listing) (r : Vector) (f : Basis) → IsFrame g r f → (t : Vector) →
         InPlaneLattice g r t ↔ ((c : Vector) × (combination f c ≡ t) × (c.z ≡ pos 0)) }
+{}
+
+/// To differ by the plane lattice is an equivalence, under which motions are the same modulo the lattice and have one (hkl).w.
+pub fn difference_in_plane()
+    ensures reflexive { (g : Listing) (r : Vector) (m : Motion) → DiffersInPlane g r m m }
+    ensures symmetric { (g : Listing) (r : Vector) (m : Motion) (n : Motion) → DiffersInPlane g r m n → DiffersInPlane g r n m }
+    ensures transitive { (g : Listing) (r : Vector) (k : Motion) (m : Motion) (n : Motion) →
+        DiffersInPlane g r k m → DiffersInPlane g r m n → DiffersInPlane g r k n }
+    ensures same { (g : Listing) (r : Vector) (m : Motion) (n : Motion) → DiffersInPlane g r m n → SameModulo g m n }
+    ensures level { (g : Listing) (r : Vector) (m : Motion) (n : Motion) → DiffersInPlane g r m n → dot r m.shift ≡ dot r n.shift }
 {}
 
 /// A height is special exactly where, for a listed operation that turns the row, twice the height is (hkl).w and a whole

@@ -1,9 +1,9 @@
 // The list of a set of motions: one for each set, and of the whole set modulo the plane lattice.
-ghost use Rattle.std.specs.Prelude.{◌≡◌, List, ⊤};
+ghost use Rattle.std.specs.Prelude.{◌≡◌, ◌↔◌, List, ⊤};
 ghost use Rattle.symmetry.specs.Vectors.{Vector};
 ghost use Rattle.symmetry.specs.Motions.{Motion};
-ghost use Rattle.symmetry.specs.Planes.{Height};
-ghost use Rattle.symmetry.specs.Groups.{InAll, InStabiliser, Listing, SameModulo};
+ghost use Rattle.symmetry.specs.Planes.{Height, IsCoprime, IsHeight};
+ghost use Rattle.symmetry.specs.Groups.{InAll, InRowAll, InRowStabiliser, InStabiliser, IsGroup, Listing, SameModulo};
 ghost use Rattle.symmetry.specs.Frames.{Basis, IsAtHome, IsFrame};
 ghost use Rattle.symmetry.specs.Lists.{HasOneAtHome, IsListOf, ListsInPlane};
 
@@ -17,6 +17,14 @@ pub fn lists_agree()
         IsListOf (SameModulo g) g.ops (IsAtHome f) (InAll g r) ns → ms ≡ ns }
 {}
 
+/// The stabiliser, and the motions that map every plane to itself, have the lists of the sets that rows tell.
+pub fn lists_by_rows()
+    ensures stabiliser { (g : Listing) (r : Vector) (f : Basis) (s : Height) (ms : List Motion) → IsGroup g → IsCoprime r → IsHeight s →
+        IsListOf (SameModulo g) g.ops (IsAtHome f) (InRowStabiliser g r s) ms ↔ IsListOf (SameModulo g) g.ops (IsAtHome f) (InStabiliser g r s) ms }
+    ensures all { (g : Listing) (r : Vector) (f : Basis) (ms : List Motion) → IsGroup g → IsCoprime r →
+        IsListOf (SameModulo g) g.ops (IsAtHome f) (InRowAll g r) ms ↔ IsListOf (SameModulo g) g.ops (IsAtHome f) (InAll g r) ms }
+{}
+
 /// In a frame each motion differs by the plane lattice from exactly one motion at home, which is in the stabiliser of a plane,
 /// or among those that map every plane to itself, where the motion is.
 pub fn one_is_at_home()
@@ -27,10 +35,18 @@ pub fn one_is_at_home()
         HasOneAtHome g r (IsAtHome f) (InAll g r) m }
 {}
 
-/// So their lists list them modulo the plane lattice.
+/// So the lists of these sets list them modulo the plane lattice.
 pub fn lists_in_plane()
     ensures stabiliser { (g : Listing) (r : Vector) (f : Basis) (s : Height) (ms : List Motion) → IsFrame g r f →
         IsListOf (SameModulo g) g.ops (IsAtHome f) (InStabiliser g r s) ms → ListsInPlane g r (InStabiliser g r s) ms }
     ensures all { (g : Listing) (r : Vector) (f : Basis) (ms : List Motion) → IsFrame g r f →
         IsListOf (SameModulo g) g.ops (IsAtHome f) (InAll g r) ms → ListsInPlane g r (InAll g r) ms }
+{}
+
+/// The stabiliser has at most one member at home for each listed operation, so the order of the listed operations is an
+/// order of its list.
+pub fn one_for_each_listed()
+    ensures { (g : Listing) (r : Vector) (f : Basis) (s : Height) (m : Motion) (n : Motion) →
+        IsFrame g r f → IsGroup g → IsCoprime r → IsHeight s → InStabiliser g r s m → InStabiliser g r s n →
+        IsAtHome f m → IsAtHome f n → SameModulo g m n → m ≡ n }
 {}

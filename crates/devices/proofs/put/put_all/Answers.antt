@@ -1,4 +1,4 @@
-use Rattle.std.proofs.Common.{◌≡◌, ℕ, ◌+◌, ◌-◌, ◌≤◌, length, take, drop, length-drop, length-take, arith, subst, ◌∙◌}
+use Rattle.std.proofs.Common.{◌≡◌, ◌+◌, ◌-◌, length-drop, length-take, arith, subst, ◌∙◌}
 use Rattle.devices.proofs.Known.{append_known-take}
 use Rattle.devices.proofs.put.put_all.Goals as goal
 

@@ -1,4 +1,4 @@
-use Rattle.std.proofs.Common.{◌≡◌, ℕ, ◌+◌, ◌≤◌, ◌<◌, List, length, length-take, arith}
+use Rattle.std.proofs.Common.{ℕ, length-take, arith}
 use Rattle.devices.proofs.Known.{reads_within, reads_more}
 use Rattle.devices.proofs.read.read_all.Goals as goal
 

@@ -1,4 +1,4 @@
-use Rattle.std.proofs.Common.{rules, arith}
+use Rattle.std.proofs.Common.{arith}
 use Rattle.std.proofs.lemmas.Int.{ints}
 use Rattle.fractions.proofs.Divisor.{divisor_fits, negative_fits, negative_divisor, positive_divisor}
 use Rattle.fractions.proofs.euclid.signed_divisor.Goals as goal

@@ -1,4 +1,4 @@
-use Rattle.std.proofs.Common.{rules, arith, ◌≡◌, ◌+◌, sym, slice_index}
+use Rattle.std.proofs.Common.{rules, ◌≡◌, ◌+◌, sym, slice_index}
 use Rattle.fractions.specs.WrittenRatio.{number_at}
 use Rattle.fractions.proofs.Faults.{fault_of_zeros, no_fault}
 use Rattle.fractions.proofs.read.read_denominator.Goals as goal

@@ -1,0 +1,101 @@
+// Worked cases, by hand.
+use crate::miller::Miller;
+use crate::motion::{Motion3, Sign};
+use crate::plane_fault::PlaneFault;
+use crate::rows::{shift, side};
+use fractions::{Part, UNIT};
+use quotient::Motion;
+use std::test::Fail;
+
+const HALF: Part = Part(UNIT / 2);
+
+const THIRD: Part = Part(UNIT / 3);
+
+const NONE: Part = Part(0);
+
+// -x,y+1/2,-z+1/2
+const SCREW: Motion3 = Motion3 {
+    w: [[-1, 0, 0], [0, 1, 0], [0, 0, -1]],
+    t: [NONE, HALF, HALF],
+};
+
+// x,-y+1/2,z+1/2
+const GLIDE: Motion3 = Motion3 {
+    w: [[1, 0, 0], [0, -1, 0], [0, 0, 1]],
+    t: [NONE, HALF, HALF],
+};
+
+// -y,x-y,z+1/3
+const THREEFOLD: Motion3 = Motion3 {
+    w: [[0, -1, 0], [1, -1, 0], [0, 0, 1]],
+    t: [NONE, NONE, THIRD],
+};
+
+fn twice<M: Motion>(motion: &M) -> M
+    requires { M.IsSmall (M.meaning motion.now) }
+{
+    motion.then(motion)
+}
+
+#[test]
+fn a_screw_and_then_a_glide_is_an_inversion(rt: HostRuntime) {
+    let inversion = Motion3 {
+        w: [[-1, 0, 0], [0, -1, 0], [0, 0, -1]],
+        t: [NONE, NONE, Part(UNIT)],
+    };
+    assert!(rt; SCREW.then(&GLIDE) == inversion);
+}
+
+#[test]
+fn a_screw_twice_is_a_translation(rt: HostRuntime) {
+    let translation = Motion3 {
+        w: [[1, 0, 0], [0, 1, 0], [0, 0, 1]],
+        t: [NONE, Part(UNIT), NONE],
+    };
+    assert!(rt; twice(&SCREW) == translation);
+}
+
+#[test]
+fn a_threefold_screw_is_undone(rt: HostRuntime) {
+    let undone = Motion3 {
+        w: [[-1, 1, 0], [-1, 0, 0], [0, 0, 1]],
+        t: [NONE, NONE, Part(-UNIT / 3)],
+    };
+    assert!(rt; THREEFOLD.back() == Some(undone));
+}
+
+#[test]
+fn a_glide_is_undone_by_the_opposite_glide(rt: HostRuntime) {
+    let undone = Motion3 {
+        w: [[1, 0, 0], [0, -1, 0], [0, 0, 1]],
+        t: [NONE, HALF, Part(-UNIT / 2)],
+    };
+    assert!(rt; GLIDE.back() == Some(undone));
+}
+
+#[test]
+fn a_dilation_is_not_undone(rt: HostRuntime) {
+    let dilation = Motion3 {
+        w: [[2, 0, 0], [0, 1, 0], [0, 0, 1]],
+        t: [NONE, NONE, NONE],
+    };
+    assert!(rt; dilation.back() == None);
+}
+
+#[test]
+fn indices_are_in_range_not_all_zero_and_coprime(rt: HostRuntime) {
+    assert!(rt; Miller::make(100, 0, 0) == Err(PlaneFault::OutOfRange));
+    assert!(rt; Miller::make(0, 0, 0) == Err(PlaneFault::AllZero));
+    assert!(rt; Miller::make(6, -4, 0) == Err(PlaneFault::NotCoprime(2)));
+    assert!(rt; Miller::make(-99, 98, 0).is_ok());
+}
+
+#[test]
+fn a_screw_along_the_normal_keeps_the_side_and_shifts_by_half(rt: HostRuntime) -> Result<(), Fail> {
+    let plane = Miller::make(0, 1, 0)?;
+    assert_eq!(rt; side(&SCREW, &plane), Some(Sign::Plus));
+    assert_eq!(rt; side(&GLIDE, &plane), Some(Sign::Minus));
+    assert_eq!(rt; side(&THREEFOLD, &plane), None);
+    assert_eq!(rt; shift(&SCREW, &plane), UNIT / 2);
+    Ok(())
+}

@@ -1,0 +1,157 @@
+// The test that a list of motions is a group modulo shifts.
+ghost use Rattle.std.specs.Prelude.{◌≡◌, ◌↔◌, ◌^◌, pos, All, Contains, IsOk, IsTrue, MatchOption, map, Ok, Err};
+ghost use Rattle.quotient.specs.Groups.{AllHaveInverse, AllKeep, AreInverse, HasInverse, IsClosed, IsFault, IsFirstOpen, IsFirstWithout, IsGroup};
+ghost use Rattle.quotient.specs.Kind.{Keeps, kind_of};
+ghost use Rattle.quotient.specs.Lists.{IsListed};
+
+use crate::lists::find;
+use crate::traits::{Motion, Quotient};
+
+/// The first thing that is wrong with a list that is no group modulo shifts. Positions count from 1.
+#[derive(Clone, Copy, PartialEq, Eq, Debug)]
+pub enum GroupFault {
+    /// No listed motion is the same as the identity.
+    NoIdentity,
+    /// The first motion that does not carry shifts into shifts.
+    ShiftMoved(usize),
+    /// The first pair, row by row, of which the first motion and then the second are the same as no listed motion.
+    NotClosed(usize, usize),
+    /// The first motion without an inverse in the list.
+    NoInverse(usize),
+}
+
+/// Whether the list is a group modulo the shifts: Ok exactly where it is, and else the first thing that is wrong.
+///
+/// Of several faults the one that stands first in [`GroupFault`] is told, at its first position.
+pub fn check_group<Q: Quotient>(q: &Q, list: &[Q::M]) -> Result<(), GroupFault>
+    requires reach { Q.REACH ≡ pos (2 ^ 52) }
+    requires small { All Q.M.IsSmall (map Q.M.meaning list.now) }
+    ensures accepted { IsOk result
+        ↔ IsGroup (kind_of Q.M.meaning Q.M.product Q.M.one (Q.IsShift q.now)) (map Q.M.meaning list.now) }
+    ensures refused { (fault : GroupFault) → (result ≡ Err fault)
+        ↔ IsFault (kind_of Q.M.meaning Q.M.product Q.M.one (Q.IsShift q.now)) (map Q.M.meaning list.now) fault }
+{
+    if find(q, list, &Q::M::identity()).is_none() {
+        return Err(GroupFault::NoIdentity);
+    }
+    if let Some(i) = first_moving_shifts(q, list) {
+        return Err(GroupFault::ShiftMoved(i));
+    }
+    if let Some((i, j)) = first_open_pair(q, list) {
+        return Err(GroupFault::NotClosed(i, j));
+    }
+    match first_without_inverse(q, list) {
+        Some(i) => Err(GroupFault::NoInverse(i)),
+        None => Ok(()),
+    }
+}
+
+// The first position of a motion that does not carry shifts into shifts.
+fn first_moving_shifts<Q: Quotient>(q: &Q, list: &[Q::M]) -> Option<usize>
+    requires { All Q.M.IsSmall (map Q.M.meaning list.now) }
+    ensures { MatchOption result
+        (AllKeep (kind_of Q.M.meaning Q.M.product Q.M.one (Q.IsShift q.now)) (map Q.M.meaning list.now))
+        (IsFirstWithout (kind_of Q.M.meaning Q.M.product Q.M.one (Q.IsShift q.now))
+        (Keeps (kind_of Q.M.meaning Q.M.product Q.M.one (Q.IsShift q.now))) (map Q.M.meaning list.now)) }
+{
+    for (i, m) in list.iter().enumerate() {
+        if !q.keeps(m) {
+            return Some(i + 1);
+        }
+    }
+    None
+}
+
+// The first pair of positions, row by row, whose product is not listed.
+fn first_open_pair<Q: Quotient>(q: &Q, list: &[Q::M]) -> Option<(usize, usize)>
+    requires reach { Q.REACH ≡ pos (2 ^ 52) }
+    requires small { All Q.M.IsSmall (map Q.M.meaning list.now) }
+    ensures { MatchOption result
+        (IsClosed (kind_of Q.M.meaning Q.M.product Q.M.one (Q.IsShift q.now)) (map Q.M.meaning list.now))
+        (λ pair. IsFirstOpen (kind_of Q.M.meaning Q.M.product Q.M.one (Q.IsShift q.now)) (map Q.M.meaning list.now) pair.0 pair.1) }
+{
+    for (i, m) in list.iter().enumerate() {
+        if let Some(j) = first_open_after(q, list, m) {
+            return Some((i + 1, j));
+        }
+    }
+    None
+}
+
+// The first position of a motion n for which m and then n is not listed.
+fn first_open_after<Q: Quotient>(q: &Q, list: &[Q::M], m: &Q::M) -> Option<usize>
+    requires reach { Q.REACH ≡ pos (2 ^ 52) }
+    requires small { All Q.M.IsSmall (map Q.M.meaning list.now) }
+    requires first { Q.M.IsSmall (Q.M.meaning m.now) }
+    ensures { MatchOption result
+        ((n : Q.M.Meaning) → Contains (map Q.M.meaning list.now) n
+        → IsListed (kind_of Q.M.meaning Q.M.product Q.M.one (Q.IsShift q.now)) (map Q.M.meaning list.now) (Q.M.product (Q.M.meaning m.now) n))
+        (IsFirstWithout (kind_of Q.M.meaning Q.M.product Q.M.one (Q.IsShift q.now))
+        (λ n. IsListed (kind_of Q.M.meaning Q.M.product Q.M.one (Q.IsShift q.now)) (map Q.M.meaning list.now) (Q.M.product (Q.M.meaning m.now) n))
+        (map Q.M.meaning list.now)) }
+{
+    for (j, n) in list.iter().enumerate() {
+        if !has_product(q, list, m, n) {
+            return Some(j + 1);
+        }
+    }
+    None
+}
+
+// Whether m and then n are the same as a motion of the list.
+fn has_product<Q: Quotient>(q: &Q, list: &[Q::M], m: &Q::M, n: &Q::M) -> bool
+    requires reach { Q.REACH ≡ pos (2 ^ 52) }
+    requires small { All Q.M.IsSmall (map Q.M.meaning list.now) }
+    requires first { Q.M.IsSmall (Q.M.meaning m.now) }
+    requires second { Q.M.IsSmall (Q.M.meaning n.now) }
+    ensures { IsTrue result
+        ↔ IsListed (kind_of Q.M.meaning Q.M.product Q.M.one (Q.IsShift q.now)) (map Q.M.meaning list.now)
+        (Q.M.product (Q.M.meaning m.now) (Q.M.meaning n.now)) }
+{
+    find(q, list, &m.then(n)).is_some()
+}
+
+// The first position of a motion that has no inverse in the list.
+fn first_without_inverse<Q: Quotient>(q: &Q, list: &[Q::M]) -> Option<usize>
+    requires reach { Q.REACH ≡ pos (2 ^ 52) }
+    requires small { All Q.M.IsSmall (map Q.M.meaning list.now) }
+    ensures { MatchOption result
+        (AllHaveInverse (kind_of Q.M.meaning Q.M.product Q.M.one (Q.IsShift q.now)) (map Q.M.meaning list.now))
+        (IsFirstWithout (kind_of Q.M.meaning Q.M.product Q.M.one (Q.IsShift q.now))
+        (HasInverse (kind_of Q.M.meaning Q.M.product Q.M.one (Q.IsShift q.now)) (map Q.M.meaning list.now))
+        (map Q.M.meaning list.now)) }
+{
+    for (i, m) in list.iter().enumerate() {
+        if !has_inverse(q, list, m) {
+            return Some(i + 1);
+        }
+    }
+    None
+}
+
+// Whether some motion of the list is an inverse of m.
+fn has_inverse<Q: Quotient>(q: &Q, list: &[Q::M], m: &Q::M) -> bool
+    requires reach { Q.REACH ≡ pos (2 ^ 52) }
+    requires small { All Q.M.IsSmall (map Q.M.meaning list.now) }
+    requires motion { Q.M.IsSmall (Q.M.meaning m.now) }
+    ensures { IsTrue result
+        ↔ HasInverse (kind_of Q.M.meaning Q.M.product Q.M.one (Q.IsShift q.now)) (map Q.M.meaning list.now) (Q.M.meaning m.now) }
+{
+    for n in list {
+        if are_inverse(q, m, n) {
+            return true;
+        }
+    }
+    false
+}
+
+// Whether m and then n, and n and then m, are the same as the identity: whether both are shifts.
+fn are_inverse<Q: Quotient>(q: &Q, m: &Q::M, n: &Q::M) -> bool
+    requires reach { Q.REACH ≡ pos (2 ^ 52) }
+    requires first { Q.M.IsSmall (Q.M.meaning m.now) }
+    requires second { Q.M.IsSmall (Q.M.meaning n.now) }
+    ensures { IsTrue result
+        ↔ AreInverse (kind_of Q.M.meaning Q.M.product Q.M.one (Q.IsShift q.now)) (Q.M.meaning m.now) (Q.M.meaning n.now) }
+{
+    q.is_shift(&m.then(n)) && q.is_shift(&n.then(m))
+}

@@ -1,0 +1,43 @@
+// Lists of motions, read modulo shifts.
+ghost use Rattle.std.specs.Prelude.{◌≡◌, ◌↔◌, All, IfOk, IfSome, IsSome, map, unsigned_abs};
+ghost use Rattle.quotient.specs.Kind.{IsSame, kind_of};
+ghost use Rattle.quotient.specs.Lists.{AreFirst, IsFirstSame, IsListed};
+
+use crate::traits::{Motion, Quotient};
+use std::alloc::{AllocError, Global};
+
+/// The answer where memory runs out.
+pub type NoMemory = AllocError;
+
+/// The index, from 0, of the first motion of the list that is the same as m; None exactly where there is none.
+pub fn find<Q: Quotient>(q: &Q, list: &[Q::M], m: &Q::M) -> Option<usize>
+    requires list { All (Q.M.MovesWithin (unsigned_abs Q.REACH)) (map Q.M.meaning list.now) }
+    requires motion { Q.M.MovesWithin (unsigned_abs Q.REACH) (Q.M.meaning m.now) }
+    ensures found { IsSome result
+        ↔ IsListed (kind_of Q.M.meaning Q.M.product Q.M.one (Q.IsShift q.now)) (map Q.M.meaning list.now) (Q.M.meaning m.now) }
+    ensures first { IfSome result
+        (IsFirstSame (kind_of Q.M.meaning Q.M.product Q.M.one (Q.IsShift q.now)) (map Q.M.meaning list.now) (Q.M.meaning m.now)) }
+{
+    let home = q.home(m);
+    for (i, listed) in list.iter().enumerate() {
+        if q.home(listed) == home {
+            return Some(i);
+        }
+    }
+    None
+}
+
+/// The motions of the list that are the same as no earlier one, unchanged and in their order.
+pub fn distinct<Q: Quotient>(alloc: Global, q: &Q, list: &[Q::M]) -> Result<Vec<Q::M>, NoMemory>
+    requires { All (Q.M.MovesWithin (unsigned_abs Q.REACH)) (map Q.M.meaning list.now) }
+    ensures { IfOk result (λ kept. AreFirst
+        (λ m n. IsSame (kind_of Q.M.meaning Q.M.product Q.M.one (Q.IsShift q.now)) (Q.M.meaning m) (Q.M.meaning n)) list.now kept.items) }
+{
+    let mut kept = Vec::new(alloc);
+    for m in list {
+        if find(q, &kept, m).is_none() {
+            kept.push(*m)?;
+        }
+    }
+    Ok(kept)
+}
