@@ -1,2 +1,3 @@
 pub mod Indices
 pub mod VectorFacts
+pub mod WordLists

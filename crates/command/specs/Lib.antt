@@ -4,3 +4,4 @@ pub mod KindNames
 pub mod Refusals
 pub mod Outcomes
 pub mod Limits
+pub mod Requests

@@ -64,20 +64,24 @@ pub record IsPlaneWords (h k l s : List ℕ) (row : Vector) (height : Fraction) 
   pub third : IsIndex l row.z
   pub at : IsRatio s height
 
--- `--frame a b t`
-pub record IsFrameOption (option a b t : List ℕ) (frame : FrameWords) : Type 0 where
-  pub name : option ≡ codes "--frame"
+-- three vector words
+pub record AreVectorWords (a b t : List ℕ) (frame : FrameWords) : Type 0 where
   pub first : IsVectorWord a frame.a
   pub second : IsVectorWord b frame.b
   pub third : IsVectorWord t frame.tau
 
--- nothing, or that
+-- nothing, or `--frame a b t`
 abbrev pub IsFrameWords : List (List ℕ) → Option FrameWords → Type 0
 IsFrameWords [] None = Unit {0}
-IsFrameWords (option ∷ a ∷ b ∷ t ∷ []) (Some frame) = IsFrameOption option a b t frame
+IsFrameWords (option ∷ a ∷ b ∷ t ∷ []) (Some frame) = (option ≡ codes "--frame") × AreVectorWords a b t frame
 IsFrameWords _ _ = ⊥
+
+-- the words behind `at`
+pub record ArePlaneAndFrame (h k l s : List ℕ) (others : List (List ℕ)) (w : AtWords) : Type 0 where
+  pub plane : IsPlaneWords h k l s w.row w.height
+  pub frame : IsFrameWords others w.frame
 
 -- `at h k l s`, and a frame behind it
 abbrev pub IsAtWords : List (List ℕ) → AtWords → Type 0
-IsAtWords (command ∷ h ∷ k ∷ l ∷ s ∷ others) w = (command ≡ codes "at") × IsPlaneWords h k l s w.row w.height × IsFrameWords others w.frame
+IsAtWords (command ∷ h ∷ k ∷ l ∷ s ∷ others) w = (command ≡ codes "at") × ArePlaneAndFrame h k l s others w
 IsAtWords _ w = ⊥

@@ -1,12 +1,14 @@
 // The program.
 #![tactic(auto)]
 
+mod limits;
 mod outcome;
+mod read_words;
 mod refusal;
 mod request;
 mod words;
 
 fn main() {
-    let _ = words::read_at(&[]);
+    let _ = read_words::read_words(&[]).is_ok();
     let _ = outcome::Outcome::Done.code();
 }

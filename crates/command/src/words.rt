@@ -4,8 +4,9 @@ ghost use Rattle.std.specs.Option.{option_map};
 ghost use Rattle.std.specs.Str.Parse.{without_leading_sign};
 ghost use Rattle.fractions.specs.Fraction.{Fraction};
 ghost use Rattle.fractions.specs.FractionOf.{fraction_of};
-ghost use Rattle.command.specs.VectorWords.{fractions_of, frame_of, asked};
-ghost use Rattle.command.specs.Words.{AtWords, Fractions, FrameWords, IsAtWords, IsFrameOption, IsFrameWords, IsIndex, IsRatio, IsRatioAt, IsVectorWord, BeforeComma};
+ghost use Rattle.symmetry.specs.Vectors.{Vector};
+ghost use Rattle.command.specs.VectorWords.{asked, fractions_of, frame_of, plane_row};
+ghost use Rattle.command.specs.Words.{ArePlaneAndFrame, AreVectorWords, AtWords, Fractions, FrameWords, IsAtWords, IsFrameWords, IsIndex, IsPlaneWords, IsRatio, IsRatioAt, IsVectorWord, BeforeComma};
 
 use fractions::{Ratio, read_ratio};
 
@@ -95,45 +96,72 @@ pub struct FrameWord {
     pub tau: VectorWord,
 }
 
-/// What the words of `at` ask for, before any limit.
+/// Three indices and a height.
 #[derive(Clone, Copy, Debug)]
-pub struct RawAt {
+pub struct PlaneWord {
     pub h: i64,
     pub k: i64,
     pub l: i64,
-    pub frame: Option<FrameWord>,
     pub s: Ratio,
 }
 
-/// The frame of the words `--frame a b t`.
-fn read_frame(option: &str, a: &[u8], b: &[u8], t: &[u8]) -> Option<FrameWord>
+/// What the words of `at` ask for, before any limit.
+#[derive(Clone, Copy, Debug)]
+pub struct RawAt {
+    pub plane: PlaneWord,
+    pub frame: Option<FrameWord>,
+}
+
+/// The indices and the height that four words are.
+fn read_plane(h: &str, k: &str, l: &str, s: &str) -> Option<PlaneWord>
     ensures { MatchOption result
-        ((f : FrameWords) → ¬ (IsFrameOption option.now a.now b.now t.now f))
-        (λ f. IsFrameOption option.now a.now b.now t.now (frame_of f)) }
+        ((row : Vector) (height : Fraction) → ¬ (IsPlaneWords h.now k.now l.now s.now row height))
+        (λ p. IsPlaneWords h.now k.now l.now s.now (plane_row p) (fraction_of p.s)) }
 {
-    if option != "--frame" {
-        return None;
-    }
+    let h = read_index(h)?;
+    let k = read_index(k)?;
+    let l = read_index(l)?;
+    let s = read_whole_ratio(s.as_bytes())?;
+    Some(PlaneWord { h, k, l, s })
+}
+
+/// The vectors that three words are.
+fn read_vectors(a: &[u8], b: &[u8], t: &[u8]) -> Option<FrameWord>
+    ensures { MatchOption result
+        ((f : FrameWords) → ¬ (AreVectorWords a.now b.now t.now f))
+        (λ f. AreVectorWords a.now b.now t.now (frame_of f)) }
+{
     let a = read_vector(a)?;
     let b = read_vector(b)?;
     let tau = read_vector(t)?;
     Some(FrameWord { a, b, tau })
 }
 
-/// The frame that the words behind a height give, if they give one.
-fn read_frame_words(words: &[String]) -> Option<Option<FrameWord>>
+/// The frame that the words behind a height give: none, or `--frame a b t`.
+fn read_frame(words: &[String]) -> Option<Option<FrameWord>>
     ensures { MatchOption result
         ((f : Option FrameWords) → ¬ (IsFrameWords (map string_bytes words.now) f))
         (λ f. IsFrameWords (map string_bytes words.now) (option_map frame_of f)) }
 {
     match words {
         [] => Some(None),
-        [option, a, b, t] => {
-            let frame = read_frame(option.as_str(), a.as_bytes(), b.as_bytes(), t.as_bytes())?;
+        [option, a, b, t] if option.as_str() == "--frame" => {
+            let frame = read_vectors(a.as_bytes(), b.as_bytes(), t.as_bytes())?;
             Some(Some(frame))
         }
         _ => None,
     }
+}
+
+/// What the words behind `at` ask for.
+fn read_plane_and_frame(h: &str, k: &str, l: &str, s: &str, others: &[String]) -> Option<RawAt>
+    ensures { MatchOption result
+        ((w : AtWords) → ¬ (ArePlaneAndFrame h.now k.now l.now s.now (map string_bytes others.now) w))
+        (λ raw. ArePlaneAndFrame h.now k.now l.now s.now (map string_bytes others.now) (asked raw)) }
+{
+    let plane = read_plane(h, k, l, s)?;
+    let frame = read_frame(others)?;
+    Some(RawAt { plane, frame })
 }
 
 /// What the words `at h k l s` ask for, with or without a frame behind them.
@@ -144,12 +172,7 @@ pub fn read_at(words: &[String]) -> Option<RawAt>
 {
     match words {
         [command, h, k, l, s, others @ ..] if command.as_str() == "at" => {
-            let h = read_index(h.as_str())?;
-            let k = read_index(k.as_str())?;
-            let l = read_index(l.as_str())?;
-            let s = read_whole_ratio(s.as_bytes())?;
-            let frame = read_frame_words(others)?;
-            Some(RawAt { h, k, l, frame, s })
+            read_plane_and_frame(h.as_str(), k.as_str(), l.as_str(), s.as_str(), others)
         }
         _ => None,
     }

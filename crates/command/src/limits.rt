@@ -1,0 +1,93 @@
+// The limits of a request.
+ghost use Rattle.std.specs.Prelude.{◌≡◌, ◌*◌, ℤ, pos, ◌*ℤ◌, ◌↔◌, MatchOption, MatchResult, IfOk, IsTrue, Err, unsigned_abs};
+ghost use Rattle.std.specs.Option.{option_map};
+ghost use Rattle.integers.specs.Size.{IsWithin};
+ghost use Rattle.fractions.specs.declared.part.TheConstants.{UNIT};
+ghost use Rattle.fractions.specs.FractionOf.{fraction_of};
+ghost use Rattle.symmetry.specs.Sizes.{IsVectorWithin};
+ghost use Rattle.motions.specs.Views.{parts};
+ghost use Rattle.motions.specs.BasisView.{basis_of};
+ghost use Rattle.command.specs.VectorWords.{fractions_of, frame_of};
+ghost use Rattle.command.specs.Limits.{IsFrameEntry, AreFrameEntries, AreFrameVectors, IsFrameInRange, IsHeightInRange, IsInParts, IsFrameInParts, IsBasisOf, edges_basis};
+
+use fractions::{Part, Ratio, UNIT};
+use motions::Basis;
+
+use crate::words::{FrameWord, VectorWord};
+
+/// How large an entry of a frame vector may be, in cell edges.
+const MOST_ENTRY: u128 = 1000;
+
+/// How large the numerator and the denominator of a height may be.
+const MOST_HEIGHT: u128 = 1_000_000_000;
+
+/// An entry of a frame vector in parts, if it is in range.
+fn entry_in_parts(entry: Ratio) -> Option<Part>
+    ensures { MatchOption result
+        (¬ (IsFrameEntry (fraction_of entry)))
+        (λ part. IsFrameEntry (fraction_of entry) × (part.0 *ℤ (fraction_of entry).den ≡ (fraction_of entry).num *ℤ UNIT)
+            × IsWithin (1000 * unsigned_abs UNIT) part.0) }
+{
+    let unit = i128::from(UNIT);
+    if unit % entry.den() != 0 || entry.num().unsigned_abs() > MOST_ENTRY * entry.den().unsigned_abs() {
+        return None;
+    }
+    Some(Part((entry.num() * (unit / entry.den())) as i64))
+}
+
+/// A frame vector in parts, if its entries are in range.
+fn vector_in_parts(v: &VectorWord) -> Option<[Part; 3]>
+    ensures { MatchOption result
+        (¬ (AreFrameEntries (fractions_of v.now)))
+        (λ vector. AreFrameEntries (fractions_of v.now) × IsInParts (fractions_of v.now) (parts vector)
+            × IsVectorWithin (1000 * unsigned_abs UNIT) (parts vector)) }
+{
+    let x = entry_in_parts(v.x)?;
+    let y = entry_in_parts(v.y)?;
+    let z = entry_in_parts(v.z)?;
+    Some([x, y, z])
+}
+
+/// The vectors of a frame in parts, if their entries are in range.
+fn frame_in_parts(frame: &FrameWord) -> Option<Basis>
+    ensures { MatchOption result
+        (¬ (AreFrameVectors (frame_of frame.now)))
+        (λ basis. AreFrameVectors (frame_of frame.now) × IsFrameInParts (frame_of frame.now) (basis_of basis)) }
+{
+    let a = vector_in_parts(&frame.a)?;
+    let b = vector_in_parts(&frame.b)?;
+    let tau = vector_in_parts(&frame.tau)?;
+    Some(Basis { a, b, tau })
+}
+
+/// The three cell edges.
+fn edges() -> Basis
+    ensures { basis_of result ≡ edges_basis }
+{
+    let edge = Part(UNIT);
+    let none = Part(0);
+    Basis {
+        a: [edge, none, none],
+        b: [none, edge, none],
+        tau: [none, none, edge],
+    }
+}
+
+/// The vectors that the words give, if their entries are in range, or the cell edges.
+pub fn basis_of_words(frame: Option<FrameWord>) -> Option<Basis>
+    ensures { MatchOption result
+        (¬ (IsFrameInRange (option_map frame_of frame)))
+        (λ basis. IsFrameInRange (option_map frame_of frame) × IsBasisOf (option_map frame_of frame) (basis_of basis)) }
+{
+    match frame {
+        None => Some(edges()),
+        Some(frame) => frame_in_parts(&frame),
+    }
+}
+
+/// Whether numerator and denominator of a height are in range.
+pub fn is_height_in_range(s: Ratio) -> bool
+    ensures { IsTrue result ↔ IsHeightInRange (fraction_of s) }
+{
+    s.num().unsigned_abs() <= MOST_HEIGHT && s.den().unsigned_abs() <= MOST_HEIGHT
+}
