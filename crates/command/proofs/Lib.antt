@@ -1,3 +1,4 @@
 pub mod Indices
 pub mod VectorFacts
 pub mod WordLists
+pub mod EntrySizes

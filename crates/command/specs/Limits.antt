@@ -1,5 +1,5 @@
 -- The limits of a request.
-use Rattle.std.specs.Prelude.{◌≡◌, ℕ, ◌*◌, ℤ, pos, ◌*ℤ◌, Option, Some, None, unsigned_abs}
+use Rattle.std.specs.Prelude.{◌≡◌, ℕ, ◌*◌, ◌≤◌, ℤ, pos, ◌*ℤ◌, Option, Some, None, unsigned_abs}
 use Rattle.integers.specs.Size.{IsWithin}
 use Rattle.fractions.specs.declared.part.TheConstants.{UNIT}
 use Rattle.fractions.specs.Fraction.{Fraction}
@@ -13,11 +13,15 @@ use Rattle.command.specs.Words.{Fractions, FrameWords}
 abbrev pub IsPlane : Vector → Type 0
 IsPlane row = (fault : PlaneFault) → ¬ IsPlaneFault row fault
 
+-- the denominator divides UNIT, and the size is at most 1,000 times the denominator
+pub record IsEntrySize (size den : ℕ) : Type 0 where
+  pub times : ℕ
+  pub divides : times * den ≡ unsigned_abs UNIT
+  pub small : size ≤ 1000 * den
+
 -- an entry of a frame vector: its denominator divides UNIT, and it is at most 1,000 in size
-pub record IsFrameEntry (q : Fraction) : Type 0 where
-  pub times : ℤ
-  pub divides : times *ℤ q.den ≡ UNIT
-  pub small : IsWithin (1000 * unsigned_abs q.den) q.num
+abbrev pub IsFrameEntry : Fraction → Type 0
+IsFrameEntry q = IsEntrySize (unsigned_abs q.num) (unsigned_abs q.den)
 
 -- the three entries are in range
 pub record AreFrameEntries (v : Fractions) : Type 0 where

@@ -1,5 +1,5 @@
 // The limits of a request.
-ghost use Rattle.std.specs.Prelude.{◌≡◌, ◌*◌, ℤ, pos, ◌*ℤ◌, ◌↔◌, MatchOption, MatchResult, IfOk, IsTrue, Err, unsigned_abs};
+ghost use Rattle.std.specs.Prelude.{◌≡◌, ◌*◌, ◌<◌, ℤ, pos, ◌*ℤ◌, ◌↔◌, MatchOption, MatchResult, IfOk, IsTrue, Err, unsigned_abs};
 ghost use Rattle.std.specs.Option.{option_map};
 ghost use Rattle.integers.specs.Size.{IsWithin};
 ghost use Rattle.fractions.specs.declared.part.TheConstants.{UNIT};
@@ -8,7 +8,7 @@ ghost use Rattle.symmetry.specs.Sizes.{IsVectorWithin};
 ghost use Rattle.motions.specs.Views.{parts};
 ghost use Rattle.motions.specs.BasisView.{basis_of};
 ghost use Rattle.command.specs.VectorWords.{fractions_of, frame_of};
-ghost use Rattle.command.specs.Limits.{IsFrameEntry, AreFrameEntries, AreFrameVectors, IsFrameInRange, IsHeightInRange, IsInParts, IsFrameInParts, IsBasisOf, edges_basis};
+ghost use Rattle.command.specs.Limits.{IsEntrySize, IsFrameEntry, AreFrameEntries, AreFrameVectors, IsFrameInRange, IsHeightInRange, IsInParts, IsFrameInParts, IsBasisOf, edges_basis};
 
 use fractions::{Part, Ratio, UNIT};
 use motions::Basis;
@@ -21,6 +21,20 @@ const MOST_ENTRY: u128 = 1000;
 /// How large the numerator and the denominator of a height may be.
 const MOST_HEIGHT: u128 = 1_000_000_000;
 
+/// How many parts a size over a denominator is, if the denominator divides [`UNIT`] and the size is in range.
+fn size_in_parts(size: u128, den: u128) -> Option<i64>
+    requires { 0 < den }
+    ensures { MatchOption result
+        (¬ (IsEntrySize size den))
+        (λ parts. IsEntrySize size den × (parts *ℤ pos den ≡ pos size *ℤ UNIT) × IsWithin (1000 * unsigned_abs UNIT) parts) }
+{
+    let unit = u128::from(UNIT.unsigned_abs());
+    if den > unit || unit % den != 0 || size > MOST_ENTRY * den {
+        return None;
+    }
+    Some((size * (unit / den)) as i64)
+}
+
 /// An entry of a frame vector in parts, if it is in range.
 fn entry_in_parts(entry: Ratio) -> Option<Part>
     ensures { MatchOption result
@@ -28,11 +42,8 @@ fn entry_in_parts(entry: Ratio) -> Option<Part>
         (λ part. IsFrameEntry (fraction_of entry) × (part.0 *ℤ (fraction_of entry).den ≡ (fraction_of entry).num *ℤ UNIT)
             × IsWithin (1000 * unsigned_abs UNIT) part.0) }
 {
-    let unit = i128::from(UNIT);
-    if unit % entry.den() != 0 || entry.num().unsigned_abs() > MOST_ENTRY * entry.den().unsigned_abs() {
-        return None;
-    }
-    Some(Part((entry.num() * (unit / entry.den())) as i64))
+    let size = size_in_parts(entry.num().unsigned_abs(), entry.den().unsigned_abs())?;
+    Some(Part(if entry.num() < 0 { -size } else { size }))
 }
 
 /// A frame vector in parts, if its entries are in range.
