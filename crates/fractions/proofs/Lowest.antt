@@ -1,12 +1,12 @@
 -- Division by the greatest common divisor gives the lowest terms, and there is one such fraction.
-use Rattle.std.proofs.Common.{◌≡◌, ℕ, zero, suc, ◌*◌, ◌/◌, ◌%◌, ◌<◌, ◌≤◌, refl, sym, ap, subst, ◌∙◌, [], ◌∷◌, ℤ, pos, negsuc, ◌+ℤ◌, ◌*ℤ◌, ◌≤ℤ◌, neg_ℤ, nat_abs, arith}
+use Rattle.std.proofs.Common.{◌≡◌, ℕ, zero, suc, ◌*◌, ◌/◌, ◌%◌, ◌<◌, ◌≤◌, inl, inr, refl, sym, ap, subst, ◌∙◌, [], ◌∷◌, ℤ, pos, negsuc, ◌+ℤ◌, ◌*ℤ◌, ◌≤ℤ◌, neg_ℤ, nat_abs, arith}
 use Rattle.std.specs.Prelude.{int_div, int_rem}
 use Rattle.std.specs.Int.{◌∣◌, IsGcd}
 use Rattle.std.proofs.lemmas.Int.{ints, quot-rem}
 use Rattle.std.proofs.lemmas.Nat.Gcd.{dvd_antisymm, mod-eq-zero_of_dvd}
 use Rattle.std.proofs.Math.Nat.{div-le_self, dvd-mul_left, dvd-mul_right, mul-dvd-mul_right, dvd_of_mul-dvd-mul_right, eq-one_of_dvd-one, eq-zero_of_zero-dvd}
 use Rattle.integers.specs.Size.{Divides}
-use Rattle.integers.proofs.Ring.{abs-mul, add_zero, zero_mul, mul_neg, mul_right_cancel}
+use Rattle.integers.proofs.Ring.{abs-mul, add_zero, zero_mul, mul_neg, mul-eq-zero, mul_right_cancel}
 use Rattle.integers.proofs.Solver.{Expr.{var, num as literal, neg, ◌⊕◌, ◌⊗◌}, linear, given}
 use Rattle.integers.proofs.Divisors.{combine}
 use Rattle.fractions.specs.Fraction.{Fraction, IsFraction, SameFraction, IsInLowestTerms}
@@ -146,3 +146,28 @@ one_lowest q r h i lowest_q lowest_r same =
     let not_zero : ¬ (r.den ≡ pos 0) = λ e. omega (arith, ints) in
     let nums : q.num ≡ r.num = mul_right_cancel q.num r.num r.den not_zero (same ∙ ap (λ k. r.num *ℤ k) dens) in
     λ i. record { num = nums i; den = dens i }
+
+-- ---- one number
+
+-- two fractions in lowest terms that are the same as a third, whose denominator is not 0
+pub same_lowest : (q r : Fraction) (num den num' den' : ℤ) → ¬ (den ≡ pos 0) → ¬ (den' ≡ pos 0) → num *ℤ den' ≡ num' *ℤ den
+    → IsLowestForm q num den → IsLowestForm r num' den' → q ≡ r
+same_lowest q r num den num' den' n n' e h k =
+    one_lowest q r h.positive k.positive h.lowest k.lowest
+    (mul_right_cancel (q.num *ℤ r.den) (r.num *ℤ q.den) (den *ℤ den') (λ z. elim (mul-eq-zero den den' z) [ inl none ↦ n none | inr none ↦ n' none ]) (same_times q.num q.den r.num r.den num den num' den' e h.same k.same))
+  where
+    same_times : (a b c d num den num' den' : ℤ) → num *ℤ den' ≡ num' *ℤ den → a *ℤ den ≡ num *ℤ b → c *ℤ den' ≡ num' *ℤ d
+        → a *ℤ d *ℤ (den *ℤ den') ≡ c *ℤ b *ℤ (den *ℤ den')
+    same_times a b c d num den num' den' e f g =
+        linear (a ∷ b ∷ c ∷ d ∷ num ∷ den ∷ num' ∷ den' ∷ [])
+        (var 0 ⊗ var 3 ⊗ (var 5 ⊗ var 7)) (var 2 ⊗ var 1 ⊗ (var 5 ⊗ var 7))
+        (given (var 1 ⊗ var 3) (var 4 ⊗ var 7) (var 6 ⊗ var 5) ∷ given (var 3 ⊗ var 7) (var 0 ⊗ var 5) (var 4 ⊗ var 1)
+        ∷ given (neg (var 1 ⊗ var 5)) (var 2 ⊗ var 7) (var 6 ⊗ var 3) ∷ [])
+        tt (e, (f, (g, tt)))
+
+pub lowest_terms-same : (num den num' den' : ℤ) → ¬ (den ≡ pos 0) → ¬ (den' ≡ pos 0) → num *ℤ den' ≡ num' *ℤ den → lowest_terms num den ≡ lowest_terms num' den'
+lowest_terms-same num den num' den' n n' e =
+    same_lowest (lowest_terms num den) (lowest_terms num' den') num den num' den' n n' e (IsLowestForm-lowest_terms num den n) (IsLowestForm-lowest_terms num' den' n')
+
+pub lowest_terms-only : (q : Fraction) (num den : ℤ) → ¬ (den ≡ pos 0) → IsLowestForm q num den → q ≡ lowest_terms num den
+lowest_terms-only q num den n h = same_lowest q (lowest_terms num den) num den num den n n refl h (IsLowestForm-lowest_terms num den n)

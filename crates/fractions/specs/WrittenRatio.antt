@@ -72,6 +72,7 @@ fault_behind bytes slash = option_and_then (λ place. option_or (run_fault bytes
 
 -- ---- the ratio
 
+-- the denominator behind its numerator
 abbrev pub denominator : List ℕ → ℕ → ℤ
 denominator bytes at = denominator_behind bytes (numerator_end bytes at)
 

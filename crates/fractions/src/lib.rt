@@ -13,7 +13,7 @@ mod read;
 mod tests;
 mod write;
 
-pub use laws::{lowest_form_by_divisor, one_lowest_form};
+pub use laws::{lowest_form_by_divisor, lowest_terms_of_one_number, one_lowest_form};
 pub use part::{Part, UNIT};
 pub use ratio::Ratio;
 pub use read::{FractionFault, MOST_DIGITS, read_ratio};

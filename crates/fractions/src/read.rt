@@ -41,7 +41,7 @@ pub enum FractionFault {
 /// The ratio that is written at the index `at`, and the index behind it.
 ///
 /// It is an optional `+` or `-`, the longest run of digits, and, if a `/` follows, the longest run of digits behind it.
-/// The first fault from the left is given.
+/// The first fault from the left is given, and `TooLong` before `ZeroDenominator`.
 pub fn read_ratio(bytes: &[u8], at: usize) -> Result<(Ratio, usize), FractionFault>
     requires { at ≤ length bytes.now }
     ensures value { IfOk result (λ read. fraction_of read.0
@@ -67,20 +67,14 @@ fn read_numerator(bytes: &[u8], at: usize) -> Result<(i128, usize), FractionFaul
     ensures within { IfOk result (λ read. (at < read.1) × (read.1 ≤ length bytes.now)) }
     ensures fault { result_err result ≡ run_fault bytes.now (numerator_place bytes.now at) }
 {
-    match bytes.get(at) {
-        Some(b'-') => {
-            let (size, end) = read_digits(bytes, at + 1)?;
-            Ok((-i128::from(size), end))
-        }
-        Some(b'+') => {
-            let (size, end) = read_digits(bytes, at + 1)?;
-            Ok((i128::from(size), end))
-        }
-        _ => {
-            let (size, end) = read_digits(bytes, at)?;
-            Ok((i128::from(size), end))
-        }
-    }
+    let (place, negative) = match bytes.get(at) {
+        Some(b'-') => (at + 1, true),
+        Some(b'+') => (at + 1, false),
+        _ => (at, false),
+    };
+    let (size, end) = read_digits(bytes, place)?;
+    let size = i128::from(size);
+    Ok((if negative { -size } else { size }, end))
 }
 
 // The denominator behind a slash, or 1 where no slash stands, and the index behind it.

@@ -1,11 +1,12 @@
 -- Which triples of numbers are Miller indices, and what is wrong with any other.
-use Rattle.std.proofs.Common.{◌≡◌, ◌↔◌, ◌∙◌, ℕ, zero, suc, ◌<◌, ◌≤◌, ℤ, pos, sym, ap, refl, subst, arith, FitsSigned, w64}
+use Rattle.std.proofs.Common.{◌≡◌, ◌↔◌, ◌∙◌, ℕ, zero, suc, ◌<◌, ◌≤◌, ℤ, pos, sym, ap, refl, subst, inl, inr, ◌⊎◌, arith, FitsSigned, w64}
 use Rattle.std.specs.Prelude.{Result, Err, unsigned_abs}
 use Rattle.std.specs.Int.{◌∣◌, IsGcd}
 use Rattle.std.proofs.Math.Nat.{one-dvd, eq-zero_of_zero-dvd}
 use Rattle.std.proofs.lemmas.Int.{ints, to_z-of_z}
 use Rattle.std.proofs.lemmas.Nat.Gcd.{dvd-zero, dvd_trans, dvd_antisymm, le_of_dvd}
 use Rattle.integers.specs.Size.{IsWithin}
+use Rattle.integers.proofs.Ring.{abs-zero}
 use Rattle.integers.proofs.Coded.{again}
 use Rattle.symmetry.specs.Vectors.{Vector, opposite, origin}
 use Rattle.symmetry.specs.Planes.{IsCoprime}
@@ -42,44 +43,34 @@ coprime_by_greatest r e h =
 pub origin_by_greatest : {g : ℤ} (r : Vector) → g ≡ pos 0 → IsGreatestDivisor (unsigned_abs g) r → r ≡ origin
 origin_by_greatest r e h =
     let none : IsGreatestDivisor 0 r = subst (λ g. IsGreatestDivisor (unsigned_abs g) r) e h in
-    vector_path (zero_by_size r.x none.x) (zero_by_size r.y none.y) (zero_by_size r.z none.z)
-  where
-    zero_by_size : (z : ℤ) → 0 ∣ unsigned_abs z → z ≡ pos 0
-    zero_by_size z d = let e : unsigned_abs z ≡ 0 = eq-zero_of_zero-dvd d in omega (arith, ints)
+    vector_path (abs-zero r.x (eq-zero_of_zero-dvd none.x)) (abs-zero r.y (eq-zero_of_zero-dvd none.y)) (abs-zero r.z (eq-zero_of_zero-dvd none.z))
 
 greatest_of_origin : (g : ℕ) (r : Vector) → r ≡ origin → IsGreatestDivisor g r → g ≡ 0
 greatest_of_origin g r e h =
     let all : IsGreatestDivisor g origin = subst (IsGreatestDivisor g) e h in
     eq-zero_of_zero-dvd (all.greatest 0 (dvd-zero 0) (dvd-zero 0) (dvd-zero 0))
 
+-- a divisor of a number is no larger, or the number is 0
+within_or_zero : (n g m : ℕ) → g ∣ m → m ≤ n → (g ≤ n) ⊎ (m ≡ 0)
+within_or_zero n g zero d h = inr refl
+within_or_zero n g (suc m) d h =
+    let positive : 0 < suc m = omega arith in
+    let le = le_of_dvd positive d in
+    inl (omega arith)
+
 pub greatest_within : (n g : ℕ) (r : Vector) → IsVectorWithin n r → IsGreatestDivisor g r → g ≤ n
-greatest_within n g r w h = by_x (unsigned_abs r.x) refl
+greatest_within n g r w h =
+    elim (within_or_zero n g (unsigned_abs r.x) h.x w.x.most) [
+      | inl le ↦ le
+      | inr x ↦ elim (within_or_zero n g (unsigned_abs r.y) h.y w.y.most) [
+        | inl le ↦ le
+        | inr y ↦ elim (within_or_zero n g (unsigned_abs r.z) h.z w.z.most) [ inl le ↦ le | inr z ↦ at_zero x y z ]
+      ]
+    ]
   where
-    by_z : (m : ℕ) → unsigned_abs r.z ≡ m → unsigned_abs r.y ≡ 0 → unsigned_abs r.x ≡ 0 → g ≤ n
-    by_z zero z y x =
-        let nothing : 0 ∣ g = h.greatest 0 (subst (λ m. 0 ∣ m) (sym x) (dvd-zero 0)) (subst (λ m. 0 ∣ m) (sym y) (dvd-zero 0)) (subst (λ m. 0 ∣ m) (sym z) (dvd-zero 0)) in
-        let e = eq-zero_of_zero-dvd nothing in
-        omega arith
-    by_z (suc m) z y x =
-        let p : 0 < unsigned_abs r.z = omega arith in
-        let le = le_of_dvd p h.z in
-        let most = w.z.most in
-        omega arith
-
-    by_y : (m : ℕ) → unsigned_abs r.y ≡ m → unsigned_abs r.x ≡ 0 → g ≤ n
-    by_y zero y x = by_z (unsigned_abs r.z) refl y x
-    by_y (suc m) y x =
-        let p : 0 < unsigned_abs r.y = omega arith in
-        let le = le_of_dvd p h.y in
-        let most = w.y.most in
-        omega arith
-
-    by_x : (m : ℕ) → unsigned_abs r.x ≡ m → g ≤ n
-    by_x zero x = by_y (unsigned_abs r.y) refl x
-    by_x (suc m) x =
-        let p : 0 < unsigned_abs r.x = omega arith in
-        let le = le_of_dvd p h.x in
-        let most = w.x.most in
+    at_zero : unsigned_abs r.x ≡ 0 → unsigned_abs r.y ≡ 0 → unsigned_abs r.z ≡ 0 → g ≤ n
+    at_zero x y z =
+        let e = greatest_of_origin g r (vector_path (abs-zero r.x x) (abs-zero r.y y) (abs-zero r.z z)) h in
         omega arith
 
 same_greatest : (g k : ℕ) (r : Vector) → IsGreatestDivisor g r → IsGreatestDivisor k r → g ≡ k
@@ -121,7 +112,8 @@ no_fault r coprime within (NotCoprime g) h =
 -- so a refusal names the fault, and is the only one
 pub refused : {M : Type 0} (r : Vector) (f : PlaneFault) → IsPlaneFault r f → (e : PlaneFault)
     → (refusal M f ≡ refusal M e) ↔ IsPlaneFault r e
-refused {M} r f h e = (λ (q : refusal M f ≡ refusal M e). let same : f ≡ e = cc in subst (IsPlaneFault r) same h, λ k. ap (refusal M) (one_fault r f e h k))
+refused {M} r f h e =
+    (λ (q : refusal M f ≡ refusal M e). let same : f ≡ e = cc in subst (IsPlaneFault r) same h, λ k. ap (refusal M) (one_fault r f e h k))
 
 -- ---- numbers that were passed
 

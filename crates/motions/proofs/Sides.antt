@@ -1,5 +1,5 @@
 -- The sign by which a matrix keeps a coprime row.
-use Rattle.std.proofs.Common.{◌≡◌, ◌↔◌, ◌∙◌, sym, ap, refl, negsuc, ◌*ℤ◌, arith}
+use Rattle.std.proofs.Common.{◌≡◌, ◌↔◌, ◌∙◌, sym, refl}
 use Rattle.std.specs.Prelude.{Option, Some, None}
 use Rattle.symmetry.specs.Vectors.{Vector, multiple, opposite}
 use Rattle.symmetry.specs.Planes.{IsCoprime}

@@ -1,7 +1,8 @@
 -- Proofs that motions meet the laws of `PartialEq`, `Eq` and `Motion`. They stand here since an `impl` cites them.
 use Rattle.std.proofs.Common.{◌≡◌, ◌↔◌, ℕ, ◌+◌, ◌*◌, ◌^◌, ◌≤◌, Bool, true, false, ◌&&◌, IsTrue, sym, ap, refl, lit≤}
 use Rattle.std.specs.Ordering.{int_eq}
-use Rattle.std.specs.Cmp.{IsEquivalence, both_ways}
+use Rattle.std.specs.Cmp.Derive.{both_true}
+use Rattle.std.specs.Cmp.{first_so, second_so, IsEquivalence, both_ways}
 use Rattle.std.proofs.lemmas.Bool.Decides.{Decides-int_eq}
 use Rattle.integers.specs.Size.{IsWithin}
 use Rattle.integers.proofs.Ring.{IsWithin-add, IsWithin-mul, IsWithin-more}
@@ -17,56 +18,47 @@ use Rattle.motions.specs.Equality.{same_matrix, same_motion}
 
 -- ---- equality
 
-both_true : (a b : Bool) → IsTrue (a && b) → IsTrue a × IsTrue b
-both_true true b t = (refl, t)
-both_true false b t = cc
-
-all_true : (a b : Bool) → IsTrue a → IsTrue b → IsTrue (a && b)
-all_true true b s t = t
-all_true false b s t = cc
-
 pub same_vector-is : (v w : Vector) → IsTrue (same_vector v w) ↔ (v ≡ w)
 same_vector-is v w = (from, λ e. to (ap (λ (u : Vector). u.x) e) (ap (λ (u : Vector). u.y) e) (ap (λ (u : Vector). u.z) e))
   where
     from : IsTrue (same_vector v w) → v ≡ w
     from t =
-        let p = both_true (int_eq v.x w.x && int_eq v.y w.y) (int_eq v.z w.z) t in
-        let q = both_true (int_eq v.x w.x) (int_eq v.y w.y) p.0 in
-        vector_path ((Decides-int_eq v.x w.x).0 q.0) ((Decides-int_eq v.y w.y).0 q.1) ((Decides-int_eq v.z w.z).0 p.1)
+        let xy = first_so (int_eq v.x w.x && int_eq v.y w.y) (int_eq v.z w.z) t in
+        vector_path ((Decides-int_eq v.x w.x).0 (first_so (int_eq v.x w.x) (int_eq v.y w.y) xy))
+        ((Decides-int_eq v.y w.y).0 (second_so (int_eq v.x w.x) (int_eq v.y w.y) xy))
+        ((Decides-int_eq v.z w.z).0 (second_so (int_eq v.x w.x && int_eq v.y w.y) (int_eq v.z w.z) t))
 
     to : v.x ≡ w.x → v.y ≡ w.y → v.z ≡ w.z → IsTrue (same_vector v w)
-    to x y z =
-        all_true (int_eq v.x w.x && int_eq v.y w.y) (int_eq v.z w.z)
-        (all_true (int_eq v.x w.x) (int_eq v.y w.y) ((Decides-int_eq v.x w.x).1 x) ((Decides-int_eq v.y w.y).1 y))
-        ((Decides-int_eq v.z w.z).1 z)
+    to x y z = both_true (both_true ((Decides-int_eq v.x w.x).1 x) ((Decides-int_eq v.y w.y).1 y)) ((Decides-int_eq v.z w.z).1 z)
 
 pub same_matrix-is : (m n : Matrix) → IsTrue (same_matrix m n) ↔ (m ≡ n)
 same_matrix-is m n = (from, λ e. to (ap (λ (a : Matrix). a.first) e) (ap (λ (a : Matrix). a.second) e) (ap (λ (a : Matrix). a.third) e))
   where
     from : IsTrue (same_matrix m n) → m ≡ n
     from t =
-        let p = both_true (same_vector m.first n.first && same_vector m.second n.second) (same_vector m.third n.third) t in
-        let q = both_true (same_vector m.first n.first) (same_vector m.second n.second) p.0 in
-        matrix_path ((same_vector-is m.first n.first).0 q.0) ((same_vector-is m.second n.second).0 q.1) ((same_vector-is m.third n.third).0 p.1)
+        let first = same_vector m.first n.first in
+        let second = same_vector m.second n.second in
+        let third = same_vector m.third n.third in
+        let two = first_so (first && second) third t in
+        matrix_path ((same_vector-is m.first n.first).0 (first_so first second two))
+        ((same_vector-is m.second n.second).0 (second_so first second two))
+        ((same_vector-is m.third n.third).0 (second_so (first && second) third t))
 
     to : m.first ≡ n.first → m.second ≡ n.second → m.third ≡ n.third → IsTrue (same_matrix m n)
     to x y z =
-        all_true (same_vector m.first n.first && same_vector m.second n.second) (same_vector m.third n.third)
-        (all_true (same_vector m.first n.first) (same_vector m.second n.second) ((same_vector-is m.first n.first).1 x) ((same_vector-is m.second n.second).1 y))
-        ((same_vector-is m.third n.third).1 z)
+        both_true (both_true ((same_vector-is m.first n.first).1 x) ((same_vector-is m.second n.second).1 y)) ((same_vector-is m.third n.third).1 z)
 
 pub same_motion-is : (m n : Motion) → IsTrue (same_motion m n) ↔ (m ≡ n)
 same_motion-is m n = (from, λ e. to (ap (λ (a : Motion). a.matrix) e) (ap (λ (a : Motion). a.shift) e))
   where
     from : IsTrue (same_motion m n) → m ≡ n
     from t =
-        let p = both_true (same_matrix m.matrix n.matrix) (same_vector m.shift n.shift) t in
-        motion_path ((same_matrix-is m.matrix n.matrix).0 p.0) ((same_vector-is m.shift n.shift).0 p.1)
+        let matrix = same_matrix m.matrix n.matrix in
+        let shift = same_vector m.shift n.shift in
+        motion_path ((same_matrix-is m.matrix n.matrix).0 (first_so matrix shift t)) ((same_vector-is m.shift n.shift).0 (second_so matrix shift t))
 
     to : m.matrix ≡ n.matrix → m.shift ≡ n.shift → IsTrue (same_motion m n)
-    to p q =
-        all_true (same_matrix m.matrix n.matrix) (same_vector m.shift n.shift)
-        ((same_matrix-is m.matrix n.matrix).1 p) ((same_vector-is m.shift n.shift).1 q)
+    to p q = both_true ((same_matrix-is m.matrix n.matrix).1 p) ((same_vector-is m.shift n.shift).1 q)
 
 pub same_motion_laws : IsEquivalence same_motion
 same_motion_laws = record {

@@ -1,5 +1,4 @@
 // Greatest common divisors.
-ghost use Rattle.std.specs.Prelude.{ℕ};
 ghost use Rattle.std.specs.Int.{IsGcd};
 
 /// The greatest common divisor of two numbers, by Euclid's steps. Of 0 and 0 it is 0.

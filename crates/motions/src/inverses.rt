@@ -1,5 +1,5 @@
 // Inverses of matrices of whole numbers, by cofactors.
-ghost use Rattle.std.specs.Prelude.{◌≡◌, ℤ, ◌-ℤ◌, ◌*ℤ◌, MatchOption, IfSome};
+ghost use Rattle.std.specs.Prelude.{◌≡◌, ◌-ℤ◌, ◌*ℤ◌, MatchOption, IfSome};
 ghost use Rattle.integers.specs.Size.{IsWithin};
 ghost use Rattle.symmetry.specs.Vectors.{Matrix, cross, product, unit_matrix};
 ghost use Rattle.symmetry.specs.Sizes.{IsMatrixWithin, IsVectorWithin};

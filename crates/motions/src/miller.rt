@@ -1,5 +1,5 @@
 // The Miller indices of an orientation of planes.
-ghost use Rattle.std.specs.Prelude.{◌≡◌, ◌↔◌, ℤ, pos, ◌≤ℤ◌, IfOk, IsTrue, unsigned_abs};
+ghost use Rattle.std.specs.Prelude.{◌≡◌, ◌↔◌, pos, ◌≤ℤ◌, IfOk, IsTrue, unsigned_abs};
 ghost use Rattle.motions.specs.Divisors.{IsGreatestDivisor};
 ghost use Rattle.motions.specs.declared.index.TheConstants.{INDEX};
 ghost use Rattle.symmetry.specs.Planes.{IsCoprime};

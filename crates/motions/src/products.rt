@@ -1,5 +1,5 @@
 // Rows times columns, and what is made of these.
-ghost use Rattle.std.specs.Prelude.{◌≡◌, ◌↔◌, ℤ, ◌+◌, ◌*◌, ◌^◌, IsTrue};
+ghost use Rattle.std.specs.Prelude.{◌≡◌, ◌^◌};
 ghost use Rattle.integers.specs.Size.{IsWithin};
 ghost use Rattle.symmetry.specs.Vectors.{dot, image, opposite, plus, product, row_times};
 ghost use Rattle.symmetry.specs.Sizes.{IsVectorWithin, IsMatrixWithin};

@@ -1,5 +1,5 @@
 // What a motion does to the planes of an orientation.
-ghost use Rattle.std.specs.Prelude.{◌≡◌, ◌↔◌, ℤ, ◌*◌, ◌^◌, IsTrue, IsSome, IfSome, pos};
+ghost use Rattle.std.specs.Prelude.{◌≡◌, ◌↔◌, IsSome, IfSome};
 ghost use Rattle.symmetry.specs.Frames.{KeepsOrientation, sign_at};
 ghost use Rattle.symmetry.specs.Sizes.{IsSmall, IsVectorWithin};
 ghost use Rattle.symmetry.specs.Vectors.{dot, multiple, opposite, row_times};

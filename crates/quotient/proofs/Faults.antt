@@ -1,10 +1,10 @@
 -- A list has one fault at most, and a group has none.
-use Rattle.std.proofs.Common.{◌≡◌, ◌↔◌, ℕ, ◌-◌, ◌<◌, ◌≤◌, List, Contains, Result, Ok, Err, IsOk, arith, ap, inl, inr, refl, subst, sym}
+use Rattle.std.proofs.Common.{◌≡◌, ◌↔◌, ℕ, ◌-◌, ◌<◌, List, Contains, Result, Ok, Err, IsOk, arith, ap, inl, inr, refl, subst, sym}
 use Rattle.std.proofs.lemmas.List.Elements.{Contains-get_or}
 use Rattle.quotient.specs.declared.check.GroupFault.{GroupFault}
 use Rattle.quotient.specs.declared.check.GroupFault.TheVariants.{NoIdentity, ShiftMoved, NotClosed, NoInverse}
 use Rattle.quotient.specs.Kind.{Kind, Keeps}
-use Rattle.quotient.specs.Groups.{AllKeep, IsClosed, IsFault, IsFirstOpen, IsFirstWithout, IsGroup, IsPosition, HasInverse, motion_at}
+use Rattle.quotient.specs.Groups.{IsClosed, IsFault, IsFirstOpen, IsFirstWithout, IsGroup, IsPosition, HasInverse, motion_at}
 
 same_number : (i j : ℕ) → ¬ (i < j) → ¬ (j < i) → i ≡ j
 same_number i j a b = omega arith

@@ -1,5 +1,5 @@
 -- A part of a list that has, of each motion of the list, one that is the same: the one list is a group where the other is.
-use Rattle.std.proofs.Common.{◌≡◌, ◌↔◌, List, Contains, ap, sym, ◌∙◌}
+use Rattle.std.proofs.Common.{◌↔◌, List, Contains, ap, sym, ◌∙◌}
 use Rattle.quotient.specs.Kind.{AreShiftsGroup, IsMonoid, IsSame, Keeps, Kind}
 use Rattle.quotient.specs.Lists.{AreFirst, IsListed}
 use Rattle.quotient.specs.Groups.{AreInverse, IsGroup}

@@ -8,6 +8,8 @@
 mod check;
 mod laws;
 mod lists;
+#[cfg(test)]
+mod tests;
 mod traits;
 
 pub use check::{GroupFault, check_group};

@@ -1,39 +1,18 @@
 -- What the calls answer is what the grammar says.
-use Rattle.std.proofs.Common.{◌≡◌, ◌≢◌, ℕ, zero, suc, ◌+◌, ◌-◌, ◌*◌, ◌<◌, ◌≤◌, Bool, true, false, cond, List, [], ◌∷◌, ◌++◌, length, get_or, take, drop, Option, Some, None, Result, Ok, Err, refl, sym, ◌∙◌, ap, subst, arith, inl, inr, ◌⊎◌, append_assoc, length-append, add-one}
-use Rattle.std.specs.Prelude.{slice_get, ◌==◌, IfOk, IfErr, IsErrAnd}
-use Rattle.std.proofs.lemmas.Bool.Decides.{eqb_tells}
-use Rattle.std.proofs.Math.Seq.{take-length, take-append_seam, take-append-add}
-use Rattle.std.proofs.lemmas.List.{append-nil}
-use Rattle.std.proofs.lemmas.Option.{slice_get_past}
-use Rattle.symmetry.specs.Vectors.{Vector}
+use Rattle.std.proofs.Common.{◌≡◌, ℕ, zero, suc, ◌≤◌, List, [], ◌∷◌, length, Result, Ok, Err, sym, ◌∙◌, ap, subst, arith}
+use Rattle.std.specs.Prelude.{IfOk, IfErr, IsErrAnd}
 use Rattle.symmetry.specs.Groups.{Listing}
-use Rattle.symmetry.specs.Motions.{Motion}
-use Rattle.motions.specs.Views.{motion_of, parts, listing_of}
-use Rattle.triplets.specs.Rows.{motion_with, motion3_with, parts_with}
+use Rattle.motions.specs.Views.{listing_of}
 use Rattle.triplets.specs.declared.fault.TextKind.{TextKind}
-use Rattle.triplets.specs.declared.fault.TextKind.TheVariants as kinds
-use Rattle.motions.specs.declared.motion.Motion3.{Motion3}
-use Rattle.fractions.specs.declared.part.Part.{Part}
-use Rattle.triplets.specs.declared.line.LinePlace.{LinePlace}
-use Rattle.triplets.specs.declared.line.LinePlace.TheVariants as places
 use Rattle.triplets.specs.declared.fault.TextFault.{TextFault}
 use Rattle.triplets.specs.declared.fault.TextFault.TheVariants as faults
 use Rattle.motions.specs.declared.listed.Listed.{Listed}
-use Rattle.triplets.specs.Marks.{mark}
-use Rattle.triplets.specs.Lines.{IsLine}
-use Rattle.triplets.specs.LineReading.{LineState, line_start, line_step, line_advance, line_run, line_value, place_step, completed, with_vector, ending, operations_of, at_place, listing_by}
-use Rattle.triplets.specs.LineFaults.{IsGoodLine, IsPrefixOfGoodLine, IsLinePlace, IsLineFault, HasLineKind, HasLineKindAt}
-use Rattle.triplets.specs.Texts.{with_front, lines_of, nothing_listed, listed_then, AreLines, IsGroupText, IsFirstBad, Fault, IsTextFault}
-use Rattle.triplets.specs.TextReading.{Kept, kept_start, byte_step, moved, new_line, ended, finished, fault_here, with_operation, text_advance, text_run, outcome, group_of, Gives, Refuses}
-use Rattle.triplets.proofs.TextRuns.{keeping, faulty, run_faulty, text_run-append}
-use Rattle.triplets.proofs.LineBegun.{line_going, line_stopped, lists, lists_nothing, line_run-append, run_line_stopped}
-use Rattle.triplets.proofs.LineEnds.{is_line, is_line_prefix}
-use Rattle.triplets.proofs.LineRuns.{IsLineRead, is_line_read}
-use Rattle.triplets.proofs.LineKinds.{line_kind}
+use Rattle.triplets.specs.Texts.{lines_of, nothing_listed, listed_then, AreLines, IsGroupText, IsFirstBad, Fault, IsTextFault}
+use Rattle.triplets.specs.TextReading.{Kept, kept_start, text_run, group_of, Gives, Refuses}
 use Rattle.triplets.specs.TextAnswers.{IsMemory, Lists, IsFaultOf, IsAnswer, IsShownBy, IsAnswerSoFar}
 use Rattle.triplets.proofs.LinePlaces.{one_line_value}
-use Rattle.triplets.specs.Sizes.{IsListingSmall}
-use Rattle.triplets.proofs.Sizes.{text_small}
+use Rattle.motions.specs.ListedSizes.{IsListedSmall}
+use Rattle.triplets.proofs.Sizes.{text_small, listed_small}
 use Rattle.triplets.proofs.TextEnds.{IsOutcome, outcome_is}
 use Rattle.triplets.proofs.TextShown.{fault_shown, none_shown, shown_fault}
 
@@ -112,8 +91,8 @@ answer_passed e (Ok l) bytes h g = absurd h
 answer_passed e (Err x) bytes h g = answer (Err x) bytes (subst (λ y. Refuses y (group_of bytes)) (sym h) g)
 
 -- what is answered is small
-pub answer_small : (r : Result Listed TextFault) (bytes : List ℕ) → length bytes ≤ 16777216 → IsAnswer bytes r → IfOk r (λ l. IsListingSmall (listing_of l))
-answer_small (Ok l) bytes h i = text_small bytes (listing_of l) h i.found
+pub answer_small : (r : Result Listed TextFault) (bytes : List ℕ) → length bytes ≤ 16777216 → IsAnswer bytes r → IfOk r (λ l. IsListedSmall 9 l)
+answer_small (Ok l) bytes h i = listed_small l (text_small bytes (listing_of l) h i.found)
 answer_small (Err e) bytes h i = tt
 
 shown_only : (e : TextFault) (bytes : List ℕ) (g : Listing) → IsShownBy bytes e → IsGroupText bytes g → IsMemory e

@@ -1,5 +1,5 @@
 -- The numbers of the reader stay small.
-use Rattle.std.proofs.Common.{◌≡◌, ◌≢◌, ℕ, suc, ◌+◌, ◌-◌, ◌*◌, ◌<◌, ◌≤◌, Bool, true, false, cond, List, [], ◌∷◌, ◌++◌, length, Option, Some, None, Result, Ok, Err, ℤ, pos, negsuc, neg_ℤ, ◌+ℤ◌, refl, sym, ◌∙◌, ap, subst, arith, inl, inr, ◌⊎◌}
+use Rattle.std.proofs.Common.{◌≡◌, ℕ, ◌+◌, ◌*◌, ◌<◌, ◌≤◌, false, Option, Some, None, ℤ, pos, negsuc, neg_ℤ, ◌+ℤ◌, sym, subst, arith}
 use Rattle.std.specs.Prelude.{◌≤ℤ◌, ◌^◌, nat_le, nat_abs}
 use Rattle.std.proofs.lemmas.Bool.Decides.{nat_tests}
 use Rattle.std.proofs.lemmas.Int.{ints}
@@ -10,7 +10,6 @@ use Rattle.motions.specs.declared.motion.Sign.TheVariants.{Plus, Minus}
 use Rattle.triplets.specs.declared.part.Used.{Used}
 use Rattle.triplets.specs.declared.denominator.Denominator.{Denominator}
 use Rattle.triplets.specs.declared.denominator.Denominator.TheVariants.{One, Two, Three, Four, Six, Eight, Twelve, TwentyFour}
-use Rattle.triplets.specs.declared.fault.TextKind.{TextKind}
 use Rattle.triplets.specs.declared.fault.TextKind.TheVariants as kinds
 use Rattle.triplets.specs.declared.marks.Mark.{Mark}
 use Rattle.triplets.specs.declared.marks.Mark.TheVariants as marks
@@ -23,14 +22,13 @@ use Rattle.triplets.specs.declared.triplet.Nth.TheVariants.{First, Second, Third
 use Rattle.triplets.specs.declared.triplet.TripletReader.{TripletReader}
 use Rattle.triplets.specs.Marks.{mark, IsMarkInRange}
 use Rattle.triplets.specs.Rows.{signed, with_entry, with_shift, IsRoomy}
-use Rattle.triplets.specs.Denominators.{unit, parts, first_digit, further_digit}
-use Rattle.triplets.specs.PartReading.{begin, settled, part_step, on_blank, on_sign, on_letter, on_digit, on_slash, on_new_letter_at, below_or, with_letter, with_spot, with_number, IsSmall, IsSpotSmall}
-use Rattle.triplets.specs.TripletReading.{start, with_part, in_part, next_part, comma_at, on_comma, value, step, advance, run}
+use Rattle.triplets.specs.Denominators.{unit, parts}
+use Rattle.triplets.specs.PartReading.{begin, settled, part_step, on_blank, on_sign, on_digit, on_slash, on_new_letter_at, with_letter, IsSmall, IsSpotSmall}
+use Rattle.triplets.specs.TripletReading.{in_part, next_part, comma_at, step}
 use Rattle.triplets.specs.PlaceBounds.{IsRowWithin, IsSpotWithin, IsPartWithin}
-use Rattle.triplets.specs.Grammar.{Digit, digit_value}
 use Rattle.triplets.proofs.Bytes.{IsMark, mark_is}
 use Rattle.triplets.proofs.Partials.{fine, ok_is, err_is, passed, met, below_is}
-use Rattle.triplets.proofs.Wholes.{going, stopped, going_is, PartStep, part_step_is, run_stopped}
+use Rattle.triplets.proofs.Wholes.{going, going_is, part_step_is}
 
 pub more_room : (n : ℕ) (r : rows.Row) → IsRowWithin n r → IsRowWithin (n + 1) r
 more_room n r h = omega arith

@@ -1,9 +1,8 @@
 -- What the reader answers at the end, and at a fault.
-use Rattle.std.proofs.Common.{◌≡◌, ◌≢◌, ℕ, suc, ◌+◌, ◌-◌, ◌*◌, ◌<◌, ◌≤◌, Bool, true, false, cond, List, [], ◌∷◌, ◌++◌, length, get_or, take, drop, Option, Some, None, Result, Ok, Err, refl, sym, ◌∙◌, ap, subst, arith, inl, inr, ◌⊎◌, add-one}
+use Rattle.std.proofs.Common.{◌≡◌, ℕ, ◌+◌, ◌<◌, List, [], ◌∷◌, ◌++◌, length, get_or, take, drop, Result, Ok, refl, sym, ◌∙◌, ap, subst, arith, add-one}
 use Rattle.std.proofs.Math.Seq.{take-suc, take-length}
 use Rattle.std.proofs.lemmas.List.{take-append-drop}
 use Rattle.std.proofs.lemmas.Option.{slice_get-get_or, slice_get_past}
-use Rattle.std.specs.Prelude.{slice_get}
 use Rattle.triplets.specs.declared.fault.TextKind.{TextKind}
 use Rattle.triplets.specs.declared.fault.TextKind.TheVariants as kinds
 use Rattle.motions.specs.declared.motion.Motion3.{Motion3}
@@ -13,8 +12,8 @@ use Rattle.triplets.specs.declared.triplet.TripletReader.{TripletReader}
 use Rattle.triplets.specs.Marks.{mark}
 use Rattle.triplets.specs.TripletReading.{start, value, step, advance, run}
 use Rattle.triplets.specs.Grammar.{IsTriplet}
-use Rattle.triplets.specs.Faults.{IsGood, IsPrefixOfGood, IsPlace, IsFault, HasKindAt}
-use Rattle.triplets.proofs.Wholes.{run-append, going, stopped, going_is, run_stopped, found, is_triplet, is_read, IsRead, is_prefix, no_prefix, good_prefix}
+use Rattle.triplets.specs.Faults.{IsGood, IsPrefixOfGood, IsFault, HasKindAt}
+use Rattle.triplets.proofs.Wholes.{run-append, going, stopped, going_is, run_stopped, found, is_read, is_prefix, no_prefix, good_prefix}
 use Rattle.triplets.proofs.KindFacts.{not_good, fault_kind, no_triplet}
 
 one_more : (i : ℕ) (bytes : List ℕ) → i < length bytes → take (i + 1) bytes ≡ take i bytes ++ (get_or bytes i 0 ∷ [])

@@ -3,6 +3,8 @@ pub mod PartRuns
 pub mod Written
 pub mod Partials
 pub mod Wholes
+pub mod Seen
+pub mod KindTable
 pub mod KindFacts
 pub mod Bounds
 pub mod Sizes
@@ -13,8 +15,15 @@ pub mod TextFacts
 pub mod LineBegun
 pub mod LineEnds
 pub mod LineRuns
+pub mod LineSeen
 pub mod LineKinds
 pub mod LinePlaces
 pub mod TextEnds
 pub mod TextShown
 pub mod Answered
+mod Terms
+mod NumberTrees
+mod TermTrees
+mod PartTrees
+mod TripletTrees
+mod WritingSamples

@@ -1,39 +1,31 @@
 -- What the reader of a line takes is the beginning of a line of the grammar.
-use Rattle.std.proofs.Common.{◌≡◌, ◌≢◌, ℕ, suc, ◌+◌, ◌-◌, ◌*◌, ◌<◌, ◌≤◌, Bool, true, false, cond, List, [], ◌∷◌, ◌++◌, length, Option, Some, None, Result, Ok, Err, ℤ, pos, refl, sym, ◌∙◌, ap, subst, arith, inl, inr, ◌⊎◌, append_assoc}
+use Rattle.std.proofs.Common.{◌≡◌, ℕ, ◌≤◌, Bool, true, false, cond, List, [], ◌∷◌, ◌++◌, length, Option, Some, None, Result, Ok, Err, pos, refl, sym, ◌∙◌, ap, subst, arith, append_assoc}
 use Rattle.std.specs.Prelude.{◌&&◌}
 use Rattle.std.proofs.lemmas.List.{append-nil}
 use Rattle.motions.specs.declared.motion.Sign.{Sign}
 use Rattle.motions.specs.declared.motion.Sign.TheVariants.{Plus, Minus}
 use Rattle.symmetry.specs.Vectors.{Vector}
 use Rattle.symmetry.specs.Groups.{Listing}
-use Rattle.symmetry.specs.Motions.{Motion}
-use Rattle.motions.specs.Views.{motion_of, parts}
-use Rattle.triplets.specs.Rows.{motion_with, motion3_with, parts_with}
+use Rattle.triplets.specs.Rows.{motion3_with, parts_with}
 use Rattle.triplets.specs.declared.fault.TextKind.{TextKind}
-use Rattle.triplets.specs.declared.fault.TextKind.TheVariants as kinds
 use Rattle.triplets.specs.declared.marks.Mark.{Mark}
 use Rattle.triplets.specs.declared.marks.Mark.TheVariants as marks
 use Rattle.triplets.specs.declared.part.PartReader.{PartReader}
-use Rattle.triplets.specs.declared.part.Spot.{Spot}
-use Rattle.triplets.specs.declared.part.Spot.TheVariants as spots
-use Rattle.triplets.specs.declared.triplet.Nth.{Nth}
 use Rattle.triplets.specs.declared.triplet.Nth.TheVariants.{First, Second, Third}
 use Rattle.motions.specs.declared.motion.Motion3.{Motion3}
 use Rattle.triplets.specs.declared.triplet.TripletReader.{TripletReader}
-use Rattle.fractions.specs.declared.part.Part.{Part}
 use Rattle.triplets.specs.declared.line.VectorReader.{VectorReader}
 use Rattle.triplets.specs.declared.line.LinePlace.{LinePlace}
 use Rattle.triplets.specs.declared.line.LinePlace.TheVariants as places
 use Rattle.triplets.specs.Marks.{mark}
 use Rattle.triplets.specs.PartReading.{begin, settled, part_step, with_sign, on_digit}
 use Rattle.triplets.specs.TripletReading.{start, step, value}
-use Rattle.triplets.specs.Grammar.{Blank, blank_byte, blanks_text, sign_byte, Digit, digit_value, digits_text, decimal, Numerator, numerator_text, Term, Lead, bare, sign, more, lead_text, Written, part_text, part_row, IsTriplet}
-use Rattle.triplets.specs.Lines.{IsFirst, IsNumber, Coordinate, coordinate_text, coordinate_value, Centring, centring_text, centring_value, Centrings, one, further, centrings_text, centrings_value, Label, label_text, Form, empty, operation, row, form_text, form_value, comment_text, IsLine}
-use Rattle.triplets.specs.LineReading.{opened, in_operation, in_coordinate, next_coordinate, coordinate_comma, closed_at, on_close, is_digits, coordinate_sign, vector_step, start_step, comment_behind, operation_step, closed_step, behind_step, place_step, completed, with_vector, LineState, line_start, at_place, line_step, line_advance, line_run, line_value, ending, operations_of, some_operation, listing_by}
-use Rattle.triplets.specs.LineFaults.{IsGoodLine, IsPrefixOfGoodLine}
+use Rattle.triplets.specs.Grammar.{Blank, blank_byte, blanks_text, sign_byte, Digit, digit_value, digits_text, bare, sign, more, part_row}
+use Rattle.triplets.specs.Lines.{Coordinate, coordinate_text, coordinate_value, Centring, centring_text, centring_value, Centrings, one, further, centrings_text, centrings_value, Label, label_text, Form, empty, operation, row, form_text}
+use Rattle.triplets.specs.LineReading.{in_operation, in_coordinate, coordinate_comma, closed_at, on_close, is_digits, coordinate_sign, vector_step, start_step, comment_behind, operation_step, behind_step, place_step, completed, with_vector, LineState, at_place, line_step, line_advance, line_run}
 use Rattle.triplets.proofs.Bytes.{IsMark, mark_is}
-use Rattle.triplets.proofs.Partials.{Partial, lead, digits, divided, below, behind, partial_text, partial_state, IsLike, is_plain, Grows, fine, grows_by, some_part, WholeCoordinate, whole_coordinate, DigitMore, digit_more, blanks_more, digits_more}
-use Rattle.triplets.proofs.Wholes.{going, Begun, in_first, in_second, in_third, begun_text, begun_state, GoesOn, goes_by, found, ends, nothing, Completes, completes, zero_part}
+use Rattle.triplets.proofs.Partials.{Partial, lead, digits, divided, below, behind, partial_text, partial_state, IsLike, is_plain, fine, grows_by, whole_coordinate, digit_more, blanks_more, digits_more}
+use Rattle.triplets.proofs.Wholes.{going, Begun, in_first, begun_text, begun_state, goes_by, ends, nothing}
 use Rattle.triplets.proofs.LineBounds.{placed, placed_is}
 
 abbrev pub line_going : LineState → Result LineState TextKind

@@ -1,15 +1,9 @@
 -- The numbers of the reader of a text stay small.
-use Rattle.std.proofs.Common.{◌≡◌, ◌≢◌, ℕ, suc, ◌+◌, ◌-◌, ◌*◌, ◌<◌, ◌≤◌, Bool, true, false, cond, List, [], ◌∷◌, ◌++◌, length, take, drop, Option, Some, None, Result, Ok, Err, ℤ, pos, refl, sym, ◌∙◌, ap, subst, arith, inl, inr, ◌⊎◌, zero-add}
-use Rattle.std.specs.Prelude.{◌==◌, ◌&&◌, if◌then◌else◌}
+use Rattle.std.proofs.Common.{◌≡◌, ℕ, ◌+◌, ◌≤◌, Bool, true, false, cond, List, Option, Some, None, Result, Ok, Err, ℤ, refl, sym, subst, arith}
+use Rattle.std.specs.Prelude.{◌&&◌}
 use Rattle.motions.specs.declared.motion.Sign.{Sign}
 use Rattle.motions.specs.declared.motion.Sign.TheVariants.{Plus, Minus}
-use Rattle.symmetry.specs.Vectors.{Vector}
-use Rattle.symmetry.specs.Groups.{Listing}
-use Rattle.symmetry.specs.Motions.{Motion}
-use Rattle.motions.specs.Views.{motion_of, parts}
-use Rattle.triplets.specs.Rows.{motion_with, motion3_with, parts_with}
 use Rattle.triplets.specs.declared.fault.TextKind.{TextKind}
-use Rattle.triplets.specs.declared.fault.TextKind.TheVariants as kinds
 use Rattle.triplets.specs.declared.marks.Mark.{Mark}
 use Rattle.triplets.specs.declared.marks.Mark.TheVariants as marks
 use Rattle.triplets.specs.declared.part.PartReader.{PartReader}
@@ -24,9 +18,9 @@ use Rattle.triplets.specs.declared.line.VectorReader.{VectorReader}
 use Rattle.triplets.specs.declared.line.LinePlace.{LinePlace}
 use Rattle.triplets.specs.declared.line.LinePlace.TheVariants as places
 use Rattle.triplets.specs.Marks.{mark, IsMarkInRange}
-use Rattle.triplets.specs.PartReading.{begin, settled, part_step, with_sign, on_sign, IsSmall}
+use Rattle.triplets.specs.PartReading.{settled, part_step}
 use Rattle.triplets.specs.TripletReading.{start, step, value}
-use Rattle.triplets.specs.LineReading.{opened, in_operation, in_coordinate, next_coordinate, coordinate_comma, closed_at, on_close, is_digits, coordinate_sign, vector_step, start_step, comment_behind, operation_step, closed_step, behind_step, place_step, completed, IsPlaceSmall}
+use Rattle.triplets.specs.LineReading.{in_operation, in_coordinate, next_coordinate, coordinate_comma, closed_at, is_digits, coordinate_sign, vector_step, start_step, comment_behind, operation_step, closed_step, behind_step, place_step, IsPlaceSmall}
 use Rattle.triplets.proofs.Partials.{fine}
 use Rattle.triplets.proofs.Wholes.{going}
 use Rattle.triplets.specs.PlaceBounds.{IsPartWithin, IsPlaceWithin}

@@ -1,12 +1,12 @@
 -- The run of the reader of a part over several bytes, and its states.
-use Rattle.std.proofs.Common.{◌≡◌, ℕ, ◌+◌, ◌-◌, ◌*◌, ◌<◌, ◌≤◌, Bool, true, false, cond, List, [], ◌∷◌, ◌++◌, length, Option, Some, None, Result, Ok, Err, refl, sym, ◌∙◌, ap, arith}
+use Rattle.std.proofs.Common.{◌≡◌, ℕ, ◌+◌, List, [], ◌∷◌, ◌++◌, length, Result, Ok, Err, refl, ◌∙◌, ap}
 use Rattle.triplets.specs.declared.fault.TextKind.{TextKind}
 use Rattle.triplets.specs.declared.part.PartReader.{PartReader}
 use Rattle.triplets.specs.declared.part.Spot.{Spot}
-use Rattle.triplets.specs.declared.part.Spot.TheVariants.{Begin, Signed, Digits, Divided, Below, Behind}
+use Rattle.triplets.specs.declared.part.Spot.TheVariants.{Begin, Signed, Digits, Below, Behind}
 use Rattle.triplets.specs.Marks.{mark}
-use Rattle.triplets.specs.PartReading.{begin, part_step}
-use Rattle.triplets.specs.Grammar.{Blank, Digit, Numerator, Term, letter, multiple, whole, fraction, Lead, bare, sign, more, lead_row, lead_sign, lead_letters, with_term, with_letters, numerator_value}
+use Rattle.triplets.specs.PartReading.{part_step}
+use Rattle.triplets.specs.Grammar.{Blank, Term, letter, multiple, whole, fraction, Lead, bare, sign, more, lead_row, lead_sign, lead_letters, with_term, with_letters, numerator_value}
 
 abbrev pub part_advance : Result PartReader TextKind → ℕ → Result PartReader TextKind
 part_advance (Ok p) b = part_step (mark b) p

@@ -1,8 +1,7 @@
 -- What the reader of a part takes is the beginning of what is written in the grammar.
-use Rattle.std.proofs.Common.{◌≡◌, ℕ, suc, ◌+◌, ◌-◌, ◌*◌, ◌<◌, ◌≤◌, Bool, true, false, cond, List, [], ◌∷◌, ◌++◌, length, Option, Some, None, Result, Ok, Err, refl, sym, ◌∙◌, ap, subst, arith, inl, inr, ◌⊎◌, append_assoc, length-append}
+use Rattle.std.proofs.Common.{◌≡◌, ℕ, suc, ◌+◌, ◌*◌, ◌≤◌, Bool, true, false, cond, List, [], ◌∷◌, ◌++◌, length, Option, Some, None, Result, Ok, Err, refl, sym, ◌∙◌, ap, subst, arith, inl, inr, append_assoc, length-append}
 use Rattle.std.specs.Prelude.{nat_le, nat_lt, ◌==◌, ◌&&◌}
 use Rattle.std.proofs.lemmas.Bool.Decides.{nat_tests, eqb_tells}
-use Rattle.std.proofs.lemmas.Bool.{cases_lt}
 use Rattle.std.proofs.lemmas.List.{map-append, append-nil}
 use Rattle.triplets.specs.declared.marks.Axis.{Axis}
 use Rattle.motions.specs.declared.motion.Sign.{Sign}
@@ -13,13 +12,12 @@ use Rattle.triplets.specs.declared.fault.TextKind.TheVariants as kinds
 use Rattle.triplets.specs.declared.marks.Mark.{Mark}
 use Rattle.triplets.specs.declared.marks.Mark.TheVariants as marks
 use Rattle.triplets.specs.declared.part.PartReader.{PartReader}
-use Rattle.triplets.specs.declared.part.Spot.{Spot}
-use Rattle.triplets.specs.declared.part.Spot.TheVariants.{Begin, Signed, Digits, Divided, Below, Behind}
+use Rattle.triplets.specs.declared.part.Spot.TheVariants.{Digits, Divided, Below}
 use Rattle.triplets.specs.Marks.{mark}
 use Rattle.triplets.specs.Rows.{uses}
 use Rattle.triplets.specs.Denominators.{denominator_text, first_digit, further_digit}
-use Rattle.triplets.specs.PartReading.{begin, part_step, settled, on_blank, on_sign, on_letter, on_digit, on_digit_at, on_slash, on_new_letter_at, below_or, with_letter, with_sign, with_spot}
-use Rattle.triplets.specs.Grammar.{Blank, blank_byte, blanks_text, sign_byte, letter_byte, Digit, digit_value, digits_text, decimal, Numerator, numerator_text, numerator_value, Term, letter, multiple, whole, fraction, term_text, IsNew, Lead, bare, sign, more, lead_text, lead_row, lead_sign, lead_letters, IsLead, Written, part_text, part_row, with_term}
+use Rattle.triplets.specs.PartReading.{part_step, settled, on_blank, on_sign, on_letter, on_digit, on_digit_at, on_slash, on_new_letter_at, below_or, with_letter, with_spot}
+use Rattle.triplets.specs.Grammar.{Blank, blank_byte, blanks_text, sign_byte, letter_byte, Digit, digit_value, digits_text, decimal, Numerator, numerator_text, numerator_value, letter, multiple, whole, fraction, term_text, Lead, bare, sign, more, lead_text, lead_letters, IsLead, Written, part_text, part_row}
 use Rattle.triplets.specs.Lines.{IsFirst, IsNumber, Coordinate, coordinate_text, coordinate_value}
 use Rattle.triplets.proofs.Bytes.{IsMark, mark_is}
 use Rattle.triplets.proofs.PartRuns.{state, lead_state, behind_state, lead_spot}

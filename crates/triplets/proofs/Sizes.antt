@@ -1,10 +1,9 @@
 -- The numbers that a triplet or a group text gives are small.
-use Rattle.std.proofs.Common.{◌≡◌, ℕ, zero, suc, ◌+◌, ◌*◌, ◌<◌, ◌≤◌, Bool, true, false, cond, List, [], ◌∷◌, ◌++◌, length, Option, Some, None, ℤ, pos, negsuc, neg_ℤ, ◌+ℤ◌, refl, sym, ◌∙◌, ap, subst, arith, length-append}
-use Rattle.std.specs.Prelude.{◌^◌, ◌==◌, nat_abs, All}
+use Rattle.std.proofs.Common.{ℕ, zero, suc, ◌+◌, ◌*◌, ◌<◌, ◌≤◌, Bool, true, false, cond, List, [], ◌∷◌, ◌++◌, length, ℤ, sym, ◌∙◌, ap, subst, arith, length-append}
+use Rattle.std.specs.Prelude.{◌^◌, ◌==◌, nat_abs, All, map}
 use Rattle.std.proofs.lemmas.Int.{ints}
 use Rattle.std.proofs.lemmas.List.Elements.{All-append, All-nil}
-use Rattle.integers.specs.Size.{IsWithin}
-use Rattle.symmetry.specs.Vectors.{Vector}
+use Rattle.std.proofs.Math.ListN.{get_or-map, length-map}
 use Rattle.symmetry.specs.Motions.{Motion}
 use Rattle.symmetry.specs.Groups.{Listing}
 use Rattle.symmetry.specs.Sizes.{IsVectorWithin}
@@ -13,12 +12,14 @@ use Rattle.motions.specs.declared.motion.Sign.TheVariants.{Plus, Minus}
 use Rattle.triplets.specs.declared.marks.Axis.{Axis}
 use Rattle.triplets.specs.declared.marks.Axis.TheVariants.{X, Y, Z}
 use Rattle.triplets.specs.declared.part.Row.{Row}
-use Rattle.triplets.specs.Rows.{signed, with_entry, with_shift, zero_row, motion_with}
-use Rattle.triplets.specs.Denominators.{unit, parts}
-use Rattle.triplets.specs.Grammar.{Digit, digit_value, digits_text, Numerator, decimal, numerator_text, numerator_value, Term, letter, multiple, whole, fraction, term_text, with_term, Lead, bare, sign, more, lead_text, lead_row, lead_sign, sign_byte, blanks_text, Blank, Written, part_text, part_row, IsTriplet}
-use Rattle.triplets.specs.Lines.{Coordinate, coordinate_text, coordinate_value, Centring, centring_text, centring_value, Centrings, one, further, centrings_text, centrings_value, Form, empty, operation, row, form_text, form_value, label_text, comment_text, IsLine}
+use Rattle.triplets.specs.Rows.{signed, with_entry, with_shift, zero_row, matrix_row, motion_with}
+use Rattle.triplets.specs.Denominators.{unit, parts as parts_over}
+use Rattle.triplets.specs.Grammar.{Digit, digit_value, Numerator, decimal, numerator_value, Term, letter, multiple, whole, fraction, term_text, with_term, Lead, bare, sign, more, lead_text, lead_row, lead_sign, sign_byte, blanks_text, Written, part_text, part_row, IsTriplet}
+use Rattle.triplets.specs.Lines.{coordinate_text, Centring, centring_text, centring_value, Centrings, one, further, centrings_text, centrings_value, Form, empty, operation, row, form_text, form_value, label_text, comment_text, IsLine}
 use Rattle.triplets.specs.Texts.{lines_of, with_front, listed_then, nothing_listed, AreLines, IsGroupText}
-use Rattle.triplets.specs.Sizes.{IsTripletSmall, IsListingSmall}
+use Rattle.motions.specs.ListedSizes.{IsSmallWithin, IsListedSmall}
+use Rattle.motions.specs.declared.listed.Listed.{Listed}
+use Rattle.motions.specs.Views.{motion_of, parts, listing_of}
 use Rattle.triplets.proofs.Bounds.{moved_size, parts_small}
 
 -- ---- a part
@@ -64,7 +65,7 @@ term_small (multiple d low a c) s n r h =
     let high = d.high in
     more_bytes n _ _ (omega arith) (entry_small a (signed s (digit_value d)) n r (omega (arith, signed_size s (digit_value d))) h)
 term_small (whole m) s n r h = more_bytes (n + 1) _ _ (omega arith) (shift_small s (unit * numerator_value m) n r (omega (arith, numerator_small m)) h)
-term_small (fraction m d) s n r h = more_bytes (n + 1) _ _ (omega arith) (shift_small s (parts d * numerator_value m) n r (parts_small d (numerator_value m) (numerator_small m)) h)
+term_small (fraction m d) s n r h = more_bytes (n + 1) _ _ (omega arith) (shift_small s (parts_over d * numerator_value m) n r (parts_small d (numerator_value m) (numerator_small m)) h)
 
 lead_small : (l : Lead) → IsRowSmall (length (lead_text l)) (lead_row l)
 lead_small (bare bs) = zero_small _
@@ -82,25 +83,27 @@ part_small w n h =
 
 -- ---- a triplet
 
-row_within : (n : ℕ) (q r s : Row) → n ≤ 16777216 → IsRowSmall n q → IsRowSmall n r → IsRowSmall n s → IsTripletSmall (motion_with q r s)
+row_size : (bound : ℕ) → 9 ≤ bound → (n : ℕ) (r : Row) → IsRowSmall n r → IsVectorWithin bound (matrix_row r)
+row_size bound h n r i = record { x = record { most = omega (arith, i.x) }; y = record { most = omega (arith, i.y) }; z = record { most = omega (arith, i.z) } }
+
+row_within : (n : ℕ) (q r s : Row) → n ≤ 16777216 → IsRowSmall n q → IsRowSmall n r → IsRowSmall n s → IsSmallWithin 9 (motion_with q r s)
 row_within n q r s h a b c = record {
-  matrix = record {
-    first = record { x = record { most = a.x }; y = record { most = a.y }; z = record { most = a.z } };
-    second = record { x = record { most = b.x }; y = record { most = b.y }; z = record { most = b.z } };
-    third = record { x = record { most = c.x }; y = record { most = c.y }; z = record { most = c.z } };
+  small = record {
+    matrix = record { first = row_size 500 (omega arith) n q a; second = row_size 500 (omega arith) n r b; third = row_size 500 (omega arith) n s c };
+    shift = record { x = record { most = omega (arith, a.shift) }; y = record { most = omega (arith, b.shift) }; z = record { most = omega (arith, c.shift) } };
   };
-  shift = record { x = record { most = omega (arith, a.shift) }; y = record { most = omega (arith, b.shift) }; z = record { most = omega (arith, c.shift) } };
+  matrix = record { first = row_size 9 (omega arith) n q a; second = row_size 9 (omega arith) n r b; third = row_size 9 (omega arith) n s c };
 }
 
-parts_within : (v w x : Written) (n : ℕ) → n ≤ 16777216 → length (part_text v ++ (44 ∷ (part_text w ++ (44 ∷ part_text x)))) ≤ n → IsTripletSmall (motion_with (part_row v) (part_row w) (part_row x))
+parts_within : (v w x : Written) (n : ℕ) → n ≤ 16777216 → length (part_text v ++ (44 ∷ (part_text w ++ (44 ∷ part_text x)))) ≤ n → IsSmallWithin 9 (motion_with (part_row v) (part_row w) (part_row x))
 parts_within v w x n h i =
     let a = length-append (part_text v) (44 ∷ (part_text w ++ (44 ∷ part_text x))) in
     let b = length-append (part_text w) (44 ∷ part_text x) in
     row_within n (part_row v) (part_row w) (part_row x) h (part_small v n (omega arith)) (part_small w n (omega arith)) (part_small x n (omega arith))
 
-pub triplet_small : (bytes : List ℕ) (m : Motion) → length bytes ≤ 16777216 → IsTriplet bytes m → IsTripletSmall m
+pub triplet_small : (bytes : List ℕ) (m : Motion) → length bytes ≤ 16777216 → IsTriplet bytes m → IsSmallWithin 9 m
 triplet_small bytes m h t =
-    subst IsTripletSmall (sym t.rows) (parts_within t.one t.two t.three (length bytes) h (let e = ap length t.text in omega arith))
+    subst (IsSmallWithin 9) (sym t.rows) (parts_within t.one t.two t.three (length bytes) h (let e = ap length t.text in omega arith))
 
 -- ---- a line
 
@@ -131,17 +134,22 @@ centrings_small (further r v) n h i =
     All-append (IsVectorWithin (2 ^ 40)) (centrings_value r) (centring_value v ∷ []) (centrings_small r n h (omega arith))
     (single (IsVectorWithin (2 ^ 40)) (centring_value v) (centring_small v n h (omega arith)))
 
+-- the operations and the vectors that are listed are small
+pub record IsListingSmall (g : Listing) : Type 0 where
+  pub ops : All (IsSmallWithin 9) g.ops
+  pub centrings : All (IsVectorWithin (2 ^ 40)) g.centrings
+
 nothing_small : IsListingSmall nothing_listed
-nothing_small = record { ops = All-nil IsTripletSmall; centrings = All-nil (IsVectorWithin (2 ^ 40)) }
+nothing_small = record { ops = All-nil (IsSmallWithin 9); centrings = All-nil (IsVectorWithin (2 ^ 40)) }
 
 form_small : (f : Form) (n : ℕ) → n ≤ 16777216 → length (form_text f) ≤ n → IsListingSmall (form_value f)
 form_small (empty bs) n h i = nothing_small
 form_small (operation l v w x) n h i =
     let a = length-append (label_text l) (part_text v ++ (44 ∷ (part_text w ++ (44 ∷ part_text x)))) in
-    record { ops = single IsTripletSmall (motion_with (part_row v) (part_row w) (part_row x)) (parts_within v w x n h (omega arith)); centrings = All-nil (IsVectorWithin (2 ^ 40)) }
+    record { ops = single (IsSmallWithin 9) (motion_with (part_row v) (part_row w) (part_row x)) (parts_within v w x n h (omega arith)); centrings = All-nil (IsVectorWithin (2 ^ 40)) }
 form_small (row r bs) n h i =
     let a = length-append (centrings_text r) (blanks_text bs) in
-    record { ops = All-nil IsTripletSmall; centrings = centrings_small r n h (omega arith) }
+    record { ops = All-nil (IsSmallWithin 9); centrings = centrings_small r n h (omega arith) }
 
 line_small : (bytes : List ℕ) (a : Listing) (n : ℕ) → n ≤ 16777216 → length bytes ≤ n → IsLine bytes a → IsListingSmall a
 line_small bytes a n h i l =
@@ -152,7 +160,7 @@ line_small bytes a n h i l =
 
 then_small : (a b : Listing) → IsListingSmall a → IsListingSmall b → IsListingSmall (listed_then a b)
 then_small a b h i = record {
-  ops = All-append IsTripletSmall a.ops b.ops h.ops i.ops;
+  ops = All-append (IsSmallWithin 9) a.ops b.ops h.ops i.ops;
   centrings = All-append (IsVectorWithin (2 ^ 40)) a.centrings b.centrings h.centrings i.centrings;
 }
 
@@ -185,6 +193,16 @@ lines_small : (ls : List (List ℕ)) (g : Listing) (n : ℕ) → n ≤ 16777216 
 unfolding AreShort
 lines_small [] g n h i e = subst IsListingSmall (sym e) nothing_small
 lines_small (l ∷ ls) g n h i e = subst IsListingSmall (sym e.4) (then_small e.0 e.1 (line_small l e.0 n h i.0 e.2) (lines_small ls e.1 n h i.1 e.3))
+
+all_of_map : {A B : Type 0} (P : B → Type 0) (f : A → B) (xs : List A) → All P (map f xs) → All (λ x. P (f x)) xs
+all_of_map P f xs h k d i = subst P (get_or-map f xs k d) (h k (f d) (omega (arith, length-map xs f)))
+
+-- the same of the code's lists
+pub listed_small : (l : Listed) → IsListingSmall (listing_of l) → IsListedSmall 9 l
+listed_small l h = record {
+  ops = all_of_map (IsSmallWithin 9) (λ m. motion_of m) l.ops.items h.ops;
+  centrings = all_of_map (IsVectorWithin (2 ^ 40)) (λ v. parts v) l.centrings.items h.centrings;
+}
 
 pub text_small : (bytes : List ℕ) (g : Listing) → length bytes ≤ 16777216 → IsGroupText bytes g → IsListingSmall g
 text_small bytes g h t = lines_small (lines_of bytes) g (length bytes) h (lines_short bytes) t

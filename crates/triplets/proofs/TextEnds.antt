@@ -1,43 +1,34 @@
 -- What a text gives, line by line.
-use Rattle.std.proofs.Common.{◌≡◌, ◌≢◌, ℕ, zero, suc, ◌+◌, ◌-◌, ◌*◌, ◌<◌, ◌≤◌, Bool, true, false, cond, List, [], ◌∷◌, ◌++◌, length, get_or, take, drop, Option, Some, None, Result, Ok, Err, refl, sym, ◌∙◌, ap, subst, arith, inl, inr, ◌⊎◌, append_assoc, length-append, add-one}
-use Rattle.std.specs.Prelude.{slice_get, ◌==◌, IfOk, IfErr}
-use Rattle.std.proofs.lemmas.Bool.Decides.{eqb_tells}
-use Rattle.std.proofs.Math.Seq.{take-length, take-append_seam, take-append-add}
+use Rattle.std.proofs.Common.{◌≡◌, ℕ, ◌+◌, Bool, true, false, cond, List, [], ◌∷◌, ◌++◌, length, Option, Some, None, Result, Ok, Err, refl, sym, ◌∙◌, ap, subst, arith, append_assoc, length-append, add-one}
+use Rattle.std.specs.Prelude.{◌==◌}
 use Rattle.std.proofs.lemmas.List.{append-nil}
-use Rattle.std.proofs.lemmas.Option.{slice_get_past}
 use Rattle.symmetry.specs.Vectors.{Vector}
 use Rattle.symmetry.specs.Groups.{Listing}
 use Rattle.symmetry.specs.Motions.{Motion}
-use Rattle.motions.specs.Views.{motion_of, parts}
-use Rattle.triplets.specs.Rows.{motion_with, motion3_with, parts_with}
+use Rattle.motions.specs.Views.{parts}
 use Rattle.triplets.specs.declared.fault.TextKind.{TextKind}
 use Rattle.triplets.specs.declared.fault.TextKind.TheVariants as kinds
 use Rattle.motions.specs.declared.motion.Motion3.{Motion3}
 use Rattle.fractions.specs.declared.part.Part.{Part}
 use Rattle.triplets.specs.declared.line.LinePlace.{LinePlace}
 use Rattle.triplets.specs.declared.line.LinePlace.TheVariants as places
-use Rattle.triplets.specs.declared.fault.TextFault.{TextFault}
-use Rattle.triplets.specs.declared.fault.TextFault.TheVariants as faults
-use Rattle.motions.specs.declared.listed.Listed.{Listed}
 use Rattle.triplets.specs.Marks.{mark}
 use Rattle.triplets.specs.Lines.{IsLine}
-use Rattle.triplets.specs.LineReading.{LineState, line_start, line_step, line_advance, line_run, line_value, place_step, completed, with_vector, ending, operations_of, at_place, listing_by}
-use Rattle.triplets.specs.LineFaults.{IsGoodLine, IsPrefixOfGoodLine, IsLinePlace, IsLineFault, HasLineKind, HasLineKindAt}
-use Rattle.triplets.specs.Texts.{with_front, lines_of, nothing_listed, listed_then, AreLines, IsGroupText, IsFirstBad, Fault, IsTextFault}
-use Rattle.triplets.specs.TextReading.{Kept, kept_start, byte_step, moved, new_line, ended, finished, fault_here, with_operation, text_advance, text_run, outcome, group_of, Gives, Refuses}
-use Rattle.triplets.proofs.TextRuns.{keeping, faulty, run_faulty, text_run-append}
-use Rattle.triplets.proofs.LineBegun.{line_going, line_stopped, lists, lists_nothing, line_run-append, run_line_stopped}
-use Rattle.triplets.proofs.LineEnds.{is_line, is_line_prefix}
-use Rattle.triplets.proofs.LineRuns.{IsLineRead, is_line_read}
-use Rattle.triplets.proofs.LineKinds.{line_kind}
-use Rattle.triplets.proofs.LinePlaces.{one_line_value, line_more, no_line_prefix, not_good_line, end_fault, byte_fault, good_line_prefix}
+use Rattle.triplets.specs.LineReading.{LineState, line_start, line_step, line_run, place_step, completed, with_vector, ending, operations_of, at_place, listing_by}
+use Rattle.triplets.specs.LineFaults.{IsLineFault}
+use Rattle.triplets.specs.Texts.{with_front, lines_of, nothing_listed, listed_then, AreLines, IsFirstBad, Fault}
+use Rattle.triplets.specs.TextReading.{Kept, kept_start, moved, new_line, ended, finished, fault_here, with_operation, text_run, outcome, group_of}
+use Rattle.triplets.proofs.TextRuns.{run_faulty}
+use Rattle.triplets.proofs.LineBegun.{line_going, line_stopped}
+use Rattle.triplets.proofs.LineEnds.{is_line}
+use Rattle.triplets.proofs.LinePlaces.{line_more, end_fault, byte_fault}
 
--- what a text gives whose lines before listing this
+-- what a text gives whose lines before list this
 abbrev pub IsOutcome : Result Listing Fault → Listing → ℕ → List (List ℕ) → Type 0
 IsOutcome (Ok listing) base n lines = (a : Listing) × AreLines lines a × (listing ≡ listed_then base a)
 IsOutcome (Err f) base n lines = (i : ℕ) × (before : ℕ) × (f.line ≡ n + i) × (f.column ≡ before + 1) × IsFirstBad lines i before f.kind
 
--- what is kept in a line: the lines before listing base, and what the line listing so far are its vectors
+-- what is kept in a line: the lines before list base, and the line lists its vectors so far
 pub record InLine (k : Kept) (base : Listing) (n : ℕ) (before : List ℕ) (vs : List Vector) : Type 0 where
   pub ops : k.listing.ops ≡ base.ops
   pub centrings : k.listing.centrings ≡ base.centrings ++ vs

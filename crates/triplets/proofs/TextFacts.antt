@@ -1,18 +1,10 @@
 -- Reading in pieces.
-use Rattle.std.proofs.Common.{◌≡◌, ◌≢◌, ℕ, suc, ◌+◌, ◌-◌, ◌*◌, ◌<◌, ◌≤◌, Bool, true, false, cond, List, [], ◌∷◌, ◌++◌, length, get_or, take, drop, Option, Some, None, Result, Ok, Err, refl, sym, ◌∙◌, ap, subst, arith, inl, inr, ◌⊎◌, add-one, append_assoc, length-append}
+use Rattle.std.proofs.Common.{◌≡◌, ◌≢◌, ℕ, ◌+◌, ◌<◌, List, [], ◌∷◌, ◌++◌, length, get_or, take, drop, Option, Some, None, Result, Ok, Err, refl, sym, ◌∙◌, ap, inl, inr, ◌⊎◌, add-one, append_assoc, length-append}
 use Rattle.std.proofs.Math.Seq.{take-suc, take-length}
-use Rattle.std.proofs.lemmas.List.{take-append-drop, append-nil, length-take-le}
-use Rattle.symmetry.specs.Vectors.{Vector}
-use Rattle.symmetry.specs.Groups.{Listing}
-use Rattle.symmetry.specs.Motions.{Motion}
-use Rattle.motions.specs.Views.{motion_of, parts}
-use Rattle.triplets.specs.Rows.{motion_with, motion3_with, parts_with}
-use Rattle.triplets.specs.declared.fault.TextKind.{TextKind}
-use Rattle.triplets.specs.declared.line.LinePlace.{LinePlace}
+use Rattle.std.proofs.lemmas.List.{take-append-drop, append-nil}
 use Rattle.triplets.specs.declared.fault.TextFault.{TextFault}
 use Rattle.triplets.specs.declared.fault.TextFault.TheVariants as faults
 use Rattle.triplets.specs.declared.text.LineReader.{LineReader}
-use Rattle.triplets.specs.LineReading.{IsPlaceSmall}
 use Rattle.triplets.specs.Texts.{Fault}
 use Rattle.triplets.specs.TextReading.{Kept, kept_start, kept, byte_step, text_advance, text_run, kept_or, Stands, Refuses}
 use Rattle.triplets.proofs.TextRuns.{keeping, faulty, run_faulty, text_run-append}

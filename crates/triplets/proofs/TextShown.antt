@@ -1,35 +1,22 @@
 -- Which faults a text shows that may go on.
-use Rattle.std.proofs.Common.{◌≡◌, ◌≢◌, ℕ, zero, suc, ◌+◌, ◌-◌, ◌*◌, ◌<◌, ◌≤◌, Bool, true, false, cond, List, [], ◌∷◌, ◌++◌, length, get_or, take, drop, Option, Some, None, Result, Ok, Err, refl, sym, ◌∙◌, ap, subst, arith, inl, inr, ◌⊎◌, append_assoc, length-append, add-one}
-use Rattle.std.specs.Prelude.{slice_get, ◌==◌, IfOk, IfErr}
-use Rattle.std.proofs.lemmas.Bool.Decides.{eqb_tells}
-use Rattle.std.proofs.Math.Seq.{take-length, take-append_seam, take-append-add}
+use Rattle.std.proofs.Common.{◌≡◌, ◌≢◌, ℕ, zero, suc, ◌+◌, Bool, true, false, cond, List, [], ◌∷◌, ◌++◌, length, take, drop, Option, Some, None, Result, Ok, Err, refl, sym, ◌∙◌, ap, subst, arith, inl, inr, append_assoc, length-append, add-one}
+use Rattle.std.specs.Prelude.{◌==◌}
 use Rattle.std.proofs.lemmas.List.{append-nil, take-append-drop}
-use Rattle.std.proofs.lemmas.Option.{slice_get_past}
 use Rattle.symmetry.specs.Vectors.{Vector}
 use Rattle.symmetry.specs.Groups.{Listing}
-use Rattle.symmetry.specs.Motions.{Motion}
-use Rattle.motions.specs.Views.{motion_of, parts}
-use Rattle.triplets.specs.Rows.{motion_with, motion3_with, parts_with}
 use Rattle.triplets.specs.declared.fault.TextKind.{TextKind}
 use Rattle.triplets.specs.declared.fault.TextKind.TheVariants as kinds
 use Rattle.motions.specs.declared.motion.Motion3.{Motion3}
-use Rattle.fractions.specs.declared.part.Part.{Part}
 use Rattle.triplets.specs.declared.line.LinePlace.{LinePlace}
-use Rattle.triplets.specs.declared.line.LinePlace.TheVariants as places
-use Rattle.triplets.specs.declared.fault.TextFault.{TextFault}
-use Rattle.triplets.specs.declared.fault.TextFault.TheVariants as faults
-use Rattle.motions.specs.declared.listed.Listed.{Listed}
 use Rattle.triplets.specs.Marks.{mark}
 use Rattle.triplets.specs.Lines.{IsLine}
-use Rattle.triplets.specs.LineReading.{LineState, line_start, line_step, line_advance, line_run, line_value, place_step, completed, with_vector, ending, operations_of, at_place, listing_by}
-use Rattle.triplets.specs.LineFaults.{IsGoodLine, IsPrefixOfGoodLine, IsLinePlace, IsLineFault, HasLineKind, HasLineKindAt}
-use Rattle.triplets.specs.Texts.{with_front, lines_of, nothing_listed, listed_then, AreLines, IsGroupText, IsFirstBad, Fault, IsTextFault, IsFirstShown, IsShownFault}
-use Rattle.triplets.specs.TextReading.{Kept, kept_start, byte_step, moved, new_line, ended, finished, fault_here, with_operation, text_advance, text_run, outcome, group_of, Gives, Refuses}
-use Rattle.triplets.proofs.TextRuns.{keeping, faulty, run_faulty, text_run-append}
-use Rattle.triplets.proofs.LineBegun.{line_going, line_stopped, lists, lists_nothing, line_run-append, run_line_stopped}
-use Rattle.triplets.proofs.LineEnds.{is_line, is_line_prefix}
-use Rattle.triplets.proofs.LineRuns.{IsLineRead, is_line_read}
-use Rattle.triplets.proofs.LineKinds.{line_kind}
+use Rattle.triplets.specs.LineReading.{LineState, line_start, line_step, line_run, place_step, completed, with_vector, ending, operations_of, at_place}
+use Rattle.triplets.specs.LineFaults.{IsGoodLine, IsPrefixOfGoodLine}
+use Rattle.triplets.specs.Texts.{with_front, lines_of, nothing_listed, listed_then, IsFirstBad, Fault, IsTextFault, IsFirstShown, IsShownFault}
+use Rattle.triplets.specs.TextReading.{Kept, kept_start, moved, new_line, ended, finished, fault_here, text_run}
+use Rattle.triplets.proofs.TextRuns.{keeping, faulty, run_faulty}
+use Rattle.triplets.proofs.LineBegun.{line_going, line_stopped}
+use Rattle.triplets.proofs.LineEnds.{is_line_prefix}
 use Rattle.triplets.proofs.LinePlaces.{byte_fault, good_line_prefix}
 use Rattle.triplets.proofs.TextEnds.{InLine, make_listing, a_line, bad_line, front_nil, front_front, at_next_line, next_line, at_next_byte, next_byte}
 

@@ -1,14 +1,12 @@
 -- A triplet is read with its value, what is read is a triplet, and what is read without a fault goes on to one.
-use Rattle.std.proofs.Common.{◌≡◌, ℕ, suc, ◌+◌, ◌-◌, ◌*◌, ◌<◌, ◌≤◌, Bool, true, false, cond, List, [], ◌∷◌, ◌++◌, length, Option, Some, None, Result, Ok, Err, refl, sym, ◌∙◌, ap, subst, arith, inl, inr, ◌⊎◌, append_assoc, length-append}
+use Rattle.std.proofs.Common.{◌≡◌, ℕ, List, [], ◌∷◌, ◌++◌, Option, Some, None, Result, Ok, Err, refl, sym, ◌∙◌, ap, subst, arith, append_assoc}
 use Rattle.std.proofs.lemmas.List.{append-nil}
 use Rattle.triplets.specs.declared.denominator.Denominator.TheVariants.{One}
 use Rattle.triplets.specs.declared.fault.TextKind.{TextKind}
-use Rattle.triplets.specs.declared.fault.TextKind.TheVariants as kinds
 use Rattle.triplets.specs.declared.marks.Mark.{Mark}
 use Rattle.triplets.specs.declared.marks.Mark.TheVariants as marks
 use Rattle.triplets.specs.declared.part.Row.{Row}
 use Rattle.triplets.specs.declared.part.PartReader.{PartReader}
-use Rattle.triplets.specs.declared.triplet.Nth.{Nth}
 use Rattle.triplets.specs.declared.triplet.Nth.TheVariants.{First, Second, Third}
 use Rattle.motions.specs.declared.motion.Motion3.{Motion3}
 use Rattle.motions.specs.Views.{motion_of}
@@ -17,13 +15,13 @@ use Rattle.triplets.specs.declared.triplet.TripletReader.{TripletReader}
 use Rattle.triplets.specs.Marks.{mark}
 use Rattle.triplets.specs.Rows.{zero_row, motion3_with, motion_with}
 use Rattle.triplets.specs.PartReading.{begin, settled, part_step}
-use Rattle.triplets.specs.TripletReading.{start, with_part, in_part, next_part, comma_at, on_comma, early_comma, value_at, value, step, advance, run}
-use Rattle.triplets.specs.Grammar.{Digit, Numerator, Term, letter, multiple, whole, fraction, Lead, bare, sign, more, lead_text, IsLead, Written, part_text, part_row, IsTriplet}
+use Rattle.triplets.specs.TripletReading.{start, with_part, in_part, next_part, comma_at, value_at, value, step, advance, run}
+use Rattle.triplets.specs.Grammar.{Digit, Numerator, whole, fraction, bare, Written, part_text, part_row, IsTriplet}
 use Rattle.triplets.specs.Faults.{IsGood, IsPrefixOfGood}
 use Rattle.triplets.proofs.Bytes.{IsMark, mark_is}
-use Rattle.triplets.proofs.PartRuns.{part_advance, run_part, after_state, behind_state}
+use Rattle.triplets.proofs.PartRuns.{run_part, after_state}
 use Rattle.triplets.proofs.Written.{written_run, settled_after}
-use Rattle.triplets.proofs.Partials.{Partial, lead, digits, divided, below, behind, partial_text, partial_state, Grows, fine, grows_by, some_part, whole_part}
+use Rattle.triplets.proofs.Partials.{Partial, lead, digits, divided, below, behind, partial_text, partial_state, fine, grows_by, whole_part}
 
 -- ---- runs
 

@@ -1,27 +1,23 @@
 -- What is written in the grammar is read, with its value.
-use Rattle.std.proofs.Common.{◌≡◌, ℕ, ◌+◌, ◌-◌, ◌*◌, ◌<◌, ◌≤◌, Bool, true, false, cond, List, [], ◌∷◌, ◌++◌, length, Option, Some, None, Result, Ok, Err, refl, sym, ◌∙◌, ap, arith}
+use Rattle.std.proofs.Common.{◌≡◌, ℕ, ◌+◌, ◌*◌, ◌<◌, ◌≤◌, Bool, false, cond, List, [], ◌∷◌, ◌++◌, length, Some, Result, Ok, Err, refl, ◌∙◌, ap, arith}
 use Rattle.std.specs.Prelude.{nat_le, nat_lt, ◌==◌, ◌&&◌}
 use Rattle.std.proofs.lemmas.Bool.Decides.{nat_tests}
 use Rattle.triplets.specs.declared.marks.Axis.{Axis}
 use Rattle.motions.specs.declared.motion.Sign.{Sign}
-use Rattle.motions.specs.declared.motion.Sign.TheVariants.{Plus, Minus}
 use Rattle.triplets.specs.declared.denominator.Denominator.{Denominator}
 use Rattle.triplets.specs.declared.denominator.Denominator.TheVariants.{One, Two, Three, Four, Six, Eight, Twelve, TwentyFour}
 use Rattle.triplets.specs.declared.fault.TextKind.{TextKind}
 use Rattle.triplets.specs.declared.fault.TextKind.TheVariants as kinds
 use Rattle.triplets.specs.declared.part.Row.{Row}
 use Rattle.triplets.specs.declared.part.Used.{Used}
-use Rattle.triplets.specs.declared.marks.Mark.{Mark}
-use Rattle.triplets.specs.declared.marks.Mark.TheVariants as marks
 use Rattle.triplets.specs.declared.part.PartReader.{PartReader}
-use Rattle.triplets.specs.declared.part.Spot.{Spot}
 use Rattle.triplets.specs.declared.part.Spot.TheVariants.{Begin, Signed, Digits, Divided, Below, Behind}
 use Rattle.triplets.specs.Rows.{uses}
 use Rattle.triplets.specs.Denominators.{denominator_text}
-use Rattle.triplets.specs.PartReading.{begin, part_step, settled, on_blank, on_sign, on_letter, on_digit, on_digit_at, on_new_letter_at, with_letter, with_sign, with_spot}
-use Rattle.triplets.specs.Grammar.{Blank, space, tab, carriage_return, blanks_text, sign_byte, letter_byte, Digit, digit_value, digits_text, decimal, Numerator, numerator_text, numerator_value, Term, letter, multiple, whole, fraction, term_text, IsNew, Lead, bare, sign, more, lead_text, lead_row, lead_sign, lead_letters, IsLead, Written, part_text, part_row, with_term}
+use Rattle.triplets.specs.PartReading.{begin, part_step, settled, on_blank, on_sign, on_digit, on_digit_at, on_new_letter_at, with_letter, with_sign, with_spot}
+use Rattle.triplets.specs.Grammar.{Blank, space, tab, carriage_return, blanks_text, sign_byte, letter_byte, Digit, digit_value, digits_text, decimal, Numerator, numerator_text, numerator_value, Term, letter, multiple, whole, fraction, term_text, IsNew, Lead, bare, sign, more, lead_text, lead_row, lead_sign, lead_letters, IsLead, Written, part_text}
 use Rattle.triplets.proofs.Bytes.{mark_sign, mark_letter, mark_digit}
-use Rattle.triplets.proofs.PartRuns.{part_advance, run_part, run_part-append, run_then, lead_spot, state, lead_state, behind_state, term_state, after_state}
+use Rattle.triplets.proofs.PartRuns.{part_advance, run_part, run_then, lead_spot, state, lead_state, behind_state, term_state, after_state}
 
 -- blanks change nothing before a term, and behind one
 

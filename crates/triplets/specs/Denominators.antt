@@ -1,5 +1,5 @@
 -- The denominators that may be written.
-use Rattle.std.specs.Prelude.{◌≡◌, ℕ, List, [], ◌∷◌, ◌==◌, if◌then◌else◌, Option, Some, None, ◌/◌, unsigned_abs}
+use Rattle.std.specs.Prelude.{ℕ, List, [], ◌∷◌, ◌==◌, if◌then◌else◌, Option, Some, None, ◌/◌, unsigned_abs}
 use Rattle.fractions.specs.declared.part.TheConstants.{UNIT}
 use Rattle.triplets.specs.declared.denominator.Denominator.{Denominator}
 use Rattle.triplets.specs.declared.denominator.Denominator.TheVariants.{One, Two, Three, Four, Six, Eight, Twelve, TwentyFour}

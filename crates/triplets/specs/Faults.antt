@@ -1,5 +1,6 @@
 -- The place and the kind of a fault.
-use Rattle.std.specs.Prelude.{◌≡◌, ◌⊎◌, ℕ, ◌+◌, ◌-◌, ◌<◌, ◌≤◌, ◌==◌, ◌&&◌, ◌||◌, nat_le, Bool, true, false, if◌then◌else◌, IsTrue, List, [], ◌∷◌, ◌++◌, length, take, slice_get, Option, Some, None}
+use Rattle.std.specs.Prelude.{◌≡◌, ◌⊎◌, ℕ, ◌+◌, ◌<◌, ◌≤◌, ◌==◌, ◌&&◌, ◌||◌, nat_le, Bool, true, false, if◌then◌else◌, IsTrue, List, [], ◌∷◌, ◌++◌, length, take, slice_get, Option, Some, None}
+use Rattle.triplets.specs.Bytes.{comma, hash, slash}
 use Rattle.triplets.specs.declared.marks.Axis.{Axis}
 use Rattle.triplets.specs.declared.marks.Axis.TheVariants.{X, Y, Z}
 use Rattle.triplets.specs.declared.fault.TextKind.{TextKind}
@@ -7,9 +8,11 @@ use Rattle.triplets.specs.declared.fault.TextKind.TheVariants as kinds
 use Rattle.symmetry.specs.Motions.{Motion}
 use Rattle.triplets.specs.Grammar.{IsTriplet}
 
+-- the bytes are a triplet
 abbrev pub IsGood : List ℕ → Type 0
 IsGood bytes = (value : Motion) × IsTriplet bytes value
 
+-- they are the beginning of one
 abbrev pub IsPrefixOfGood : List ℕ → Type 0
 IsPrefixOfGood bytes = (more : List ℕ) × IsGood (bytes ++ more)
 
@@ -22,12 +25,15 @@ pub record IsPlace (bytes : List ℕ) (before : ℕ) : Type 0 where
 
 -- Words on what stands before a place.
 
+-- 0 to 9
 abbrev pub is_digit : ℕ → Bool
 is_digit b = nat_le 48 b && nat_le b 57
 
+-- space, tab and CR
 abbrev pub is_blank : ℕ → Bool
 is_blank b = b == 32 || (b == 9 || b == 13)
 
+-- the letter, small or capital
 abbrev pub is_letter : Axis → ℕ → Bool
 is_letter X b = b == 120 || b == 88
 is_letter Y b = b == 121 || b == 89
@@ -51,34 +57,38 @@ digits_at_end n (b ∷ bs) = digits_at_end (if is_digit b then n + 1 else 0) bs
 -- whether a letter stands behind the last comma; before the text it does if h
 abbrev pub stands : Axis → Bool → List ℕ → Bool
 stands a h [] = h
-stands a h (b ∷ bs) = stands a (if b == 44 then false else (if is_letter a b then true else h)) bs
+stands a h (b ∷ bs) = stands a (if b == comma then false else (if is_letter a b then true else h)) bs
 
 -- The table: the first row that applies.
-abbrev pub Row : Type 0 → TextKind → TextKind → Type 0 → Type 0
-Row applies named kind otherwise = (applies × (kind ≡ named)) ⊎ ((applies → ⊥) × otherwise)
+abbrev pub TableRow : Type 0 → TextKind → TextKind → Type 0 → Type 0
+TableRow applies named kind otherwise = (applies × (kind ≡ named)) ⊎ ((applies → ⊥) × otherwise)
 
+-- a letter that stands in this part already
 abbrev pub IsRepeated : List ℕ → ℕ → Type 0
 IsRepeated before b = (a : Axis) × IsTrue (is_letter a b) × IsTrue (stands a false before)
 
+-- x, y or z, small or capital
 abbrev pub IsLetter : ℕ → Type 0
 IsLetter b = (a : Axis) × IsTrue (is_letter a b)
 
 -- the kind at the byte b
 abbrev pub HasKind : List ℕ → ℕ → TextKind → Type 0
 HasKind before b kind =
-    Row ((b ≡ 35) × ¬ IsGood before) kinds.MissingPart kind (
-    Row ((b ≡ 44) × IsGood before) kinds.ExtraPart kind (
-    Row ((b ≡ 44) × (last_mark 44 before ≡ 44)) kinds.Empty kind (
-    Row (IsRepeated before b) kinds.Repeated kind (
-    Row (IsLetter b × (1 ≤ digits_at_end 0 before)) kinds.Coefficient kind (
-    Row (IsTrue (is_digit b) × (last_other 0 before ≡ 47)) kinds.Denominator kind (
-    Row (IsTrue (is_digit b) × (3 ≤ digits_at_end 0 before)) kinds.Coefficient kind (
+    TableRow ((b ≡ hash) × ¬ IsGood before) kinds.MissingPart kind (
+    TableRow ((b ≡ comma) × IsGood before) kinds.ExtraPart kind (
+    TableRow ((b ≡ comma) × (last_mark comma before ≡ comma)) kinds.Empty kind (
+    TableRow (IsRepeated before b) kinds.Repeated kind (
+    TableRow (IsLetter b × (1 ≤ digits_at_end 0 before)) kinds.Coefficient kind (
+    TableRow (IsTrue (is_digit b) × (last_other 0 before ≡ slash)) kinds.Denominator kind (
+    TableRow (IsTrue (is_digit b) × (3 ≤ digits_at_end 0 before)) kinds.Coefficient kind (
     kind ≡ kinds.UnknownSign)))))))
 
+-- where no byte stands at the place, the text ends too early
 abbrev pub HasKindAt : List ℕ → Option ℕ → TextKind → Type 0
 HasKindAt before None kind = kind ≡ kinds.MissingPart
 HasKindAt before (Some b) kind = HasKind before b kind
 
+-- the place of the fault, counted from 0, and its kind
 pub record IsFault (bytes : List ℕ) (before : ℕ) (kind : TextKind) : Type 0 where
   pub place : IsPlace bytes before
   pub kind_is : HasKindAt (take before bytes) (slice_get bytes before) kind

@@ -1,5 +1,6 @@
 -- The grammar of a triplet: what is written, how it is spelled, and what it means.
-use Rattle.std.specs.Prelude.{◌≡◌, ℕ, suc, ◌+◌, ◌-◌, ◌*◌, ◌≤◌, Bool, true, false, List, [], ◌∷◌, ◌++◌, map, length}
+use Rattle.std.specs.Prelude.{◌≡◌, ℕ, ◌+◌, ◌-◌, ◌*◌, ◌≤◌, Bool, true, false, List, [], ◌∷◌, ◌++◌, map, length}
+use Rattle.triplets.specs.Bytes.{comma, slash}
 use Rattle.triplets.specs.declared.marks.Axis.{Axis}
 use Rattle.triplets.specs.declared.marks.Axis.TheVariants.{X, Y, Z}
 use Rattle.motions.specs.declared.motion.Sign.{Sign}
@@ -11,19 +12,23 @@ use Rattle.symmetry.specs.Motions.{Motion}
 use Rattle.triplets.specs.Rows.{zero_row, unused, with_entry, with_shift, signed, uses, with_used, motion_with}
 use Rattle.triplets.specs.Denominators.{unit, parts, denominator_text}
 
+-- a byte that may stand between the words
 pub data Blank : Type 0 where
   space : Blank
   tab : Blank
   carriage_return : Blank
 
+-- as it is written
 abbrev pub blank_byte : Blank → ℕ
 blank_byte space = 32
 blank_byte tab = 9
 blank_byte carriage_return = 13
 
+-- blanks as they are written
 abbrev pub blanks_text : List Blank → List ℕ
 blanks_text = map blank_byte
 
+-- a sign as it is written
 abbrev pub sign_byte : Sign → ℕ
 sign_byte Plus = 43
 sign_byte Minus = 45
@@ -37,14 +42,17 @@ letter_byte Y true = 89
 letter_byte Z false = 122
 letter_byte Z true = 90
 
+-- a digit as it is written
 pub record Digit : Type 0 where
   pub byte : ℕ
   pub low : 48 ≤ byte
   pub high : byte ≤ 57
 
+-- what it is
 abbrev pub digit_value : Digit → ℕ
 digit_value d = d.byte - 48
 
+-- digits as they are written
 abbrev pub digits_text : List Digit → List ℕ
 digits_text = map (λ d. d.byte)
 
@@ -59,9 +67,11 @@ pub record Numerator : Type 0 where
   pub others : List Digit
   pub short : length others ≤ 2
 
+-- a numerator as it is written
 abbrev pub numerator_text : Numerator → List ℕ
 numerator_text n = n.first.byte ∷ digits_text n.others
 
+-- what it is
 abbrev pub numerator_value : Numerator → ℕ
 numerator_value n = decimal (digit_value n.first) n.others
 
@@ -72,11 +82,12 @@ pub data Term : Type 0 where
   whole : Numerator → Term
   fraction : Numerator → Denominator → Term
 
+-- a term as it is written
 abbrev pub term_text : Term → List ℕ
 term_text (letter a c) = letter_byte a c ∷ []
 term_text (multiple d _ a c) = d.byte ∷ letter_byte a c ∷ []
 term_text (whole n) = numerator_text n
-term_text (fraction n d) = numerator_text n ++ 47 ∷ denominator_text d
+term_text (fraction n d) = numerator_text n ++ slash ∷ denominator_text d
 
 -- the row with the term added
 abbrev pub with_term : Sign → Term → Row → Row
@@ -103,6 +114,7 @@ pub data Lead : Type 0 where
   sign : List Blank → Sign → List Blank → Lead
   more : Lead → Term → List Blank → Sign → List Blank → Lead
 
+-- as it is written
 abbrev pub lead_text : Lead → List ℕ
 lead_text (bare bs) = blanks_text bs
 lead_text (sign bs s cs) = blanks_text bs ++ sign_byte s ∷ blanks_text cs
@@ -114,11 +126,13 @@ lead_sign (bare bs) = Plus
 lead_sign (sign bs s cs) = s
 lead_sign (more l t bs s cs) = s
 
+-- the value of the terms in it
 abbrev pub lead_row : Lead → Row
 lead_row (bare bs) = zero_row
 lead_row (sign bs s cs) = zero_row
 lead_row (more l t bs s cs) = with_term (lead_sign l) t (lead_row l)
 
+-- the letters that stand in it
 abbrev pub lead_letters : Lead → Used
 lead_letters (bare bs) = unused
 lead_letters (sign bs s cs) = unused
@@ -138,9 +152,11 @@ pub record Written : Type 0 where
   pub good : IsLead lead
   pub new : IsNew last (lead_letters lead)
 
+-- a part as it is written
 abbrev pub part_text : Written → List ℕ
 part_text w = lead_text w.lead ++ (term_text w.last ++ blanks_text w.after)
 
+-- its value: a row of W, and an entry of w
 abbrev pub part_row : Written → Row
 part_row w = with_term (lead_sign w.lead) w.last (lead_row w.lead)
 
@@ -149,5 +165,5 @@ pub record IsTriplet (bytes : List ℕ) (value : Motion) : Type 0 where
   pub one : Written
   pub two : Written
   pub three : Written
-  pub text : bytes ≡ part_text one ++ (44 ∷ (part_text two ++ (44 ∷ part_text three)))
+  pub text : bytes ≡ part_text one ++ (comma ∷ (part_text two ++ (comma ∷ part_text three)))
   pub rows : value ≡ motion_with (part_row one) (part_row two) (part_row three)

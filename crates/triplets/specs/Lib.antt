@@ -1,3 +1,4 @@
+pub mod Bytes
 pub mod Marks
 pub mod Denominators
 pub mod Rows
@@ -8,8 +9,9 @@ pub mod TripletReading
 pub mod Lines
 pub mod LineFaults
 pub mod LineReading
-pub mod Sizes
 pub mod Texts
 pub mod TextAnswers
 pub mod PlaceBounds
 pub mod TextReading
+pub mod Writing
+pub mod Writable

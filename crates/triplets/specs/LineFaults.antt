@@ -1,19 +1,23 @@
 -- The place and the kind of the fault of a line.
-use Rattle.std.specs.Prelude.{◌≡◌, ◌⊎◌, ℕ, ◌+◌, ◌-◌, ◌<◌, ◌≤◌, ◌==◌, ◌&&◌, ◌||◌, Bool, true, false, if◌then◌else◌, IsTrue, List, [], ◌∷◌, ◌++◌, length, take, slice_get, Option, Some, None}
+use Rattle.std.specs.Prelude.{◌≡◌, ◌⊎◌, ℕ, ◌+◌, ◌<◌, ◌≤◌, ◌==◌, ◌||◌, Bool, true, false, if◌then◌else◌, IsTrue, List, [], ◌∷◌, ◌++◌, length, take, slice_get, Option, Some, None}
+use Rattle.triplets.specs.Bytes.{comma, hash, slash, opening, closing}
 use Rattle.triplets.specs.declared.marks.Axis.{Axis}
 use Rattle.triplets.specs.declared.marks.Axis.TheVariants.{X, Y, Z}
 use Rattle.triplets.specs.declared.fault.TextKind.{TextKind}
 use Rattle.triplets.specs.declared.fault.TextKind.TheVariants as kinds
-use Rattle.triplets.specs.Faults.{is_digit, is_blank, is_letter, last_mark, last_other, digits_at_end, Row, IsLetter}
+use Rattle.triplets.specs.Faults.{is_digit, is_letter, last_mark, last_other, digits_at_end, TableRow, IsLetter}
 use Rattle.symmetry.specs.Groups.{Listing}
 use Rattle.triplets.specs.Lines.{IsLine}
 
+-- the bytes are a line of the grammar
 abbrev pub IsGoodLine : List ℕ → Type 0
 IsGoodLine bytes = (listing : Listing) × IsLine bytes listing
 
+-- they are the beginning of one
 abbrev pub IsPrefixOfGoodLine : List ℕ → Type 0
 IsPrefixOfGoodLine bytes = (rest : List ℕ) × IsGoodLine (bytes ++ rest)
 
+-- what stands before is the beginning of a good line, and with the byte at the place, if there is one, it is not
 pub record IsLinePlace (bytes : List ℕ) (before : ℕ) : Type 0 where
   pub within : before ≤ length bytes
   pub good : ¬ IsGoodLine bytes
@@ -23,17 +27,17 @@ pub record IsLinePlace (bytes : List ℕ) (before : ℕ) : Type 0 where
 -- the last bracket; n if there is none
 abbrev pub last_bracket : ℕ → List ℕ → ℕ
 last_bracket n [] = n
-last_bracket n (b ∷ bs) = last_bracket (if b == 40 || b == 41 then b else n) bs
+last_bracket n (b ∷ bs) = last_bracket (if b == opening || b == closing then b else n) bs
 
 -- how many commas stand behind the last opening bracket, with n before the text
 abbrev pub commas : ℕ → List ℕ → ℕ
 commas n [] = n
-commas n (b ∷ bs) = commas (if b == 40 then 0 else (if b == 44 then n + 1 else n)) bs
+commas n (b ∷ bs) = commas (if b == opening then 0 else (if b == comma then n + 1 else n)) bs
 
 -- whether a letter stands behind the last comma or bracket
 abbrev pub line_stands : Axis → Bool → List ℕ → Bool
 line_stands a h [] = h
-line_stands a h (b ∷ bs) = line_stands a (if b == 44 || (b == 40 || b == 41) then false else (if is_letter a b then true else h)) bs
+line_stands a h (b ∷ bs) = line_stands a (if b == comma || (b == opening || b == closing) then false else (if is_letter a b then true else h)) bs
 
 -- a part or a coordinate is complete, but for blanks: its last mark is a letter or a digit
 abbrev pub is_end_of_part : ℕ → Bool
@@ -41,24 +45,27 @@ is_end_of_part b = is_digit b || (is_letter X b || (is_letter Y b || is_letter Z
 
 -- nothing of a part or a coordinate but blanks: before it stands nothing, a comma, the bracket of a vector, or that of a label
 abbrev pub IsFresh : List ℕ → Type 0
-IsFresh before = (last_mark 44 before ≡ 44) ⊎ ((last_mark 44 before ≡ 40) ⊎ ((last_mark 44 before ≡ 41) × (commas 0 before ≡ 0)))
+IsFresh before = (last_mark comma before ≡ comma) ⊎ ((last_mark comma before ≡ opening) ⊎ ((last_mark comma before ≡ closing) × (commas 0 before ≡ 0)))
 
+-- the table of kinds: the first row that applies
 abbrev pub HasLineKind : List ℕ → ℕ → TextKind → Type 0
 HasLineKind before b kind =
-    Row (b ≡ 35) kinds.MissingPart kind (
-    Row ((b ≡ 41) × (last_bracket 0 before ≡ 40) × IsTrue (is_digit (last_mark 44 before))) kinds.MissingPart kind (
-    Row ((b ≡ 44) × (commas 0 before ≡ 2) × IsTrue (is_end_of_part (last_mark 44 before))) kinds.ExtraPart kind (
-    Row ((b ≡ 44) × IsFresh before) kinds.Empty kind (
-    Row ((a : Axis) × IsTrue (is_letter a b) × IsTrue (line_stands a false before)) kinds.Repeated kind (
-    Row (IsLetter b × (1 ≤ digits_at_end 0 before)) kinds.Coefficient kind (
-    Row (IsTrue (is_digit b) × (last_other 0 before ≡ 47)) kinds.Denominator kind (
-    Row (IsTrue (is_digit b) × (3 ≤ digits_at_end 0 before)) kinds.Coefficient kind (
+    TableRow (b ≡ hash) kinds.MissingPart kind (
+    TableRow ((b ≡ closing) × (last_bracket 0 before ≡ opening) × IsTrue (is_digit (last_mark comma before))) kinds.MissingPart kind (
+    TableRow ((b ≡ comma) × (commas 0 before ≡ 2) × IsTrue (is_end_of_part (last_mark comma before))) kinds.ExtraPart kind (
+    TableRow ((b ≡ comma) × IsFresh before) kinds.Empty kind (
+    TableRow ((a : Axis) × IsTrue (is_letter a b) × IsTrue (line_stands a false before)) kinds.Repeated kind (
+    TableRow (IsLetter b × (1 ≤ digits_at_end 0 before)) kinds.Coefficient kind (
+    TableRow (IsTrue (is_digit b) × (last_other 0 before ≡ slash)) kinds.Denominator kind (
+    TableRow (IsTrue (is_digit b) × (3 ≤ digits_at_end 0 before)) kinds.Coefficient kind (
     kind ≡ kinds.UnknownSign))))))))
 
+-- where no byte stands at the place, the line ends too early
 abbrev pub HasLineKindAt : List ℕ → Option ℕ → TextKind → Type 0
 HasLineKindAt before None kind = kind ≡ kinds.MissingPart
 HasLineKindAt before (Some b) kind = HasLineKind before b kind
 
+-- the place of the fault, counted from 0, and its kind
 pub record IsLineFault (bytes : List ℕ) (before : ℕ) (kind : TextKind) : Type 0 where
   pub place : IsLinePlace bytes before
   pub kind_is : HasLineKindAt (take before bytes) (slice_get bytes before) kind

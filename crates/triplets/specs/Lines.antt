@@ -1,9 +1,9 @@
 -- The grammar of a line.
-use Rattle.std.specs.Prelude.{◌≡◌, ℕ, suc, ◌+◌, ◌-◌, ◌*◌, ◌≤◌, ℤ, Bool, true, false, List, [], ◌∷◌, ◌++◌, map, length, Option, Some, None}
-use Rattle.triplets.specs.declared.denominator.Denominator.{Denominator}
+use Rattle.std.specs.Prelude.{◌≡◌, ℕ, ℤ, List, [], ◌∷◌, ◌++◌, Option, Some, None}
+use Rattle.triplets.specs.Bytes.{opening, closing, comma, plus_sign, hash}
 use Rattle.symmetry.specs.Vectors.{Vector}
 use Rattle.symmetry.specs.Groups.{Listing}
-use Rattle.triplets.specs.Grammar.{Blank, blanks_text, Digit, Numerator, numerator_text, Term, letter, multiple, whole, fraction, Lead, bare, sign, more, Written, part_text, part_row}
+use Rattle.triplets.specs.Grammar.{Blank, blanks_text, Numerator, numerator_text, Term, letter, multiple, whole, fraction, Lead, bare, sign, more, Written, part_text, part_row}
 use Rattle.triplets.specs.Rows.{motion_with}
 
 -- at most a sign
@@ -12,6 +12,7 @@ IsFirst (bare bs) = Unit {0}
 IsFirst (sign bs s cs) = Unit {0}
 IsFirst (more l t bs s cs) = ⊥
 
+-- the term is a number
 abbrev pub IsNumber : Term → Type 0
 IsNumber (letter a c) = ⊥
 IsNumber (multiple d h a c) = ⊥
@@ -24,9 +25,11 @@ pub record Coordinate : Type 0 where
   pub first : IsFirst part.lead
   pub number : IsNumber part.last
 
+-- as it is written
 abbrev pub coordinate_text : Coordinate → List ℕ
 coordinate_text c = part_text c.part
 
+-- how many parts it is
 abbrev pub coordinate_value : Coordinate → ℤ
 coordinate_value c = (part_row c.part).shift
 
@@ -38,9 +41,11 @@ pub record Centring : Type 0 where
   pub three : Coordinate
   pub between : List Blank
 
+-- as it is written
 abbrev pub centring_text : Centring → List ℕ
-centring_text v = blanks_text v.before ++ (40 ∷ (coordinate_text v.one ++ (44 ∷ (coordinate_text v.two ++ (44 ∷ (coordinate_text v.three ++ (41 ∷ (blanks_text v.between ++ 43 ∷ []))))))))
+centring_text v = blanks_text v.before ++ (opening ∷ (coordinate_text v.one ++ (comma ∷ (coordinate_text v.two ++ (comma ∷ (coordinate_text v.three ++ (closing ∷ (blanks_text v.between ++ plus_sign ∷ []))))))))
 
+-- the vector
 abbrev pub centring_value : Centring → Vector
 centring_value v = record { x = coordinate_value v.one; y = coordinate_value v.two; z = coordinate_value v.three }
 
@@ -49,10 +54,12 @@ pub data Centrings : Type 0 where
   one : Centring → Centrings
   further : Centrings → Centring → Centrings
 
+-- as they are written
 abbrev pub centrings_text : Centrings → List ℕ
 centrings_text (one v) = centring_text v
 centrings_text (further vs v) = centrings_text vs ++ centring_text v
 
+-- the vectors in their order
 abbrev pub centrings_value : Centrings → List Vector
 centrings_value (one v) = centring_value v ∷ []
 centrings_value (further vs v) = centrings_value vs ++ centring_value v ∷ []
@@ -62,9 +69,10 @@ pub record Label : Type 0 where
   pub before : List Blank
   pub number : Numerator
 
+-- as it is written
 abbrev pub label_text : Option Label → List ℕ
 label_text None = []
-label_text (Some l) = blanks_text l.before ++ (40 ∷ (numerator_text l.number ++ 41 ∷ []))
+label_text (Some l) = blanks_text l.before ++ (opening ∷ (numerator_text l.number ++ closing ∷ []))
 
 -- the form of a line
 pub data Form : Type 0 where
@@ -72,9 +80,10 @@ pub data Form : Type 0 where
   operation : Option Label → Written → Written → Written → Form
   row : Centrings → List Blank → Form
 
+-- as it is written
 abbrev pub form_text : Form → List ℕ
 form_text (empty bs) = blanks_text bs
-form_text (operation l v w x) = label_text l ++ (part_text v ++ (44 ∷ (part_text w ++ (44 ∷ part_text x))))
+form_text (operation l v w x) = label_text l ++ (part_text v ++ (comma ∷ (part_text w ++ (comma ∷ part_text x))))
 form_text (row vs bs) = centrings_text vs ++ blanks_text bs
 
 -- what it lists
@@ -83,9 +92,10 @@ form_value (empty bs) = record { ops = []; centrings = [] }
 form_value (operation l v w x) = record { ops = motion_with (part_row v) (part_row w) (part_row x) ∷ []; centrings = [] }
 form_value (row vs bs) = record { ops = []; centrings = centrings_value vs }
 
+-- a comment as it is written
 abbrev pub comment_text : Option (List ℕ) → List ℕ
 comment_text None = []
-comment_text (Some bs) = 35 ∷ bs
+comment_text (Some bs) = hash ∷ bs
 
 -- a line and what it says
 pub record IsLine (bytes : List ℕ) (listing : Listing) : Type 0 where

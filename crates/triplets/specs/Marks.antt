@@ -1,12 +1,11 @@
 -- What a byte means.
-use Rattle.std.specs.Prelude.{◌≡◌, ℕ, ◌-◌, ◌<◌, ◌&&◌, ◌==◌, nat_le, if◌then◌else◌}
-use Rattle.triplets.specs.declared.marks.Axis.{Axis}
+use Rattle.std.specs.Prelude.{ℕ, ◌-◌, ◌<◌, ◌&&◌, ◌==◌, nat_le, if◌then◌else◌}
 use Rattle.triplets.specs.declared.marks.Axis.TheVariants.{X, Y, Z}
-use Rattle.motions.specs.declared.motion.Sign.{Sign}
 use Rattle.motions.specs.declared.motion.Sign.TheVariants.{Plus, Minus}
 use Rattle.triplets.specs.declared.marks.Mark.{Mark}
 use Rattle.triplets.specs.declared.marks.Mark.TheVariants.{Blank, Signs, Letter, Digit, Slash, Comma, Hash, Open, Close, Other}
 
+-- the mark of a byte
 abbrev pub mark : ℕ → Mark
 mark b =
     if nat_le 48 b && nat_le b 57 then Digit (b - 48) else (

@@ -22,9 +22,11 @@ IsSpotWithin Begin = Unit {0}
 IsSpotWithin Signed = Unit {0}
 IsSpotWithin Behind = Unit {0}
 
+-- what is kept of a part after n bytes
 abbrev pub IsPartWithin : ℕ → PartReader → Type 0
 IsPartWithin n p = IsRowWithin n p.row × IsSpotWithin p.spot
 
+-- what is kept of a line after n bytes
 abbrev pub IsPlaceWithin : ℕ → LinePlace → Type 0
 IsPlaceWithin n (places.Operation t) = IsPartWithin n t.part
 IsPlaceWithin n (places.Coordinates v) = IsPartWithin n v.part

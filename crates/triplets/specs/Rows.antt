@@ -1,5 +1,5 @@
 -- The value of a part, and the letters that stand in it.
-use Rattle.std.specs.Prelude.{◌≡◌, ℕ, ◌<◌, ℤ, pos, neg_ℤ, ◌+ℤ◌, ◌≤ℤ◌, ◌^◌, Bool, true, false, List, [], ◌∷◌}
+use Rattle.std.specs.Prelude.{ℕ, ℤ, pos, neg_ℤ, ◌+ℤ◌, ◌≤ℤ◌, ◌^◌, Bool, true, false, List, [], ◌∷◌}
 use Rattle.triplets.specs.declared.marks.Axis.{Axis}
 use Rattle.triplets.specs.declared.marks.Axis.TheVariants.{X, Y, Z}
 use Rattle.motions.specs.declared.motion.Sign.{Sign}
@@ -11,6 +11,7 @@ use Rattle.motions.specs.declared.motion.Motion3.{Motion3}
 use Rattle.symmetry.specs.Vectors.{Vector}
 use Rattle.symmetry.specs.Motions.{Motion}
 
+-- the number with this sign
 abbrev pub signed : Sign → ℕ → ℤ
 signed Plus n = pos n
 signed Minus n = neg_ℤ (pos n)
@@ -19,25 +20,31 @@ signed Minus n = neg_ℤ (pos n)
 abbrev pub parts_with : ℤ → ℤ → ℤ → List Part
 parts_with x y z = record { 0 = x } ∷ record { 0 = y } ∷ record { 0 = z } ∷ []
 
+-- nothing was read yet
 abbrev pub zero_row : Row
 zero_row = record { x = pos 0; y = pos 0; z = pos 0; shift = pos 0 }
 
+-- the entry of a letter
 abbrev pub with_entry : Axis → ℤ → Row → Row
 with_entry X v r = record r { x = v }
 with_entry Y v r = record r { y = v }
 with_entry Z v r = record r { z = v }
 
+-- one more number
 abbrev pub with_shift : Sign → ℕ → Row → Row
 with_shift s n r = record r { shift = r.shift +ℤ signed s n }
 
+-- no letter stands in the part
 abbrev pub unused : Used
 unused = record { x = false; y = false; z = false }
 
+-- whether the letter stands in the part
 abbrev pub uses : Axis → Used → Bool
 uses X u = u.x
 uses Y u = u.y
 uses Z u = u.z
 
+-- the letter stands in the part now
 abbrev pub with_used : Axis → Used → Used
 with_used X u = record u { x = true }
 with_used Y u = record u { y = true }

@@ -1,6 +1,5 @@
 -- What the reader of a group text does.
-use Rattle.std.specs.Prelude.{◌≡◌, ℕ, ◌+◌, ◌≤◌, ◌==◌, if◌then◌else◌, List, [], ◌∷◌, ◌++◌, length, Option, Some, None, Result, Ok, Err}
-use Rattle.triplets.specs.declared.marks.Mark.{Mark}
+use Rattle.std.specs.Prelude.{◌≡◌, ℕ, ◌+◌, ◌==◌, if◌then◌else◌, List, [], ◌∷◌, ◌++◌, length, Option, Some, None, Result, Ok, Err}
 use Rattle.triplets.specs.declared.fault.TextKind.{TextKind}
 use Rattle.triplets.specs.declared.fault.TextKind.TheVariants as kinds
 use Rattle.motions.specs.declared.motion.Motion3.{Motion3}
@@ -10,12 +9,11 @@ use Rattle.triplets.specs.declared.line.LinePlace.TheVariants as places
 use Rattle.triplets.specs.declared.fault.TextFault.{TextFault}
 use Rattle.triplets.specs.declared.fault.TextFault.TheVariants as faults
 use Rattle.triplets.specs.declared.text.LineReader.{LineReader}
-use Rattle.motions.specs.declared.listed.Listed.{Listed}
 use Rattle.triplets.specs.Marks.{mark}
 use Rattle.symmetry.specs.Groups.{Listing}
-use Rattle.motions.specs.Views.{motion_of, parts, listing_of}
+use Rattle.motions.specs.Views.{listing_of}
 use Rattle.triplets.specs.LineReading.{place_step, completed, with_vector, ending, operations_of}
-use Rattle.triplets.specs.Texts.{Fault, nothing_listed, IsTextFault}
+use Rattle.triplets.specs.Texts.{Fault, nothing_listed}
 
 -- what is kept of the text so far
 pub record Kept : Type 0 where
@@ -24,42 +22,52 @@ pub record Kept : Type 0 where
   pub column : ℕ
   pub place : LinePlace
 
+-- before the first byte
 abbrev pub kept_start : Kept
 kept_start = record { listing = nothing_listed; line = 1; column = 1; place = places.Start }
 
+-- a fault of this kind at the place that comes
 abbrev pub fault_here : Kept → TextKind → Fault
 fault_here k kind = record { line = k.line; column = k.column; kind = kind }
 
+-- the operation of the line, if there is one
 abbrev pub with_operation : Option Motion3 → Listing → Listing
 with_operation o listing = record listing { ops = listing.ops ++ operations_of o }
 
--- what is listing when the text or the line ends here
+-- what is listed when the text or the line ends here
 abbrev pub ended : Option (Option Motion3) → Kept → Result Listing Fault
 ended None k = Err (fault_here k kinds.MissingPart)
 ended (Some o) k = Ok (with_operation o k.listing)
 
+-- what is listed when the text ends here
 abbrev pub finished : Kept → Result Listing Fault
 finished k = ended (ending k.place) k
 
+-- behind the line feed
 abbrev pub new_line : Result Listing Fault → Kept → Result Kept Fault
 new_line (Err f) k = Err f
 new_line (Ok listing) k = Ok (record { listing = listing; line = k.line + 1; column = 1; place = places.Start })
 
+-- behind another byte
 abbrev pub moved : Result LinePlace TextKind → Option (List Part) → Kept → Result Kept Fault
 moved (Err kind) v k = Err (fault_here k kind)
 moved (Ok p) v k = Ok (record { listing = record k.listing { centrings = with_vector v k.listing.centrings }; line = k.line; column = k.column + 1; place = p })
 
+-- a byte of the text
 abbrev pub byte_step : ℕ → Kept → Result Kept Fault
 byte_step b k = if b == 10 then new_line (finished k) k else moved (place_step (mark b) k.place) (completed (mark b) k.place) k
 
+-- a byte, where there was no fault yet
 abbrev pub text_advance : Result Kept Fault → ℕ → Result Kept Fault
 text_advance (Err f) b = Err f
 text_advance (Ok k) b = byte_step b k
 
+-- the bytes one by one
 abbrev pub text_run : Result Kept Fault → List ℕ → Result Kept Fault
 text_run r [] = r
 text_run r (b ∷ bs) = text_run (text_advance r b) bs
 
+-- what the end of the text gives
 abbrev pub outcome : Result Kept Fault → Result Listing Fault
 outcome (Err f) = Err f
 outcome (Ok k) = finished k
@@ -80,6 +88,7 @@ bytes_fed r = r.fed
 abbrev pub fault_answered : LineReader → Option TextFault
 fault_answered r = r.fault
 
+-- the fault that was answered, or what is kept
 abbrev pub kept_or : Option TextFault → Kept → Result Kept Fault
 kept_or None k = Ok k
 kept_or (Some (faults.At line column kind)) k = Err (record { line = line; column = column; kind = kind })

@@ -1,10 +1,12 @@
 -- The grammar of a group text, line by line, and its first fault.
 use Rattle.std.specs.Prelude.{◌≡◌, ℕ, zero, suc, ◌+◌, ◌==◌, if◌then◌else◌, List, [], ◌∷◌, ◌++◌, ◌<◌, ◌⊎◌, ◌≢◌, length}
+use Rattle.triplets.specs.Bytes.{line_feed}
 use Rattle.triplets.specs.declared.fault.TextKind.{TextKind}
 use Rattle.symmetry.specs.Groups.{Listing}
 use Rattle.triplets.specs.Lines.{IsLine}
 use Rattle.triplets.specs.LineFaults.{IsGoodLine, IsLineFault}
 
+-- bytes before the first line
 abbrev pub with_front : List ℕ → List (List ℕ) → List (List ℕ)
 with_front bs [] = bs ∷ []
 with_front bs (l ∷ ls) = (bs ++ l) ∷ ls
@@ -12,11 +14,13 @@ with_front bs (l ∷ ls) = (bs ++ l) ∷ ls
 -- the lines of a text: each ends at LF or at the end of the text
 abbrev pub lines_of : List ℕ → List (List ℕ)
 lines_of [] = [] ∷ []
-lines_of (b ∷ bs) = if b == 10 then [] ∷ lines_of bs else with_front (b ∷ []) (lines_of bs)
+lines_of (b ∷ bs) = if b == line_feed then [] ∷ lines_of bs else with_front (b ∷ []) (lines_of bs)
 
+-- no operation and no vector
 abbrev pub nothing_listed : Listing
 nothing_listed = record { ops = []; centrings = [] }
 
+-- what lines list one behind the other
 abbrev pub listed_then : Listing → Listing → Listing
 listed_then a b = record { ops = a.ops ++ b.ops; centrings = a.centrings ++ b.centrings }
 
@@ -25,6 +29,7 @@ abbrev pub AreLines : List (List ℕ) → Listing → Type 0
 AreLines [] listing = listing ≡ nothing_listed
 AreLines (l ∷ ls) listing = (a : Listing) × (b : Listing) × IsLine l a × AreLines ls b × (listing ≡ listed_then a b)
 
+-- the bytes are a group text that lists this
 abbrev pub IsGroupText : List ℕ → Listing → Type 0
 IsGroupText bytes listing = AreLines (lines_of bytes) listing
 
@@ -40,15 +45,18 @@ pub record Fault : Type 0 where
   pub column : ℕ
   pub kind : TextKind
 
+-- the first bad line of the text, its column and its kind
 abbrev pub IsTextFault : List ℕ → Fault → Type 0
 IsTextFault bytes f = (n : ℕ) × (before : ℕ) × (f.line ≡ n + 1) × (f.column ≡ before + 1) × IsFirstBad (lines_of bytes) n before f.kind
 
 -- The same where a byte shows the place: the one that stands there, or the LF that ends the line too early.
 
+-- line n is the first bad one, and a byte shows its place
 abbrev pub IsFirstShown : List (List ℕ) → ℕ → ℕ → TextKind → Type 0
 IsFirstShown [] n before kind = ⊥
 IsFirstShown (l ∷ ls) zero before kind = IsLineFault l before kind × ((before < length l) ⊎ (ls ≢ []))
 IsFirstShown (l ∷ ls) (suc n) before kind = IsGoodLine l × IsFirstShown ls n before kind
 
+-- the first bad place that the text shows by a byte
 abbrev pub IsShownFault : List ℕ → Fault → Type 0
 IsShownFault bytes f = (n : ℕ) × (before : ℕ) × (f.line ≡ n + 1) × (f.column ≡ before + 1) × IsFirstShown (lines_of bytes) n before f.kind

@@ -1,5 +1,5 @@
 -- What the reader of a triplet does.
-use Rattle.std.specs.Prelude.{◌≡◌, ℕ, ◌*◌, ◌+◌, Bool, true, false, if◌then◌else◌, List, [], ◌∷◌, Option, Some, None, Result, Ok, Err, ℤ, pos, neg_ℤ, ◌≤ℤ◌}
+use Rattle.std.specs.Prelude.{ℕ, List, [], ◌∷◌, Option, Some, None, Result, Ok, Err}
 use Rattle.triplets.specs.declared.marks.Mark.{Mark}
 use Rattle.triplets.specs.declared.marks.Mark.TheVariants as marks
 use Rattle.triplets.specs.declared.fault.TextKind.{TextKind}
@@ -16,12 +16,15 @@ use Rattle.triplets.specs.Marks.{mark}
 use Rattle.triplets.specs.Rows.{zero_row, motion3_with}
 use Rattle.triplets.specs.PartReading.{begin, settled, part_step}
 
+-- before the first byte
 abbrev pub start : TripletReader
 start = record { nth = First; first = zero_row; second = zero_row; part = begin }
 
+-- the reader with this part
 abbrev pub with_part : PartReader → TripletReader → TripletReader
 with_part p s = record s { part = p }
 
+-- the step of a part, in a triplet
 abbrev pub in_part : TripletReader → Result PartReader TextKind → Result TripletReader TextKind
 in_part s (Ok p) = Ok (with_part p s)
 in_part s (Err k) = Err k
@@ -31,18 +34,22 @@ abbrev pub early_comma : Spot → TextKind
 early_comma spots.Begin = kinds.Empty
 early_comma _ = kinds.UnknownSign
 
+-- the comma behind a part
 abbrev pub next_part : Nth → TripletReader → Row → Result TripletReader TextKind
 next_part First s r = Ok (record { nth = Second; first = r; second = s.second; part = begin })
 next_part Second s r = Ok (record { nth = Third; first = s.first; second = r; part = begin })
 next_part Third s r = Err kinds.ExtraPart
 
+-- a comma
 abbrev pub comma_at : Option PartReader → TripletReader → Result TripletReader TextKind
 comma_at None s = Err (early_comma s.part.spot)
 comma_at (Some p) s = next_part s.nth s p.row
 
+-- a comma
 abbrev pub on_comma : TripletReader → Result TripletReader TextKind
 on_comma s = comma_at (settled s.part) s
 
+-- the triplet, at the end of its last part
 abbrev pub value_at : Nth → Option PartReader → TripletReader → Option Motion3
 value_at Third (Some p) s = Some (motion3_with s.first s.second p.row)
 value_at _ _ s = None
@@ -51,19 +58,23 @@ value_at _ _ s = None
 abbrev pub value : TripletReader → Option Motion3
 value s = value_at s.nth (settled s.part) s
 
+-- a comment in a triplet
 abbrev pub hash_kind : Option Motion3 → TextKind
 hash_kind None = kinds.MissingPart
 hash_kind (Some _) = kinds.UnknownSign
 
+-- a byte of a triplet
 abbrev pub step : Mark → TripletReader → Result TripletReader TextKind
 step marks.Comma s = on_comma s
 step marks.Hash s = Err (hash_kind (value s))
 step m s = in_part s (part_step m s.part)
 
+-- a byte, where there was no fault yet
 abbrev pub advance : Result TripletReader TextKind → ℕ → Result TripletReader TextKind
 advance (Err k) b = Err k
 advance (Ok s) b = step (mark b) s
 
+-- the bytes one by one
 abbrev pub run : Result TripletReader TextKind → List ℕ → Result TripletReader TextKind
 run r [] = r
 run r (b ∷ bs) = run (advance r b) bs

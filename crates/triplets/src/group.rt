@@ -1,7 +1,6 @@
 // The reader of a whole group text.
 ghost use Rattle.std.specs.Prelude.{◌≤◌, length, IfOk};
-ghost use Rattle.motions.specs.Views.{listing_of};
-ghost use Rattle.triplets.specs.Sizes.{IsListingSmall};
+ghost use Rattle.motions.specs.ListedSizes.{IsListedSmall};
 ghost use Rattle.triplets.specs.TextAnswers.{IsAnswer};
 
 use crate::fault::TextFault;
@@ -13,7 +12,7 @@ use std::alloc::Global;
 pub fn read_group(alloc: Global, bytes: &[u8]) -> Result<Listed, TextFault>
     requires { length bytes.now ≤ 65536 }
     ensures answer { IsAnswer bytes.now result }
-    ensures small { IfOk result (λ listed. IsListingSmall (listing_of listed)) }
+    ensures small { IfOk result (IsListedSmall 9) }
 {
     let mut reader = LineReader::make(alloc);
     match reader.feed(bytes) {

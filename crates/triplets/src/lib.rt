@@ -1,8 +1,10 @@
-// Coordinate triplets and group texts: the grammar, and readers that name the place and the kind of the first fault.
+// Coordinate triplets and group texts: the grammar, readers that name the place and the kind of the first fault, and
+// the writer of the one written form.
 //
 // Promises to the crates above: exactly the triplets and the texts of the grammar are read, each with its value;
 // of any other the first bad line, the column at which no good line goes on, and what is wrong there. A text may
-// come in pieces, cut anywhere.
+// come in pieces, cut anywhere. A motion has one written form, and where the grammar can say the motion, that form
+// is read as the motion again.
 #![tactic(auto)]
 
 mod denominator;
@@ -13,11 +15,13 @@ mod marks;
 mod part;
 mod text;
 mod triplet;
+mod write;
 
 pub use fault::{TextFault, TextKind, TripletFault};
 pub use group::read_group;
 pub use text::LineReader;
 pub use triplet::read_triplet;
+pub use write::{NoMemory, write_triplet};
 
 #[cfg(test)]
 mod tests;

@@ -30,8 +30,7 @@ impl LineReader {
     ghost use Rattle.triplets.specs.declared.fault.TextFault.TheVariants.{At, NoMemory};
     ghost use Rattle.triplets.specs.TextReading.{Stands, Gives, AreAlike, kept, finished, byte_step, bytes_fed, fault_answered};
     ghost use Rattle.triplets.specs.TextAnswers.{IsAnswer, IsAnswerSoFar};
-    ghost use Rattle.triplets.specs.Sizes.{IsListingSmall};
-    ghost use Rattle.motions.specs.Views.{listing_of};
+    ghost use Rattle.motions.specs.ListedSizes.{IsListedSmall};
 
     /// A reader that was fed nothing. It takes no memory.
     pub fn make(alloc: Global) -> Self
@@ -135,7 +134,7 @@ impl LineReader {
     /// Ends the text: what it lists, or its first fault.
     pub fn finish(self) -> Result<Listed, TextFault>
         ensures answer { (text : List ℕ) → Stands self text → IsAnswer text result }
-        ensures small { (text : List ℕ) → Stands self text → IfOk result (λ listed. IsListingSmall (listing_of listed)) }
+        ensures small { (text : List ℕ) → Stands self text → IfOk result (IsListedSmall 9) }
         ensures again { IfSome (fault_answered self) (λ fault. result ≡ Err fault) }
     {
         if let Some(fault) = self.fault {

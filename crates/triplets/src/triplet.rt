@@ -4,7 +4,7 @@ ghost use Rattle.motions.specs.Views.{motion_of};
 ghost use Rattle.symmetry.specs.Motions.{Motion};
 ghost use Rattle.triplets.specs.Grammar.{IsTriplet};
 ghost use Rattle.triplets.specs.Faults.{IsFault};
-ghost use Rattle.triplets.specs.Sizes.{IsTripletSmall};
+ghost use Rattle.motions.specs.ListedSizes.{IsSmallWithin};
 
 use crate::fault::{TextKind, TripletFault};
 use crate::marks::{Mark, mark_of};
@@ -140,7 +140,7 @@ pub fn read_triplet(bytes: &[u8]) -> Result<Motion3, TripletFault>
     requires { length bytes.now ≤ 16777216 }
     ensures found { IfOk result (λ m. IsTriplet bytes.now (motion_of m)) }
     ensures only { (value : Motion) → IsTriplet bytes.now value → IsOkAnd result (λ m. motion_of m ≡ value) }
-    ensures small { IfOk result (λ m. IsTripletSmall (motion_of m)) }
+    ensures small { IfOk result (λ m. IsSmallWithin 9 (motion_of m)) }
     ensures fault { IfErr result (λ fault. (before : ℕ) × (fault.place ≡ before + 1) × IsFault bytes.now before fault.kind) }
 {
     let mut reader = TripletReader::new();

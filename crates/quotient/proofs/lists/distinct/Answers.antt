@@ -2,7 +2,7 @@ use Rattle.std.proofs.Common.{◌↔◌, All, IsSome, map, unsigned_abs, subst, 
 use Rattle.quotient.specs.Kind.{kind_of}
 use Rattle.quotient.specs.Lists.{IsListed}
 use Rattle.quotient.proofs.Items.{All-item}
-use Rattle.quotient.proofs.Kept.{KeepsFirst, KeepsFirst-all, KeepsFirst-more, KeepsFirst-none, KeepsFirst-same}
+use Rattle.quotient.proofs.Kept.{KeepsFirst-all, KeepsFirst-more, KeepsFirst-none, KeepsFirst-same}
 use Rattle.quotient.proofs.Sameness.{same_is_equivalence}
 use Rattle.quotient.proofs.lists.distinct.Goals as goal
 use Rattle.quotient.proofs.lists.distinct.Goals.{then-is_none+in_ok-push, else-is_none}

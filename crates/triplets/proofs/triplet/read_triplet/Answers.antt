@@ -1,5 +1,4 @@
-use Rattle.std.proofs.Common.{◌≡◌, length, get_or, Ok, sym, ◌∙◌, ap, refl, arith}
-use Rattle.motions.specs.declared.motion.Motion3.{Motion3}
+use Rattle.std.proofs.Common.{◌≡◌, length, get_or, sym, ◌∙◌, ap, refl, arith}
 use Rattle.triplets.specs.Marks.{mark}
 use Rattle.triplets.specs.TripletReading.{step}
 use Rattle.triplets.proofs.Wholes.{going, stopped, is_triplet}

@@ -1,4 +1,4 @@
-use Rattle.std.proofs.Common.{◌+◌, length, get_or, refl, ◌∙◌, arith, inr, Ok, Err}
+use Rattle.std.proofs.Common.{get_or, refl, ◌∙◌, arith, inr, Ok, Err}
 use Rattle.triplets.specs.TextReading.{kept, byte_step}
 use Rattle.triplets.proofs.TextFacts.{text_more, text_fault, gives_along, again, again_stands, stands_all, all_read, err_stands}
 use Rattle.triplets.proofs.Answered.{answer_so_far}

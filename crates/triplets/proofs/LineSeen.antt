@@ -1,0 +1,553 @@
+-- What stands before a place in a line, as the reader knows it.
+use Rattle.std.proofs.Common.{◌≡◌, ◌≢◌, ℕ, ◌+◌, ◌*◌, ◌<◌, Bool, true, false, cond, List, [], ◌∷◌, Option, Some, None, Result, Ok, Err, ℤ, refl, sym, ◌∙◌, ap, subst, arith, inl, inr, ◌⊎◌}
+use Rattle.std.specs.Prelude.{◌==◌, ◌&&◌, ◌||◌, if◌then◌else◌}
+use Rattle.std.proofs.lemmas.Bool.Decides.{nat_tests}
+use Rattle.triplets.specs.declared.marks.Axis.{Axis}
+use Rattle.triplets.specs.declared.marks.Axis.TheVariants.{X, Y, Z}
+use Rattle.motions.specs.declared.motion.Sign.{Sign}
+use Rattle.motions.specs.declared.motion.Sign.TheVariants.{Plus, Minus}
+use Rattle.triplets.specs.declared.part.Used.{Used}
+use Rattle.triplets.specs.declared.fault.TextKind.{TextKind}
+use Rattle.triplets.specs.declared.fault.TextKind.TheVariants as kinds
+use Rattle.triplets.specs.declared.marks.Mark.{Mark}
+use Rattle.triplets.specs.declared.marks.Mark.TheVariants as marks
+use Rattle.triplets.specs.declared.part.Row as rows
+use Rattle.triplets.specs.declared.part.PartReader.{PartReader}
+use Rattle.triplets.specs.declared.part.Spot.{Spot}
+use Rattle.triplets.specs.declared.part.Spot.TheVariants.{Begin, Signed, Digits, Divided, Below, Behind}
+use Rattle.triplets.specs.declared.triplet.Nth.{Nth}
+use Rattle.triplets.specs.declared.triplet.Nth.TheVariants.{First, Second, Third}
+use Rattle.motions.specs.declared.motion.Motion3.{Motion3}
+use Rattle.triplets.specs.declared.triplet.TripletReader.{TripletReader}
+use Rattle.fractions.specs.declared.part.Part.{Part}
+use Rattle.triplets.specs.declared.line.VectorReader.{VectorReader}
+use Rattle.triplets.specs.declared.line.LinePlace.{LinePlace}
+use Rattle.triplets.specs.declared.line.LinePlace.TheVariants as places
+use Rattle.triplets.specs.Marks.{mark}
+use Rattle.triplets.specs.Rows.{unused, with_used}
+use Rattle.triplets.specs.PartReading.{begin, settled, part_step, on_blank, on_sign, on_sign_at, on_digit, on_slash, on_new_letter_at, with_letter, with_sign}
+use Rattle.triplets.specs.TripletReading.{start, in_part, next_part, comma_at, value, step}
+use Rattle.triplets.specs.Grammar.{Blank, space, tab, carriage_return, blank_byte, sign_byte, letter_byte, Digit}
+use Rattle.triplets.specs.LineReading.{opened, in_operation, in_coordinate, next_coordinate, coordinate_comma, closed_at, is_digits, coordinate_sign, vector_step, start_step, comment_behind, operation_step, closed_step, behind_step, place_step, completed, with_vector, LineState, line_start, line_step, line_run}
+use Rattle.triplets.specs.Faults.{is_digit, is_blank, is_letter, last_mark, last_other, digits_at_end}
+use Rattle.triplets.specs.LineFaults.{last_bracket, commas, line_stands, is_end_of_part}
+use Rattle.triplets.proofs.Bytes.{IsMark, mark_is}
+use Rattle.triplets.proofs.Partials.{fine, ok_is, err_is, passed, met, below_is}
+use Rattle.triplets.proofs.Seen.{Seen, nothing_seen, seen_step, seen_digit, Agrees, agrees_part, digit_true, digit_not_letter, at}
+use Rattle.triplets.proofs.LineBounds.{placed, placed_is}
+use Rattle.triplets.proofs.LineBegun.{line_going, run_line_stopped, going_line_is, placed_by, no_place}
+
+-- what stands before, in words
+pub record LineSeen : Type 0 where
+  pub mark : ℕ
+  pub other : ℕ
+  pub count : ℕ
+  pub bracket : ℕ
+  pub commas : ℕ
+  pub used : Used
+
+abbrev pub line_seen_step : LineSeen → ℕ → LineSeen
+line_seen_step f b = record {
+  mark = if is_blank b then f.mark else b;
+  other = if is_digit b then f.other else b;
+  count = if is_digit b then f.count + 1 else 0;
+  bracket = if b == 40 || b == 41 then b else f.bracket;
+  commas = if b == 40 then 0 else (if b == 44 then f.commas + 1 else f.commas);
+  used = record {
+    x = if b == 44 || (b == 40 || b == 41) then false else (if is_letter X b then true else f.used.x);
+    y = if b == 44 || (b == 40 || b == 41) then false else (if is_letter Y b then true else f.used.y);
+    z = if b == 44 || (b == 40 || b == 41) then false else (if is_letter Z b then true else f.used.z);
+  };
+}
+
+abbrev pub line_seen : LineSeen → List ℕ → LineSeen
+line_seen f bs = record {
+  mark = last_mark f.mark bs;
+  other = last_other f.other bs;
+  count = digits_at_end f.count bs;
+  bracket = last_bracket f.bracket bs;
+  commas = commas f.commas bs;
+  used = record { x = line_stands X f.used.x bs; y = line_stands Y f.used.y bs; z = line_stands Z f.used.z bs };
+}
+
+abbrev pub line_seen_start : LineSeen
+line_seen_start = record { mark = 44; other = 0; count = 0; bracket = 0; commas = 0; used = unused }
+
+-- the bytes by their marks
+
+pub l_blank : (f : LineSeen) (k : Blank) → line_seen_step f (blank_byte k) ≡ record { mark = f.mark; other = blank_byte k; count = 0; bracket = f.bracket; commas = f.commas; used = f.used }
+l_blank f space = refl
+l_blank f tab = refl
+l_blank f carriage_return = refl
+
+pub l_sign : (f : LineSeen) (s : Sign) → line_seen_step f (sign_byte s) ≡ record { mark = sign_byte s; other = sign_byte s; count = 0; bracket = f.bracket; commas = f.commas; used = f.used }
+l_sign f Plus = refl
+l_sign f Minus = refl
+
+pub l_letter : (f : LineSeen) (a : Axis) (c : Bool) → line_seen_step f (letter_byte a c) ≡ record { mark = letter_byte a c; other = letter_byte a c; count = 0; bracket = f.bracket; commas = f.commas; used = with_used a f.used }
+l_letter f X false = refl
+l_letter f X true = refl
+l_letter f Y false = refl
+l_letter f Y true = refl
+l_letter f Z false = refl
+l_letter f Z true = refl
+
+pub digit_not : (d : Digit) (n : ℕ) → n < 48 → (d.byte == n) ≡ false
+digit_not d n h = let low = d.low in grind (arith, nat_tests)
+
+pub l_digit : (f : LineSeen) (d : Digit) → line_seen_step f d.byte ≡ record { mark = d.byte; other = f.other; count = f.count + 1; bracket = f.bracket; commas = f.commas; used = f.used }
+l_digit f d = simp (digit_true d, digit_not d 32 (omega arith), digit_not d 9 (omega arith), digit_not d 13 (omega arith), digit_not d 40 (omega arith), digit_not d 41 (omega arith), digit_not d 44 (omega arith), digit_not_letter X d, digit_not_letter Y d, digit_not_letter Z d)
+
+-- ---- the four words that a triplet has as well; a bracket before a part counts as a comma
+
+abbrev pub SameMark : ℕ → ℕ → ℕ → Type 0
+SameMark m c n = ((m ≡ n) × (m ≢ 40) × (m ≢ 41)) ⊎ ((n ≡ 44) × ((m ≡ 40) ⊎ ((m ≡ 41) × (c ≡ 0))))
+
+pub record Follows (f : LineSeen) (g : Seen) : Type 0 where
+  pub other : f.other ≡ g.other
+  pub count : f.count ≡ g.count
+  pub used : f.used ≡ g.used
+  pub mark : SameMark f.mark f.commas g.mark
+
+pub follow_blank : (f : LineSeen) (g : Seen) (k : Blank) → Follows f g → Follows (line_seen_step f (blank_byte k)) (seen_step g (blank_byte k))
+follow_blank f g space h = record { other = refl; count = refl; used = h.used; mark = h.mark }
+follow_blank f g tab h = record { other = refl; count = refl; used = h.used; mark = h.mark }
+follow_blank f g carriage_return h = record { other = refl; count = refl; used = h.used; mark = h.mark }
+
+pub follow_sign : (f : LineSeen) (g : Seen) (s : Sign) → Follows f g → Follows (line_seen_step f (sign_byte s)) (seen_step g (sign_byte s))
+follow_sign f g Plus h = record { other = refl; count = refl; used = h.used; mark = inl (refl, λ e. omega arith, λ e. omega arith) }
+follow_sign f g Minus h = record { other = refl; count = refl; used = h.used; mark = inl (refl, λ e. omega arith, λ e. omega arith) }
+
+pub follow_letter : (f : LineSeen) (g : Seen) (a : Axis) (c : Bool) → Follows f g → Follows (line_seen_step f (letter_byte a c)) (seen_step g (letter_byte a c))
+follow_letter f g X false h = record { other = refl; count = refl; used = ap (with_used X) h.used; mark = inl (refl, λ e. omega arith, λ e. omega arith) }
+follow_letter f g X true h = record { other = refl; count = refl; used = ap (with_used X) h.used; mark = inl (refl, λ e. omega arith, λ e. omega arith) }
+follow_letter f g Y false h = record { other = refl; count = refl; used = ap (with_used Y) h.used; mark = inl (refl, λ e. omega arith, λ e. omega arith) }
+follow_letter f g Y true h = record { other = refl; count = refl; used = ap (with_used Y) h.used; mark = inl (refl, λ e. omega arith, λ e. omega arith) }
+follow_letter f g Z false h = record { other = refl; count = refl; used = ap (with_used Z) h.used; mark = inl (refl, λ e. omega arith, λ e. omega arith) }
+follow_letter f g Z true h = record { other = refl; count = refl; used = ap (with_used Z) h.used; mark = inl (refl, λ e. omega arith, λ e. omega arith) }
+
+abbrev pub lmade : (m o c b n : ℕ) → Used → LineSeen
+lmade m o c b n u = record { mark = m; other = o; count = c; bracket = b; commas = n; used = u }
+
+abbrev pub smade : (m o c : ℕ) → Used → Seen
+smade m o c u = record { mark = m; other = o; count = c; used = u }
+
+pub follow_digit : (f : LineSeen) (g : Seen) (d : Digit) → Follows f g → Follows (line_seen_step f d.byte) (seen_step g d.byte)
+follow_digit f g d h =
+    let r : Follows (lmade d.byte f.other (f.count + 1) f.bracket f.commas f.used) (smade d.byte g.other (g.count + 1) g.used) =
+    record { other = h.other; count = ap (λ n. n + 1) h.count; used = h.used; mark = inl (refl, (λ e. omega (arith, d.low)), (λ e. omega (arith, d.low))) } in
+    subst (λ x. Follows x (seen_step g d.byte)) (sym (l_digit f d)) (subst (Follows (lmade d.byte f.other (f.count + 1) f.bracket f.commas f.used)) (sym (seen_digit g d)) r)
+
+pub follow_slash : (f : LineSeen) (g : Seen) → Follows f g → Follows (line_seen_step f 47) (seen_step g 47)
+follow_slash f g h = record { other = refl; count = refl; used = h.used; mark = inl (refl, λ e. omega arith, λ e. omega arith) }
+
+abbrev pub in_a_part : Mark → Bool
+in_a_part marks.Blank = true
+in_a_part (marks.Signs s) = true
+in_a_part (marks.Letter a) = true
+in_a_part (marks.Digit n) = true
+in_a_part marks.Slash = true
+in_a_part _ = false
+
+pub follow_by : (m : Mark) (f : LineSeen) (g : Seen) (b : ℕ) → in_a_part m ≡ true → IsMark b m → Follows f g → Follows (line_seen_step f b) (seen_step g b)
+follow_by marks.Blank f g b p i h = subst (λ c. Follows (line_seen_step f c) (seen_step g c)) (sym i.1) (follow_blank f g i.0 h)
+follow_by (marks.Signs s) f g b p i h = subst (λ c. Follows (line_seen_step f c) (seen_step g c)) (sym i) (follow_sign f g s h)
+follow_by (marks.Letter a) f g b p i h = subst (λ c. Follows (line_seen_step f c) (seen_step g c)) (sym i.1) (follow_letter f g a i.0 h)
+follow_by (marks.Digit n) f g b p i h = subst (λ c. Follows (line_seen_step f c) (seen_step g c)) (sym i.1) (follow_digit f g i.0 h)
+follow_by marks.Slash f g b p i h = subst (λ c. Follows (line_seen_step f c) (seen_step g c)) (sym i) (follow_slash f g h)
+follow_by marks.Comma f g b p i h = absurd cc
+follow_by marks.Hash f g b p i h = absurd cc
+follow_by marks.Open f g b p i h = absurd cc
+follow_by marks.Close f g b p i h = absurd cc
+follow_by marks.Other f g b p i h = absurd cc
+
+-- brackets and commas stay
+pub record Stays (f g : LineSeen) : Type 0 where
+  pub bracket : g.bracket ≡ f.bracket
+  pub commas : g.commas ≡ f.commas
+
+pub stays_at : (f g : LineSeen) (b c : ℕ) → b ≡ c → line_seen_step f c ≡ g → Stays f g → Stays f (line_seen_step f b)
+stays_at f g b c e h s = subst (λ x. Stays f (line_seen_step f x)) (sym e) (subst (Stays f) (sym h) s)
+
+pub stays_by : (m : Mark) (f : LineSeen) (b : ℕ) → in_a_part m ≡ true → IsMark b m → Stays f (line_seen_step f b)
+stays_by marks.Blank f b p i = stays_at f _ b _ i.1 (l_blank f i.0) (record { bracket = refl; commas = refl })
+stays_by (marks.Signs s) f b p i = stays_at f _ b _ i (l_sign f s) (record { bracket = refl; commas = refl })
+stays_by (marks.Letter a) f b p i = stays_at f _ b _ i.1 (l_letter f a i.0) (record { bracket = refl; commas = refl })
+stays_by (marks.Digit n) f b p i = stays_at f _ b _ i.1 (l_digit f i.0) (record { bracket = refl; commas = refl })
+stays_by marks.Slash f b p i = stays_at f _ b _ i refl (record { bracket = refl; commas = refl })
+stays_by marks.Comma f b p i = absurd cc
+stays_by marks.Hash f b p i = absurd cc
+stays_by marks.Open f b p i = absurd cc
+stays_by marks.Close f b p i = absurd cc
+stays_by marks.Other f b p i = absurd cc
+
+-- ---- the last mark tells whether a part is whole
+
+abbrev pub settles : Spot → Bool
+settles Begin = false
+settles Signed = false
+settles (Digits n v) = true
+settles (Divided v) = false
+settles (Below v d) = true
+settles Behind = true
+
+pub spot_of : (p q : PartReader) → q ≡ p → settles q.spot ≡ settles p.spot
+spot_of p q e = ap (λ (x : PartReader). settles x.spot) e
+
+pub settles_blank : (spot : Spot) (r : rows.Row) (u : Used) (g : Sign) (q : PartReader) → on_blank (at r u g spot) ≡ fine q → settles q.spot ≡ settles spot
+settles_blank Begin r u g q w = spot_of _ q (ok_is _ q w)
+settles_blank Signed r u g q w = spot_of _ q (ok_is _ q w)
+settles_blank (Digits n v) r u g q w = spot_of _ q (ok_is _ q w)
+settles_blank (Divided v) r u g q w = err_is _ q w
+settles_blank (Below v d) r u g q w = spot_of _ q (ok_is _ q w)
+settles_blank Behind r u g q w = spot_of _ q (ok_is _ q w)
+
+pub settles_sign : (spot : Spot) (r : rows.Row) (u : Used) (g s : Sign) (q : PartReader) → on_sign s (at r u g spot) ≡ fine q → settles q.spot ≡ false
+settles_sign Begin r u g s q w = spot_of _ q (ok_is _ q w)
+settles_sign Signed r u g s q w = err_is _ q w
+settles_sign (Digits n v) r u g s q w = spot_of _ q (ok_is _ q w)
+settles_sign (Divided v) r u g s q w = err_is _ q w
+settles_sign (Below v d) r u g s q w = spot_of _ q (ok_is _ q w)
+settles_sign Behind r u g s q w = spot_of _ q (ok_is _ q w)
+
+pub settles_letter : (spot : Spot) (r : rows.Row) (u : Used) (g : Sign) (a : Axis) (q : PartReader) → on_new_letter_at a spot (at r u g spot) ≡ fine q → settles q.spot ≡ true
+settles_letter Begin r u g a q w = spot_of (with_letter a 1 (at r u g Begin)) q (ok_is _ q w)
+settles_letter Signed r u g a q w = spot_of (with_letter a 1 (at r u g Signed)) q (ok_is _ q w)
+settles_letter (Digits n v) r u g a q w = spot_of (with_letter a v (at r u g (Digits n v))) q (ok_is _ q (met _ kinds.Coefficient _ q w).1)
+settles_letter (Divided v) r u g a q w = err_is _ q w
+settles_letter (Below v d) r u g a q w = err_is _ q w
+settles_letter Behind r u g a q w = err_is _ q w
+
+pub settles_digit : (spot : Spot) (r : rows.Row) (u : Used) (g : Sign) (d : ℕ) (q : PartReader) → on_digit d (at r u g spot) ≡ fine q → settles q.spot ≡ true
+settles_digit Begin r u g d q w = spot_of (at r u g (Digits 1 d)) q (ok_is _ q w)
+settles_digit Signed r u g d q w = spot_of (at r u g (Digits 1 d)) q (ok_is _ q w)
+settles_digit (Digits n v) r u g d q w = spot_of (at r u g (Digits (n + 1) (10 * v + d))) q (ok_is _ q (passed _ _ _ q w).1)
+settles_digit (Divided v) r u g d q w = spot_of (at r u g (Below v (below_is _ _ _ q w).0)) q (below_is _ _ _ q w).2
+settles_digit (Below v t) r u g d q w = spot_of (at r u g (Below v (below_is _ _ _ q w).0)) q (below_is _ _ _ q w).2
+settles_digit Behind r u g d q w = err_is _ q w
+
+pub settles_slash : (spot : Spot) (r : rows.Row) (u : Used) (g : Sign) (q : PartReader) → on_slash (at r u g spot) ≡ fine q → settles q.spot ≡ false
+settles_slash Begin r u g q w = err_is _ q w
+settles_slash Signed r u g q w = err_is _ q w
+settles_slash (Digits n v) r u g q w = spot_of (at r u g (Divided v)) q (ok_is _ q w)
+settles_slash (Divided v) r u g q w = err_is _ q w
+settles_slash (Below v d) r u g q w = err_is _ q w
+settles_slash Behind r u g q w = err_is _ q w
+
+pub sign_no_end : (s : Sign) → is_end_of_part (sign_byte s) ≡ false
+sign_no_end Plus = refl
+sign_no_end Minus = refl
+
+pub sign_no_digit : (s : Sign) → is_digit (sign_byte s) ≡ false
+sign_no_digit Plus = refl
+sign_no_digit Minus = refl
+
+pub letter_end : (a : Axis) (c : Bool) → is_end_of_part (letter_byte a c) ≡ true
+letter_end X false = refl
+letter_end X true = refl
+letter_end Y false = refl
+letter_end Y true = refl
+letter_end Z false = refl
+letter_end Z true = refl
+
+pub digit_end : (d : Digit) → is_end_of_part d.byte ≡ true
+digit_end d = rw (digit_true d) refl
+
+pub mark_at : (f g : LineSeen) (b c : ℕ) (T : ℕ → Bool) (t : Bool) → b ≡ c → line_seen_step f c ≡ g → T g.mark ≡ t → T (line_seen_step f b).mark ≡ t
+mark_at f g b c T t e h s = subst (λ x. T (line_seen_step f x).mark ≡ t) (sym e) (subst (λ (x : LineSeen). T x.mark ≡ t) (sym h) s)
+
+pub ends_by : (m : Mark) (f : LineSeen) (p q : PartReader) (b : ℕ) → IsMark b m → is_end_of_part f.mark ≡ settles p.spot → part_step m p ≡ fine q → is_end_of_part (line_seen_step f b).mark ≡ settles q.spot
+ends_by marks.Blank f p q b i h w = mark_at f _ b _ is_end_of_part _ i.1 (l_blank f i.0) (h ∙ sym (settles_blank p.spot p.row p.used p.sign q w))
+ends_by (marks.Signs s) f p q b i h w = mark_at f _ b _ is_end_of_part _ i (l_sign f s) (sign_no_end s ∙ sym (settles_sign p.spot p.row p.used p.sign s q w))
+ends_by (marks.Letter a) f p q b i h w = mark_at f _ b _ is_end_of_part _ i.1 (l_letter f a i.0) (letter_end a i.0 ∙ sym (settles_letter p.spot p.row p.used p.sign a q (passed _ _ _ q w).1))
+ends_by (marks.Digit n) f p q b i h w = mark_at f _ b _ is_end_of_part _ i.1 (l_digit f i.0) (digit_end i.0 ∙ sym (settles_digit p.spot p.row p.used p.sign n q w))
+ends_by marks.Slash f p q b i h w = mark_at f (line_seen_step f 47) b 47 is_end_of_part _ i refl (sym (settles_slash p.spot p.row p.used p.sign q w))
+ends_by marks.Comma f p q b i h w = err_is _ q w
+ends_by marks.Hash f p q b i h w = err_is _ q w
+ends_by marks.Open f p q b i h w = err_is _ q w
+ends_by marks.Close f p q b i h w = err_is _ q w
+ends_by marks.Other f p q b i h w = err_is _ q w
+
+pub digits_by : (m : Mark) (f : LineSeen) (p q : PartReader) (b : ℕ) → IsMark b m → is_digit f.mark ≡ settles p.spot → ((a : Axis) → m ≡ marks.Letter a → ⊥) → part_step m p ≡ fine q → is_digit (line_seen_step f b).mark ≡ settles q.spot
+digits_by marks.Blank f p q b i h n w = mark_at f _ b _ is_digit _ i.1 (l_blank f i.0) (h ∙ sym (settles_blank p.spot p.row p.used p.sign q w))
+digits_by (marks.Signs s) f p q b i h n w = mark_at f _ b _ is_digit _ i (l_sign f s) (sign_no_digit s ∙ sym (settles_sign p.spot p.row p.used p.sign s q w))
+digits_by (marks.Letter a) f p q b i h n w = absurd (n a refl)
+digits_by (marks.Digit k) f p q b i h n w = mark_at f _ b _ is_digit _ i.1 (l_digit f i.0) (digit_true i.0 ∙ sym (settles_digit p.spot p.row p.used p.sign k q w))
+digits_by marks.Slash f p q b i h n w = mark_at f (line_seen_step f 47) b 47 is_digit _ i refl (sym (settles_slash p.spot p.row p.used p.sign q w))
+digits_by marks.Comma f p q b i h n w = err_is _ q w
+digits_by marks.Hash f p q b i h n w = err_is _ q w
+digits_by marks.Open f p q b i h n w = err_is _ q w
+digits_by marks.Close f p q b i h n w = err_is _ q w
+digits_by marks.Other f p q b i h n w = err_is _ q w
+
+-- ---- what the place of the reader says
+
+abbrev pub index : Nth → ℕ
+index First = 0
+index Second = 1
+index Third = 2
+
+pub record PartKnown (f : LineSeen) (p : PartReader) (n : Nth) : Type 0 where
+  pub core : Seen
+  pub follows : Follows f core
+  pub agrees : Agrees p core
+  pub end : is_end_of_part f.mark ≡ settles p.spot
+  pub commas : f.commas ≡ index n
+
+pub known_step : (m : Mark) (f : LineSeen) (p q : PartReader) (n : Nth) (b : ℕ) → in_a_part m ≡ true → IsMark b m → PartKnown f p n → part_step m p ≡ fine q → PartKnown (line_seen_step f b) q n
+known_step m f p q n b a i k w = record {
+  core = seen_step k.core b;
+  follows = follow_by m f k.core b a i k.follows;
+  agrees = agrees_part m p k.core b q i k.agrees w;
+  end = ends_by m f p q b i k.end w;
+  commas = (stays_by m f b a i).commas ∙ k.commas;
+}
+
+pub known_comma : (f : LineSeen) (n : Nth) → f.commas + 1 ≡ index n → PartKnown (line_seen_step f 44) begin n
+known_comma f n h = record {
+  core = smade 44 44 0 unused;
+  follows = record { other = refl; count = refl; used = refl; mark = inl (refl, (λ e. omega arith), (λ e. omega arith)) };
+  agrees = record { used = refl; spot = (refl, refl, λ e. omega arith) };
+  end = refl;
+  commas = h;
+}
+
+pub known_open : (f : LineSeen) → PartKnown (line_seen_step f 40) begin First
+known_open f = record {
+  core = smade 44 40 0 unused;
+  follows = record { other = refl; count = refl; used = refl; mark = inr (refl, inl refl) };
+  agrees = record { used = refl; spot = (refl, refl, λ e. omega arith) };
+  end = refl;
+  commas = refl;
+}
+
+pub known_label : (f : LineSeen) → f.commas ≡ 0 → PartKnown (line_seen_step f 41) begin First
+known_label f h = record {
+  core = smade 44 41 0 unused;
+  follows = record { other = refl; count = refl; used = refl; mark = inr (refl, inr (refl, h)) };
+  agrees = record { used = refl; spot = (refl, refl, λ e. omega arith) };
+  end = refl;
+  commas = h;
+}
+
+pub record Between (f : LineSeen) : Type 0 where
+  pub count : f.count ≡ 0
+  pub other : f.other ≢ 47
+  pub bracket : f.bracket ≢ 40
+  pub used : f.used ≡ unused
+
+abbrev pub LineAgrees : LinePlace → LineSeen → Type 0
+LineAgrees places.Start f = PartKnown f begin First × (f.bracket ≢ 40)
+LineAgrees (places.Operation t) f = PartKnown f t.part t.nth × (f.bracket ≢ 40)
+LineAgrees (places.Coordinates v) f = PartKnown f v.part v.nth × (f.bracket ≡ 40) × (is_digit f.mark ≡ settles v.part.spot) × (f.used ≡ unused) × (v.label ≡ true → v.nth ≡ First)
+LineAgrees (places.Closed w) f = Between f × (f.commas ≡ 2) × (f.mark ≡ 41)
+LineAgrees places.Behind f = Between f × (f.mark ≡ 43)
+LineAgrees (places.Comment o) f = Unit {0}
+
+pub to_place : (p q : LinePlace) (f : LineSeen) → placed p ≡ placed q → LineAgrees p f → LineAgrees q f
+to_place p q f e h = subst (λ x. LineAgrees x f) (sym (placed_is p q e)) h
+
+abbrev pub bracket_same : LineSeen → ℕ → Type 0
+bracket_same f b = (line_seen_step f b).bracket ≡ f.bracket
+
+pub not_bracket : (f g : LineSeen) → g.bracket ≡ f.bracket → f.bracket ≢ 40 → g.bracket ≢ 40
+not_bracket f g e h z = h (sym e ∙ z)
+
+-- in an operation
+pub op_in_part : (m : Mark) (t : TripletReader) (f : LineSeen) (b : ℕ) (q : LinePlace) → in_a_part m ≡ true → IsMark b m → LineAgrees (places.Operation t) f → in_operation (in_part t (part_step m t.part)) ≡ placed q → LineAgrees q (line_seen_step f b)
+op_in_part m t f b q a i h e = op_by (part_step m t.part) m t f b q a i h refl e
+  where
+    op_by : (r : Result PartReader TextKind) (m : Mark) (t : TripletReader) (f : LineSeen) (b : ℕ) (q : LinePlace) → in_a_part m ≡ true → IsMark b m → LineAgrees (places.Operation t) f → part_step m t.part ≡ r → in_operation (in_part t r) ≡ placed q → LineAgrees q (line_seen_step f b)
+    op_by (Ok p) m t f b q a i h w e = to_place _ q (line_seen_step f b) e (known_step m f t.part p t.nth b a i h.0 w, not_bracket f (line_seen_step f b) (stays_by m f b a i).bracket h.1)
+    op_by (Err k) m t f b q a i h w e = no_place _ q e
+
+pub op_comma : (o : Option PartReader) (n : Nth) (t : TripletReader) (f : LineSeen) (q : LinePlace) → t.nth ≡ n → LineAgrees (places.Operation t) f → in_operation (comma_at o t) ≡ placed q → LineAgrees q (line_seen_step f 44)
+op_comma None n t f q i h e = no_place _ q e
+op_comma (Some p) n t f q i h e = op_next n t p.row f q (h.0.commas ∙ ap index i) h.1 (ap (λ m. in_operation (next_part m t p.row)) (sym i) ∙ e)
+  where
+    op_next : (n : Nth) (t : TripletReader) (r : rows.Row) (f : LineSeen) (q : LinePlace) → f.commas ≡ index n → f.bracket ≢ 40 → in_operation (next_part n t r) ≡ placed q → LineAgrees q (line_seen_step f 44)
+    op_next First t r f q c h e = to_place _ q (line_seen_step f 44) e (known_comma f Second (omega (arith, c)), h)
+    op_next Second t r f q c h e = to_place _ q (line_seen_step f 44) e (known_comma f Third (omega (arith, c)), h)
+    op_next Third t r f q c h e = no_place _ q e
+
+pub op_step : (m : Mark) (t : TripletReader) (f : LineSeen) (b : ℕ) (q : LinePlace) → IsMark b m → LineAgrees (places.Operation t) f → in_operation (step m t) ≡ placed q → LineAgrees q (line_seen_step f b)
+op_step marks.Blank t f b q i h e = op_in_part marks.Blank t f b q refl i h e
+op_step (marks.Signs s) t f b q i h e = op_in_part (marks.Signs s) t f b q refl i h e
+op_step (marks.Letter a) t f b q i h e = op_in_part (marks.Letter a) t f b q refl i h e
+op_step (marks.Digit n) t f b q i h e = op_in_part (marks.Digit n) t f b q refl i h e
+op_step marks.Slash t f b q i h e = op_in_part marks.Slash t f b q refl i h e
+op_step marks.Comma t f b q i h e = subst (λ x. LineAgrees q (line_seen_step f x)) (sym i) (op_comma (settled t.part) t.nth t f q refl h e)
+op_step marks.Hash t f b q i h e = no_place _ q e
+op_step marks.Open t f b q i h e = no_place _ q e
+op_step marks.Close t f b q i h e = no_place _ q e
+op_step marks.Other t f b q i h e = no_place _ q e
+
+pub from_start_step : (m : Mark) (f : LineSeen) (b : ℕ) (q : LinePlace) → IsMark b m → LineAgrees places.Start f → start_step m ≡ placed q → LineAgrees q (line_seen_step f b)
+from_start_step marks.Blank f b q i h e = to_place places.Start q (line_seen_step f b) e (known_step marks.Blank f begin begin First b refl i h.0 refl, not_bracket f (line_seen_step f b) (stays_by marks.Blank f b refl i).bracket h.1)
+from_start_step marks.Open f b q i h e = subst (λ x. LineAgrees q (line_seen_step f x)) (sym i) (to_place _ q (line_seen_step f 40) e (known_open f, refl, refl, refl, λ z. refl))
+from_start_step marks.Hash f b q i h e = to_place (places.Comment None) q (line_seen_step f b) e tt
+from_start_step (marks.Signs s) f b q i h e = op_step (marks.Signs s) start f b q i h e
+from_start_step (marks.Letter a) f b q i h e = op_step (marks.Letter a) start f b q i h e
+from_start_step (marks.Digit n) f b q i h e = op_step (marks.Digit n) start f b q i h e
+from_start_step marks.Slash f b q i h e = op_step marks.Slash start f b q i h e
+from_start_step marks.Comma f b q i h e = op_step marks.Comma start f b q i h e
+from_start_step marks.Close f b q i h e = op_step marks.Close start f b q i h e
+from_start_step marks.Other f b q i h e = op_step marks.Other start f b q i h e
+
+pub in_op_step : (m : Mark) (t : TripletReader) (f : LineSeen) (b : ℕ) (q : LinePlace) → IsMark b m → LineAgrees (places.Operation t) f → operation_step m t ≡ placed q → LineAgrees q (line_seen_step f b)
+in_op_step marks.Hash t f b q i h e = hash_by (value t) f b q e
+  where
+    hash_by : (v : Option Motion3) (f : LineSeen) (b : ℕ) (q : LinePlace) → comment_behind v ≡ placed q → LineAgrees q (line_seen_step f b)
+    hash_by None f b q e = no_place _ q e
+    hash_by (Some t) f b q e = to_place (places.Comment (Some t)) q (line_seen_step f b) e tt
+in_op_step marks.Blank t f b q i h e = op_step marks.Blank t f b q i h e
+in_op_step (marks.Signs s) t f b q i h e = op_step (marks.Signs s) t f b q i h e
+in_op_step (marks.Letter a) t f b q i h e = op_step (marks.Letter a) t f b q i h e
+in_op_step (marks.Digit n) t f b q i h e = op_step (marks.Digit n) t f b q i h e
+in_op_step marks.Slash t f b q i h e = op_step marks.Slash t f b q i h e
+in_op_step marks.Comma t f b q i h e = op_step marks.Comma t f b q i h e
+in_op_step marks.Open t f b q i h e = op_step marks.Open t f b q i h e
+in_op_step marks.Close t f b q i h e = op_step marks.Close t f b q i h e
+in_op_step marks.Other t f b q i h e = op_step marks.Other t f b q i h e
+
+-- in a vector
+
+pub used_at : (f g : LineSeen) (b c : ℕ) → b ≡ c → line_seen_step f c ≡ g → g.used ≡ unused → (line_seen_step f b).used ≡ unused
+used_at f g b c e h s = subst (λ x. (line_seen_step f x).used ≡ unused) (sym e) (subst (λ (x : LineSeen). x.used ≡ unused) (sym h) s)
+
+pub used_by : (m : Mark) (f : LineSeen) (b : ℕ) → in_a_part m ≡ true → ((a : Axis) → m ≡ marks.Letter a → ⊥) → IsMark b m → f.used ≡ unused → (line_seen_step f b).used ≡ unused
+used_by marks.Blank f b p n i h = used_at f _ b _ i.1 (l_blank f i.0) h
+used_by (marks.Signs s) f b p n i h = used_at f _ b _ i (l_sign f s) h
+used_by (marks.Letter a) f b p n i h = absurd (n a refl)
+used_by (marks.Digit k) f b p n i h = used_at f _ b _ i.1 (l_digit f i.0) h
+used_by marks.Slash f b p n i h = used_at f (line_seen_step f 47) b 47 i refl h
+used_by marks.Comma f b p n i h = absurd cc
+used_by marks.Hash f b p n i h = absurd cc
+used_by marks.Open f b p n i h = absurd cc
+used_by marks.Close f b p n i h = absurd cc
+used_by marks.Other f b p n i h = absurd cc
+
+pub vec_moved : (m : Mark) (v : VectorReader) (f : LineSeen) (b : ℕ) (p : PartReader) (l : Bool) → in_a_part m ≡ true → ((a : Axis) → m ≡ marks.Letter a → ⊥) → (l ≡ true → v.nth ≡ First) → IsMark b m → LineAgrees (places.Coordinates v) f → part_step m v.part ≡ fine p →
+    LineAgrees (places.Coordinates (record v { part = p; label = l })) (line_seen_step f b)
+vec_moved m v f b p l a n c i h w =
+    (known_step m f v.part p v.nth b a i h.0 w, (stays_by m f b a i).bracket ∙ h.1, digits_by m f v.part p b i h.2 n w, used_by m f b a n i h.3, c)
+
+pub vec_by : (r : Result PartReader TextKind) (m : Mark) (v : VectorReader) (f : LineSeen) (b : ℕ) (l : Bool) (q : LinePlace) → in_a_part m ≡ true → ((a : Axis) → m ≡ marks.Letter a → ⊥) → (l ≡ true → v.nth ≡ First) → IsMark b m → LineAgrees (places.Coordinates v) f →
+    part_step m v.part ≡ r → in_coordinate l v r ≡ placed q → LineAgrees q (line_seen_step f b)
+vec_by (Ok p) m v f b l q a n c i h w e = to_place _ q (line_seen_step f b) e (vec_moved m v f b p l a n c i h w)
+vec_by (Err k) m v f b l q a n c i h w e = no_place _ q e
+
+pub unlabel : (n : Nth) → false ≡ true → n ≡ First
+unlabel n e = absurd cc
+
+pub vec_sign : (spot : Spot) (s : Sign) (v : VectorReader) (f : LineSeen) (b : ℕ) (q : LinePlace) → v.part.spot ≡ spot → IsMark b (marks.Signs s) → LineAgrees (places.Coordinates v) f → coordinate_sign s spot v ≡ placed q → LineAgrees q (line_seen_step f b)
+vec_sign Begin s v f b q g i h e =
+    to_place _ q (line_seen_step f b) e (vec_moved (marks.Signs s) v f b (with_sign s v.part) false refl (λ a z. cc) (unlabel v.nth) i h (ap (λ x. on_sign_at s x v.part) g))
+vec_sign Signed s v f b q g i h e = no_place _ q e
+vec_sign (Digits n w) s v f b q g i h e = no_place _ q e
+vec_sign (Divided w) s v f b q g i h e = no_place _ q e
+vec_sign (Below w d) s v f b q g i h e = no_place _ q e
+vec_sign Behind s v f b q g i h e = no_place _ q e
+
+pub vec_comma : (o : Option PartReader) (n : Nth) (v : VectorReader) (f : LineSeen) (q : LinePlace) → v.nth ≡ n → LineAgrees (places.Coordinates v) f → coordinate_comma o v ≡ placed q → LineAgrees q (line_seen_step f 44)
+vec_comma None n v f q i h e = no_place _ q e
+vec_comma (Some p) n v f q i h e = vec_next n v p.row.shift f q (h.0.commas ∙ ap index i) h.1 (ap (λ m. next_coordinate m v p.row.shift) (sym i) ∙ e)
+  where
+    vec_next : (n : Nth) (v : VectorReader) (x : ℤ) (f : LineSeen) (q : LinePlace) → f.commas ≡ index n → f.bracket ≡ 40 → next_coordinate n v x ≡ placed q → LineAgrees q (line_seen_step f 44)
+    vec_next First v x f q c h e = to_place _ q (line_seen_step f 44) e (known_comma f Second (omega (arith, c)), h, refl, refl, λ z. absurd cc)
+    vec_next Second v x f q c h e = to_place _ q (line_seen_step f 44) e (known_comma f Third (omega (arith, c)), h, refl, refl, λ z. absurd cc)
+    vec_next Third v x f q c h e = no_place _ q e
+
+pub between_close : (f : LineSeen) → Between (line_seen_step f 41)
+between_close f = record { count = refl; other = λ e. omega arith; bracket = λ e. omega arith; used = refl }
+
+pub vec_closed : (n : Nth) (o : Option PartReader) (v : VectorReader) (f : LineSeen) (q : LinePlace) → f.commas ≡ index n → closed_at n o v ≡ placed q → LineAgrees q (line_seen_step f 41)
+vec_closed First None v f q c e = no_place _ q e
+vec_closed Second None v f q c e = no_place _ q e
+vec_closed Third None v f q c e = no_place _ q e
+vec_closed First (Some p) v f q c e = no_place _ q e
+vec_closed Second (Some p) v f q c e = no_place _ q e
+vec_closed Third (Some p) v f q c e = to_place _ q (line_seen_step f 41) e (between_close f, c, refl)
+
+pub vec_close : (l d : Bool) (v : VectorReader) (f : LineSeen) (q : LinePlace) → v.label ≡ l → LineAgrees (places.Coordinates v) f → cond (l && d) (placed (places.Operation start)) (closed_at v.nth (settled v.part) v) ≡ placed q → LineAgrees q (line_seen_step f 41)
+vec_close true true v f q i h e = to_place (places.Operation start) q (line_seen_step f 41) e (known_label f (h.0.commas ∙ ap index (h.4 i)), λ z. omega arith)
+vec_close true false v f q i h e = vec_closed v.nth (settled v.part) v f q h.0.commas e
+vec_close false d v f q i h e = vec_closed v.nth (settled v.part) v f q h.0.commas e
+
+pub vec_step : (m : Mark) (v : VectorReader) (f : LineSeen) (b : ℕ) (q : LinePlace) → IsMark b m → LineAgrees (places.Coordinates v) f → vector_step m v ≡ placed q → LineAgrees q (line_seen_step f b)
+vec_step (marks.Letter a) v f b q i h e = no_place _ q e
+vec_step (marks.Signs s) v f b q i h e = vec_sign v.part.spot s v f b q refl i h e
+vec_step marks.Comma v f b q i h e = subst (λ x. LineAgrees q (line_seen_step f x)) (sym i) (vec_comma (settled v.part) v.nth v f q refl h e)
+vec_step marks.Close v f b q i h e = subst (λ x. LineAgrees q (line_seen_step f x)) (sym i) (vec_close v.label (is_digits v.part.spot) v f q refl h e)
+vec_step (marks.Digit n) v f b q i h e = vec_by (part_step (marks.Digit n) v.part) (marks.Digit n) v f b v.label q refl (λ a z. cc) h.4 i h refl e
+vec_step marks.Blank v f b q i h e = vec_by (part_step marks.Blank v.part) marks.Blank v f b false q refl (λ a z. cc) (unlabel v.nth) i h refl e
+vec_step marks.Slash v f b q i h e = vec_by (part_step marks.Slash v.part) marks.Slash v f b false q refl (λ a z. cc) (unlabel v.nth) i h refl e
+vec_step marks.Hash v f b q i h e = no_place _ q e
+vec_step marks.Open v f b q i h e = no_place _ q e
+vec_step marks.Other v f b q i h e = no_place _ q e
+
+pub between_blank : (f : LineSeen) (k : Blank) → Between f → Between (line_seen_step f (blank_byte k))
+between_blank f space h = record { count = refl; other = λ e. omega arith; bracket = h.bracket; used = h.used }
+between_blank f tab h = record { count = refl; other = λ e. omega arith; bracket = h.bracket; used = h.used }
+between_blank f carriage_return h = record { count = refl; other = λ e. omega arith; bracket = h.bracket; used = h.used }
+
+pub blank_keeps : (f : LineSeen) (k : Blank) → ((line_seen_step f (blank_byte k)).mark ≡ f.mark) × ((line_seen_step f (blank_byte k)).commas ≡ f.commas)
+blank_keeps f space = (refl, refl)
+blank_keeps f tab = (refl, refl)
+blank_keeps f carriage_return = (refl, refl)
+
+pub shut_step : (m : Mark) (w : List Part) (f : LineSeen) (b : ℕ) (q : LinePlace) → IsMark b m → LineAgrees (places.Closed w) f → closed_step m w ≡ placed q → LineAgrees q (line_seen_step f b)
+shut_step marks.Blank w f b q i h e = subst (λ x. LineAgrees q (line_seen_step f x)) (sym i.1) (to_place (places.Closed w) q (line_seen_step f (blank_byte i.0)) e (between_blank f i.0 h.0, (blank_keeps f i.0).1 ∙ h.1, (blank_keeps f i.0).0 ∙ h.2))
+shut_step (marks.Signs Plus) w f b q i h e = subst (λ x. LineAgrees q (line_seen_step f x)) (sym i) (to_place places.Behind q (line_seen_step f 43) e (record { count = refl; other = λ e. omega arith; bracket = h.0.bracket; used = h.0.used }, refl))
+shut_step (marks.Signs Minus) w f b q i h e = no_place _ q e
+shut_step (marks.Letter a) w f b q i h e = no_place _ q e
+shut_step (marks.Digit n) w f b q i h e = no_place _ q e
+shut_step marks.Slash w f b q i h e = no_place _ q e
+shut_step marks.Comma w f b q i h e = no_place _ q e
+shut_step marks.Hash w f b q i h e = no_place _ q e
+shut_step marks.Open w f b q i h e = no_place _ q e
+shut_step marks.Close w f b q i h e = no_place _ q e
+shut_step marks.Other w f b q i h e = no_place _ q e
+
+pub row_step : (m : Mark) (f : LineSeen) (b : ℕ) (q : LinePlace) → IsMark b m → LineAgrees places.Behind f → behind_step m ≡ placed q → LineAgrees q (line_seen_step f b)
+row_step marks.Blank f b q i h e = subst (λ x. LineAgrees q (line_seen_step f x)) (sym i.1) (to_place places.Behind q (line_seen_step f (blank_byte i.0)) e (between_blank f i.0 h.0, (blank_keeps f i.0).0 ∙ h.1))
+row_step marks.Open f b q i h e = subst (λ x. LineAgrees q (line_seen_step f x)) (sym i) (to_place (places.Coordinates (opened false)) q (line_seen_step f 40) e (known_open f, refl, refl, refl, λ z. refl))
+row_step marks.Hash f b q i h e = to_place (places.Comment None) q (line_seen_step f b) e tt
+row_step (marks.Signs s) f b q i h e = no_place _ q e
+row_step (marks.Letter a) f b q i h e = no_place _ q e
+row_step (marks.Digit n) f b q i h e = no_place _ q e
+row_step marks.Slash f b q i h e = no_place _ q e
+row_step marks.Comma f b q i h e = no_place _ q e
+row_step marks.Close f b q i h e = no_place _ q e
+row_step marks.Other f b q i h e = no_place _ q e
+
+pub place_agrees : (p : LinePlace) (f : LineSeen) (b : ℕ) (q : LinePlace) → LineAgrees p f → place_step (mark b) p ≡ placed q → LineAgrees q (line_seen_step f b)
+place_agrees places.Start f b q h e = from_start_step (mark b) f b q (mark_is b) h e
+place_agrees (places.Operation t) f b q h e = in_op_step (mark b) t f b q (mark_is b) h e
+place_agrees (places.Coordinates v) f b q h e = vec_step (mark b) v f b q (mark_is b) h e
+place_agrees (places.Closed w) f b q h e = shut_step (mark b) w f b q (mark_is b) h e
+place_agrees places.Behind f b q h e = row_step (mark b) f b q (mark_is b) h e
+place_agrees (places.Comment o) f b q h e = to_place (places.Comment o) q (line_seen_step f b) e tt
+
+pub run_by : (r : Result LineState TextKind) (b : ℕ) (bs : List ℕ) (s t : LineState) (f : LineSeen) → ((u : LineState) (g : LineSeen) → LineAgrees u.place g → line_run (Ok u) bs ≡ line_going t → LineAgrees t.place (line_seen g bs)) →
+    LineAgrees s.place f → line_step (mark b) s ≡ r → line_run r bs ≡ line_going t → LineAgrees t.place (line_seen (line_seen_step f b) bs)
+run_by (Ok u) b bs s t f then_on h w e =
+    let p = placed_by (place_step (mark b) s.place) (with_vector (completed (mark b) s.place) s.vectors) u w in
+    then_on u (line_seen_step f b) (subst (λ (x : LineState). LineAgrees x.place (line_seen_step f b)) (sym p.state) (place_agrees s.place f b p.place h p.place_is)) e
+run_by (Err k) b bs s t f then_on h w e = absurd (let z = run_line_stopped k bs in cc)
+
+pub run_agrees : (bs : List ℕ) (s t : LineState) (f : LineSeen) → LineAgrees s.place f → line_run (Ok s) bs ≡ line_going t → LineAgrees t.place (line_seen f bs)
+run_agrees [] s t f h e = subst (λ (x : LineState). LineAgrees x.place f) (sym (going_line_is _ t e)) h
+run_agrees (b ∷ bs) s t f h e = run_by (line_step (mark b) s) b bs s t f (λ u g. run_agrees bs u t g) h refl e
+
+pub line_agrees : (bs : List ℕ) (t : LineState) → line_run (Ok line_start) bs ≡ line_going t → LineAgrees t.place (line_seen line_seen_start bs)
+line_agrees bs t e = run_agrees bs line_start t line_seen_start (
+  record {
+    core = nothing_seen;
+    follows = record { other = refl; count = refl; used = refl; mark = inl (refl, (λ e. omega arith), (λ e. omega arith)) };
+    agrees = record { used = refl; spot = (refl, refl, λ e. omega arith) };
+    end = refl;
+    commas = refl;
+  },
+  λ z. omega arith,
+) e

@@ -1,0 +1,185 @@
+-- The trees of the grammar that write the terms of a part.
+use Rattle.std.proofs.Common.{◌≡◌, ℕ, zero, suc, ◌*◌, ◌/◌, ◌<◌, ◌≤◌, false, List, [], ◌∷◌, ◌++◌, ℤ, pos, negsuc, ◌+ℤ◌, neg_ℤ, nat_abs, refl, sym, ap, subst, ◌∙◌, arith}
+use Rattle.std.specs.Int.{◌∣◌}
+use Rattle.std.specs.Fmt.{digits, decimal as decimal_text, signed_decimal}
+use Rattle.std.proofs.lemmas.Fmt.{decimal_digit}
+use Rattle.std.proofs.lemmas.List.{append-nil}
+use Rattle.std.proofs.Math.Nat.{dvd-mul_left, mul-div_cancel, mul-div_cancel', pos_of_dvd_of_pos}
+use Rattle.integers.specs.Size.{IsWithin}
+use Rattle.fractions.specs.declared.part.TheConstants.{UNIT}
+use Rattle.fractions.specs.LowestTerms.{gcd, signed_gcd, lowest_terms}
+use Rattle.fractions.specs.RatioText.{denominator_text as below_text}
+use Rattle.fractions.proofs.Gcd.{IsGcd-gcd}
+use Rattle.triplets.specs.declared.marks.Axis.{Axis}
+use Rattle.motions.specs.declared.motion.Sign.{Sign}
+use Rattle.motions.specs.declared.motion.Sign.TheVariants.{Plus, Minus}
+use Rattle.triplets.specs.declared.denominator.Denominator.{Denominator}
+use Rattle.triplets.specs.declared.denominator.Denominator.TheVariants.{One, Two, Three, Four, Six, Eight, Twelve, TwentyFour}
+use Rattle.triplets.specs.declared.part.Row.{Row}
+use Rattle.triplets.specs.declared.part.Used.{Used}
+use Rattle.triplets.specs.Bytes.{slash}
+use Rattle.triplets.specs.Rows.{signed, with_entry, with_shift, uses, with_used}
+use Rattle.triplets.specs.Denominators.{unit, denominator_value, denominator_text, parts}
+use Rattle.triplets.specs.Grammar.{sign_byte, letter_byte, Numerator, numerator_text, numerator_value, Term, letter, multiple, whole, fraction, term_text, with_term, with_letters, IsNew}
+use Rattle.triplets.specs.Writing.{letter_term, number_term}
+use Rattle.triplets.proofs.NumberTrees.{digit, digit-value, numerator_tree, denominator_tree}
+
+-- the text is a sign and a term, which adds this to a row and to the letters of a part where the letters leave it free
+pub record IsTerm (text : List ℕ) (add : Row → Row) (use_letter : Used → Used) (IsFree : Used → Type 0) : Type 0 where
+  pub sign : Sign
+  pub term : Term
+  pub text_is : text ≡ sign_byte sign ∷ term_text term
+  pub row_is : (r : Row) → with_term sign term r ≡ add r
+  pub letters_are : (u : Used) → with_letters term u ≡ use_letter u
+  pub new : (u : Used) → IsFree u → IsNew term u
+
+-- ---- letters
+
+abbrev pub IsLetter : Axis → ℤ → Type 0
+IsLetter a c = IsTerm (letter_term c (letter_byte a false ∷ [])) (with_entry a c) (with_used a) (λ u. uses a u ≡ false)
+
+-- a letter with its sign alone
+single : (s : Sign) (a : Axis) (c : ℤ) → signed s 1 ≡ c → letter_term c (letter_byte a false ∷ []) ≡ sign_byte s ∷ letter_byte a false ∷ []
+    → IsLetter a c
+single s a c value text = record {
+  sign = s;
+  term = letter a false;
+  text_is = text;
+  row_is = λ r. ap (λ v. with_entry a v r) value;
+  letters_are = λ u. refl;
+  new = λ u free. free;
+}
+
+-- a letter with a digit from 2 on
+multiplied : (s : Sign) (a : Axis) (c : ℤ) (n : ℕ) → suc (suc n) < 10 → signed s (suc (suc n)) ≡ c
+    → letter_term c (letter_byte a false ∷ []) ≡ sign_byte s ∷ (decimal_text (suc (suc n)) ++ letter_byte a false ∷ []) → IsLetter a c
+multiplied s a c n below value text = record {
+  sign = s;
+  term = multiple (digit (suc (suc n)) below) (omega arith) a false;
+  text_is = text ∙ ap (λ ds. sign_byte s ∷ (ds ++ letter_byte a false ∷ [])) (decimal_digit (suc (suc n)) below);
+  row_is = λ r. ap (λ v. with_entry a v r) (ap (signed s) (digit-value (suc (suc n)) below) ∙ value);
+  letters_are = λ u. refl;
+  new = λ u free. free;
+}
+
+pub letter_tree : (a : Axis) (c : ℤ) → IsWithin 9 c → ¬ (c ≡ pos 0) → IsLetter a c
+letter_tree a (pos zero) h n = absurd (n refl)
+letter_tree a (pos (suc zero)) h n = single Plus a (pos 1) refl refl
+letter_tree a (pos (suc (suc n))) h _ = multiplied Plus a (pos (suc (suc n))) n (omega (arith, h.most)) refl refl
+letter_tree a (negsuc zero) h n = single Minus a (negsuc 0) refl refl
+letter_tree a (negsuc (suc n)) h _ = multiplied Minus a (negsuc (suc n)) n (omega (arith, h.most)) refl refl
+
+-- ---- numbers
+
+divides_by_quotient : (g n : ℕ) → g ∣ n → n / g ∣ n
+divides_by_quotient g n h = subst (λ (k : ℕ). n / g ∣ k) (mul-div_cancel' g h) (dvd-mul_left (n / g) g)
+
+quotient_positive : (g n : ℕ) → 0 < n → g ∣ n → 0 < n / g
+quotient_positive g n above h = pos_of_dvd_of_pos (divides_by_quotient g n h) above
+
+div-div : (g n : ℕ) → 0 < n → g ∣ n → n / (n / g) ≡ g
+div-div g n above h =
+    ap (λ k. k / (n / g)) (sym (mul-div_cancel' g h)) ∙ mul-div_cancel g (quotient_positive g n above h)
+
+-- what stands behind the numerator
+below : Denominator → List ℕ
+below One = []
+below d = slash ∷ denominator_text d
+
+below_is : (d : Denominator) → below_text (pos (denominator_value d)) ≡ below d
+unfolding digits below
+below_is One = refl
+below_is Two = refl
+below_is Three = refl
+below_is Four = refl
+below_is Six = refl
+below_is Eight = refl
+below_is Twelve = refl
+below_is TwentyFour = refl
+
+over : Numerator → Denominator → Term
+over w One = whole w
+over w d = fraction w d
+
+over-text : (w : Numerator) (d : Denominator) → term_text (over w d) ≡ numerator_text w ++ below d
+unfolding over below
+over-text w One = sym (append-nil (numerator_text w))
+over-text w d = refl
+
+over-row : (s : Sign) (w : Numerator) (d : Denominator) (r : Row) → with_term s (over w d) r ≡ with_shift s (parts d * numerator_value w) r
+unfolding over
+over-row s w One r = refl
+over-row s w d r = refl
+
+over-letters : (w : Numerator) (d : Denominator) (u : Used) → with_letters (over w d) u ≡ u
+unfolding over
+over-letters w One u = refl
+over-letters w d u = refl
+
+over-new : (w : Numerator) (d : Denominator) (u : Used) → IsNew (over w d) u
+unfolding over
+over-new w One u = tt
+over-new w d u = tt
+
+-- n parts as a numerator over a denominator, where g divides both n and the number of parts
+record IsOver (n g : ℕ) : Type 0 where
+  term : Term
+  text : term_text term ≡ decimal_text (n / g) ++ below_text (pos (unit / g))
+  row_is : (s : Sign) (r : Row) → with_term s term r ≡ with_shift s n r
+  letters_are : (u : Used) → with_letters term u ≡ u
+  new : (u : Used) → IsNew term u
+
+over_tree : (n g : ℕ) → 0 < n → g ∣ n → g ∣ unit → n / g ≤ 999 → IsOver n g
+over_tree n g above in_n in_unit short =
+    let w = numerator_tree (n / g) short in
+    let d = denominator_tree (unit / g) (divides_by_quotient g unit in_unit) in
+    let each : parts d.by ≡ g = ap (λ k. unit / k) d.value ∙ div-div g unit (omega arith) in_unit in
+    let all : parts d.by * numerator_value w.by ≡ n = (λ i. each i * w.value i) ∙ mul-div_cancel' g in_n in
+    record {
+      term = over w.by d.by;
+      text = over-text w.by d.by ∙ (λ i. w.text i ++ (sym (below_is d.by) ∙ ap (λ k. below_text (pos k)) d.value) i);
+      row_is = λ s r. over-row s w.by d.by r ∙ ap (λ k. with_shift s k r) all;
+      letters_are = over-letters w.by d.by;
+      new = over-new w.by d.by;
+    }
+
+abs-neg : (k : ℕ) → nat_abs (neg_ℤ (pos k)) ≡ k
+abs-neg zero = refl
+abs-neg (suc k) = refl
+
+signed_decimal-neg : (k : ℕ) → 0 < k → signed_decimal (neg_ℤ (pos k)) ≡ sign_byte Minus ∷ decimal_text k
+signed_decimal-neg zero h = absurd (omega arith)
+signed_decimal-neg (suc k) h = refl
+
+abbrev pub IsNumber : ℤ → Type 0
+IsNumber t = IsTerm (number_term t) (λ r. record r { shift = r.shift +ℤ t }) (λ u. u) (λ u. Unit {0})
+
+pub number_tree : (t : ℤ) → IsWithin 999 (lowest_terms t UNIT).num → ¬ (t ≡ pos 0) → IsNumber t
+unfolding lowest_terms signed_gcd
+number_tree (pos zero) h n = absurd (n refl)
+number_tree (pos (suc n)) h _ =
+    let g : ℕ = gcd (suc n) unit in
+    let divides = IsGcd-gcd (suc n) unit in
+    let o = over_tree (suc n) g (omega arith) divides.0 divides.1 h.most in
+    record {
+      sign = Plus;
+      term = o.term;
+      text_is = ap (λ ts. sign_byte Plus ∷ ts) (sym o.text);
+      row_is = o.row_is Plus;
+      letters_are = o.letters_are;
+      new = λ u free. o.new u;
+    }
+number_tree (negsuc n) h _ =
+    let g : ℕ = gcd (suc n) unit in
+    let divides = IsGcd-gcd (suc n) unit in
+    let short : suc n / g ≤ 999 = subst (λ k. k ≤ 999) (abs-neg (suc n / g)) h.most in
+    let o = over_tree (suc n) g (omega arith) divides.0 divides.1 short in
+    let minus = signed_decimal-neg (suc n / g) (quotient_positive g (suc n) (omega arith) divides.0) in
+    record {
+      sign = Minus;
+      term = o.term;
+      text_is = ap (λ ts. ts ++ below_text (pos (unit / g))) minus ∙ ap (λ ts. sign_byte Minus ∷ ts) (sym o.text);
+      row_is = o.row_is Minus;
+      letters_are = o.letters_are;
+      new = λ u free. o.new u;
+    }

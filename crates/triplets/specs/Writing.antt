@@ -1,0 +1,64 @@
+-- The one written form of a motion as a coordinate triplet.
+use Rattle.std.specs.Prelude.{Bool, true, false, ℕ, zero, suc, ℤ, pos, negsuc, List, [], ◌∷◌, ◌++◌, codes}
+use Rattle.std.specs.Fmt.{signed_decimal}
+use Rattle.std.specs.Str.Parse.{without_leading_plus}
+use Rattle.fractions.specs.declared.part.TheConstants.{UNIT}
+use Rattle.fractions.specs.LowestTerms.{lowest_terms}
+use Rattle.fractions.specs.RatioText.{ratio_text}
+use Rattle.symmetry.specs.Vectors.{Vector}
+use Rattle.symmetry.specs.Motions.{Motion}
+
+-- a number of parts, as a ratio of the cell edge in lowest terms
+abbrev pub number_text : ℤ → List ℕ
+number_text t = ratio_text (lowest_terms t UNIT)
+
+-- a coefficient in decimal, of which 1 and -1 show the sign alone
+abbrev pub coefficient_text : ℤ → List ℕ
+coefficient_text (pos (suc zero)) = []
+coefficient_text (negsuc zero) = codes "-"
+coefficient_text c = signed_decimal c
+
+-- a term behind others: nothing at 0, and a `+` before what is positive
+abbrev pub further_term : ℤ → List ℕ → List ℕ
+further_term (pos zero) text = []
+further_term (pos (suc n)) text = codes "+" ++ text
+further_term (negsuc n) text = text
+
+-- the term of a coefficient and its letter
+abbrev pub letter_term : ℤ → List ℕ → List ℕ
+letter_term c letter = further_term c (coefficient_text c ++ letter)
+
+-- the term of a number of parts
+abbrev pub number_term : ℤ → List ℕ
+number_term t = further_term t (number_text t)
+
+-- the letters in order, then the number
+abbrev pub terms_text : Vector → ℤ → List ℕ
+terms_text r t = letter_term r.x (codes "x") ++ letter_term r.y (codes "y") ++ letter_term r.z (codes "z") ++ number_term t
+
+-- where no term shows, `0` stands
+abbrev pub or_zero : List ℕ → List ℕ
+or_zero [] = codes "0"
+or_zero (b ∷ bs) = b ∷ bs
+
+-- a row of the matrix part with the number beside it: its terms, with no `+` first
+abbrev pub row_text : Vector → ℤ → List ℕ
+row_text r t = or_zero (without_leading_plus (terms_text r t))
+
+-- the three rows, joined by commas
+abbrev pub triplet_text : Motion → List ℕ
+triplet_text m =
+    row_text m.matrix.first m.shift.x ++ codes "," ++
+    row_text m.matrix.second m.shift.y ++ codes "," ++
+    row_text m.matrix.third m.shift.z
+
+-- the `+` of a term that is not 0, the first of its part or a further one
+abbrev pub plus_text : Bool → ℤ → List ℕ
+plus_text true c = []
+plus_text false (pos n) = codes "+"
+plus_text false (negsuc n) = []
+
+-- a term as it stands in its part, the first or a further one
+abbrev pub placed : Bool → List ℕ → List ℕ
+placed true text = without_leading_plus text
+placed false text = text
