@@ -5,3 +5,8 @@ pub mod Refusals
 pub mod Outcomes
 pub mod Limits
 pub mod Requests
+pub mod Texts
+pub mod Answers
+pub mod Runs
+pub mod Obstacles
+pub mod Responses

@@ -7,7 +7,6 @@ use Rattle.motions.specs.declared.plane_fault.PlaneFault.{PlaneFault}
 use Rattle.motions.specs.declared.plane_fault.PlaneFault.TheVariants as planes
 use Rattle.motions.specs.PlaneFaults.{IsPlaneFault}
 use Rattle.command.specs.declared.request.Request.{Request}
-use Rattle.command.specs.declared.request.Request.TheVariants.{At}
 use Rattle.command.specs.declared.refusal.Refusal.{Refusal}
 use Rattle.command.specs.declared.refusal.Refusal.TheVariants.{Usage, OutOfRange, AllZero, NotCoprime, FrameLimit, HeightLimit}
 use Rattle.command.specs.Words.{AtWords, IsAtWords}
@@ -15,8 +14,8 @@ use Rattle.command.specs.Limits.{IsPlane, IsFrameInRange, IsHeightInRange, IsBas
 
 -- the request is what the words ask for, and within the limits
 abbrev pub Asks : AtWords → Request → Type 0
-Asks w (At plane basis s) =
-    (row_of plane ≡ w.row) × IsBasisOf w.frame (basis_of basis) × (fraction_of s ≡ w.height) × IsFrameInRange w.frame × IsHeightInRange w.height
+Asks w request =
+    (row_of request.plane ≡ w.row) × IsBasisOf w.frame (basis_of request.basis) × (fraction_of request.s ≡ w.height) × IsFrameInRange w.frame × IsHeightInRange w.height
 
 -- the refusal of indices that are no Miller indices
 abbrev pub plane_refusal : PlaneFault → Refusal

@@ -15,6 +15,9 @@ use motions::Basis;
 
 use crate::words::{FrameWord, VectorWord};
 
+/// How many bytes the input may have.
+pub const MOST_BYTES: usize = 65_536;
+
 /// How large an entry of a frame vector may be, in cell edges.
 const MOST_ENTRY: u128 = 1000;
 

@@ -38,7 +38,7 @@ fn within_limits(raw: RawAt) -> Result<Request, Refusal>
     if !is_height_in_range(raw.plane.s) {
         return Err(Refusal::HeightLimit);
     }
-    Ok(Request::At {
+    Ok(Request {
         plane,
         basis,
         s: raw.plane.s,

