@@ -2,3 +2,4 @@ pub mod Indices
 pub mod VectorFacts
 pub mod WordLists
 pub mod EntrySizes
+pub mod LimitFacts
