@@ -3,3 +3,4 @@ pub mod VectorFacts
 pub mod WordLists
 pub mod EntrySizes
 pub mod LimitFacts
+pub mod OneReading

@@ -7,7 +7,7 @@ use Rattle.motions.specs.declared.plane_fault.PlaneFault.TheVariants as planes
 use Rattle.motions.specs.PlaneFaults.{IsPlaneFault}
 use Rattle.command.specs.declared.request.Request.{Request}
 use Rattle.command.specs.declared.refusal.Refusal.{Refusal}
-use Rattle.command.specs.declared.refusal.Refusal.TheVariants.{Usage, OutOfRange, AllZero, NotCoprime, FrameLimit, HeightLimit}
+use Rattle.command.specs.declared.refusal.Refusal.TheVariants.{OutOfRange, AllZero, NotCoprime, FrameLimit, HeightLimit}
 use Rattle.command.specs.Words.{AtWords}
 use Rattle.command.specs.Limits.{IsPlane, IsFrameInRange, IsHeightInRange}
 use Rattle.command.specs.Requests.{PassesLimit, plane_refusal}
