@@ -12,10 +12,9 @@ ghost use Rattle.motions.specs.BasisView.{basis_of};
 ghost use Rattle.command.specs.VectorWords.{fractions_of, frame_of, plane_row};
 ghost use Rattle.command.specs.Limits.{IsEntrySize, IsFrameEntry, AreFrameEntries, AreFrameVectors, IsFrameInRange, IsHeightInRange, IsInParts, IsFrameInParts, IsBasisOf, edges_basis};
 
+use crate::words::{FrameWord, PlaneWord, VectorWord};
 use fractions::{Part, Ratio, UNIT};
 use motions::{Basis, Miller, PlaneFault};
-
-use crate::words::{FrameWord, PlaneWord, VectorWord};
 
 /// How large an entry of a frame vector may be, in cell edges.
 const MOST_ENTRY: u128 = 1000;
@@ -50,7 +49,7 @@ fn entry_in_parts(entry: Ratio) -> Option<Part>
     ensures { MatchOption result
         (¬ (IsFrameEntry (fraction_of entry)))
         (λ part. IsFrameEntry (fraction_of entry) × (part.0 *ℤ (fraction_of entry).den ≡ (fraction_of entry).num *ℤ UNIT)
-            × IsWithin (1000 * unsigned_abs UNIT) part.0) }
+        × IsWithin (1000 * unsigned_abs UNIT) part.0) }
 {
     let size = size_in_parts(entry.num().unsigned_abs(), entry.den().unsigned_abs())?;
     Some(Part(if entry.num() < 0 { -size } else { size }))
@@ -61,7 +60,7 @@ fn vector_in_parts(v: &VectorWord) -> Option<[Part; 3]>
     ensures { MatchOption result
         (¬ (AreFrameEntries (fractions_of v.now)))
         (λ vector. AreFrameEntries (fractions_of v.now) × IsInParts (fractions_of v.now) (parts vector)
-            × IsVectorWithin (1000 * unsigned_abs UNIT) (parts vector)) }
+        × IsVectorWithin (1000 * unsigned_abs UNIT) (parts vector)) }
 {
     let x = entry_in_parts(v.x)?;
     let y = entry_in_parts(v.y)?;

@@ -5,12 +5,11 @@ ghost use Rattle.command.specs.declared.refusal.Refusal.{Refusal};
 ghost use Rattle.command.specs.VectorWords.{asked};
 ghost use Rattle.command.specs.Requests.{Asks, IsRequest, IsWordsRefusal, PassesLimit, plane_refusal};
 
-use motions::PlaneFault;
-
 use crate::limits::{basis_of_words, is_height_in_range, plane_of_words};
 use crate::refusal::Refusal;
 use crate::request::Request;
 use crate::words::{RawAt, read_at};
+use motions::PlaneFault;
 
 /// The refusal of indices that are no Miller indices.
 fn refusal_of(fault: PlaneFault) -> Refusal

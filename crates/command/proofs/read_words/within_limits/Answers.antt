@@ -1,4 +1,4 @@
-use Rattle.std.proofs.Common.{rules, ◌≡◌, Err, refl}
+use Rattle.std.proofs.Common.{rules}
 use Rattle.command.specs.VectorWords.{asked}
 use Rattle.command.specs.Limits.{IsHeightInRange}
 use Rattle.command.proofs.LimitFacts.{plane_refused, no_plane_fault, frame_refused, height_refused, not_refused}
