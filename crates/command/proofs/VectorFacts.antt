@@ -4,7 +4,7 @@ use Rattle.fractions.specs.Fraction.{Fraction}
 use Rattle.command.specs.Words.{Fractions, IsRatioAt, BeforeComma, IsVectorWord}
 
 -- the place behind the comma is one
-behind_once : (word : List ℕ) (at b c : ℕ) (q r : Fraction) → BeforeComma word at b q → BeforeComma word at c r → b ≡ c
+pub behind_once : (word : List ℕ) (at b c : ℕ) (q r : Fraction) → BeforeComma word at b q → BeforeComma word at c r → b ≡ c
 behind_once word at b c q r x y = x.behind_is ∙ ap (λ n. n + 1) (sym x.ratio.until ∙ y.ratio.until) ∙ sym y.behind_is
 
 pub no_first : (word : List ℕ) → ((behind : ℕ) (q : Fraction) → BeforeComma word 0 behind q → ⊥) → (v : Fractions) → IsVectorWord word v → ⊥

@@ -1,9 +1,9 @@
 -- The limits of a request.
-use Rattle.std.specs.Prelude.{◌≡◌, ℕ, ◌*◌, ◌≤◌, ℤ, pos, ◌*ℤ◌, Option, Some, None, unsigned_abs}
+use Rattle.std.specs.Prelude.{◌≡◌, ℕ, ◌*◌, ◌≤◌, pos, ◌*ℤ◌, Option, Some, None, unsigned_abs}
 use Rattle.integers.specs.Size.{IsWithin}
 use Rattle.fractions.specs.declared.part.TheConstants.{UNIT}
 use Rattle.fractions.specs.Fraction.{Fraction}
-use Rattle.symmetry.specs.Vectors.{Vector, origin}
+use Rattle.symmetry.specs.Vectors.{Vector}
 use Rattle.symmetry.specs.Frames.{Basis}
 use Rattle.motions.specs.declared.plane_fault.PlaneFault.{PlaneFault}
 use Rattle.motions.specs.PlaneFaults.{IsPlaneFault}

@@ -1,19 +1,20 @@
 // The limits of a request.
-ghost use Rattle.std.specs.Prelude.{◌≡◌, ◌*◌, ◌<◌, ℤ, pos, ◌*ℤ◌, ◌↔◌, MatchOption, MatchResult, IfOk, IsTrue, Err, unsigned_abs};
+ghost use Rattle.std.specs.Prelude.{◌≡◌, ◌*◌, ◌<◌, pos, ◌*ℤ◌, ◌↔◌, MatchOption, IfOk, IsTrue, Err, unsigned_abs};
 ghost use Rattle.std.specs.Option.{option_map};
 ghost use Rattle.integers.specs.Size.{IsWithin};
 ghost use Rattle.fractions.specs.declared.part.TheConstants.{UNIT};
 ghost use Rattle.fractions.specs.FractionOf.{fraction_of};
 ghost use Rattle.symmetry.specs.Sizes.{IsVectorWithin};
-ghost use Rattle.motions.specs.Views.{parts};
+ghost use Rattle.motions.specs.Views.{parts, row_of};
+ghost use Rattle.motions.specs.PlaneFaults.{IsPlaneFault};
+ghost use Rattle.motions.specs.declared.plane_fault.PlaneFault.{PlaneFault};
 ghost use Rattle.motions.specs.BasisView.{basis_of};
-ghost use Rattle.command.specs.VectorWords.{fractions_of, frame_of};
+ghost use Rattle.command.specs.VectorWords.{fractions_of, frame_of, plane_row};
 ghost use Rattle.command.specs.Limits.{IsEntrySize, IsFrameEntry, AreFrameEntries, AreFrameVectors, IsFrameInRange, IsHeightInRange, IsInParts, IsFrameInParts, IsBasisOf, edges_basis};
 
+use crate::words::{FrameWord, PlaneWord, VectorWord};
 use fractions::{Part, Ratio, UNIT};
-use motions::Basis;
-
-use crate::words::{FrameWord, VectorWord};
+use motions::{Basis, Miller, PlaneFault};
 
 /// How many bytes the input may have.
 pub const MOST_BYTES: usize = 65_536;
@@ -23,6 +24,14 @@ const MOST_ENTRY: u128 = 1000;
 
 /// How large the numerator and the denominator of a height may be.
 const MOST_HEIGHT: u128 = 1_000_000_000;
+
+/// The orientation that the indices give, or what is wrong with them.
+pub fn plane_of_words(words: PlaneWord) -> Result<Miller, PlaneFault>
+    ensures ok { IfOk result (λ plane. row_of plane ≡ plane_row words) }
+    ensures faults { (fault : PlaneFault) → (result ≡ Err fault) ↔ IsPlaneFault (plane_row words) fault }
+{
+    Miller::make(words.h, words.k, words.l)
+}
 
 /// How many parts a size over a denominator is, if the denominator divides [`UNIT`] and the size is in range.
 fn size_in_parts(size: u128, den: u128) -> Option<i64>
@@ -43,7 +52,7 @@ fn entry_in_parts(entry: Ratio) -> Option<Part>
     ensures { MatchOption result
         (¬ (IsFrameEntry (fraction_of entry)))
         (λ part. IsFrameEntry (fraction_of entry) × (part.0 *ℤ (fraction_of entry).den ≡ (fraction_of entry).num *ℤ UNIT)
-            × IsWithin (1000 * unsigned_abs UNIT) part.0) }
+        × IsWithin (1000 * unsigned_abs UNIT) part.0) }
 {
     let size = size_in_parts(entry.num().unsigned_abs(), entry.den().unsigned_abs())?;
     Some(Part(if entry.num() < 0 { -size } else { size }))
@@ -54,7 +63,7 @@ fn vector_in_parts(v: &VectorWord) -> Option<[Part; 3]>
     ensures { MatchOption result
         (¬ (AreFrameEntries (fractions_of v.now)))
         (λ vector. AreFrameEntries (fractions_of v.now) × IsInParts (fractions_of v.now) (parts vector)
-            × IsVectorWithin (1000 * unsigned_abs UNIT) (parts vector)) }
+        × IsVectorWithin (1000 * unsigned_abs UNIT) (parts vector)) }
 {
     let x = entry_in_parts(v.x)?;
     let y = entry_in_parts(v.y)?;

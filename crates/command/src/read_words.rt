@@ -5,12 +5,11 @@ ghost use Rattle.command.specs.declared.refusal.Refusal.{Refusal};
 ghost use Rattle.command.specs.VectorWords.{asked};
 ghost use Rattle.command.specs.Requests.{Asks, IsRequest, IsWordsRefusal, PassesLimit, plane_refusal};
 
-use motions::{Miller, PlaneFault};
-
-use crate::limits::{basis_of_words, is_height_in_range};
+use crate::limits::{basis_of_words, is_height_in_range, plane_of_words};
 use crate::refusal::Refusal;
 use crate::request::Request;
 use crate::words::{RawAt, read_at};
+use motions::PlaneFault;
 
 /// The refusal of indices that are no Miller indices.
 fn refusal_of(fault: PlaneFault) -> Refusal
@@ -28,7 +27,7 @@ fn within_limits(raw: RawAt) -> Result<Request, Refusal>
     ensures ok { IfOk result (Asks (asked raw)) }
     ensures refused { (refusal : Refusal) → (result ≡ Err refusal) ↔ PassesLimit (asked raw) refusal }
 {
-    let plane = match Miller::make(raw.plane.h, raw.plane.k, raw.plane.l) {
+    let plane = match plane_of_words(raw.plane) {
         Ok(plane) => plane,
         Err(fault) => return Err(refusal_of(fault)),
     };
