@@ -1,8 +1,8 @@
 // Devices: what a program reads its bytes from and writes them to.
 //
 // Promises to the crate above: the bytes that are given are those that were left, the bytes that are taken are held,
-// and a call fails only where the device counted a fault. The real devices tell nothing of their bytes: they are the
-// trusted edge.
+// and a call fails only where the device counted a fault. `read_all` and `put_all` say the same of a whole input and
+// of a whole text. The real devices tell nothing of their bytes: they are the trusted edge.
 #![tactic(auto)]
 
 mod bytes_sink;

@@ -1,5 +1,4 @@
 pub mod Cofactors
 pub mod Indices
-pub mod Negation
 pub mod Sides
 pub mod Symbols

@@ -48,39 +48,40 @@ pub(crate) fn matrix_by_matrix(left: &[[i64; 3]; 3], right: &[[i64; 3]; 3]) -> [
     ]
 }
 
-/// A matrix times a vector of parts.
-pub(crate) fn matrix_by_vector(matrix: &[[i64; 3]; 3], vector: &[Part; 3]) -> [i64; 3]
+/// A matrix times a translation.
+pub(crate) fn matrix_by_vector(matrix: &[[i64; 3]; 3], vector: &[Part; 3]) -> [Part; 3]
     requires matrix { IsMatrixWithin largest_cofactor (matrix_of matrix.now) }
     requires vector { IsVectorWithin (2 ^ 40) (parts vector.now) }
-    ensures is { vector_of result ≡ image (matrix_of matrix.now) (parts vector.now) }
-    ensures small { IsVectorWithin largest_image (vector_of result) }
+    ensures is { parts result ≡ image (matrix_of matrix.now) (parts vector.now) }
+    ensures small { IsVectorWithin largest_image (parts result) }
 {
+    let [x, y, z] = *vector;
     [
-        row_by_column(&matrix[0], vector[0].0, vector[1].0, vector[2].0),
-        row_by_column(&matrix[1], vector[0].0, vector[1].0, vector[2].0),
-        row_by_column(&matrix[2], vector[0].0, vector[1].0, vector[2].0),
+        Part(row_by_column(&matrix[0], x.0, y.0, z.0)),
+        Part(row_by_column(&matrix[1], x.0, y.0, z.0)),
+        Part(row_by_column(&matrix[2], x.0, y.0, z.0)),
     ]
 }
 
-/// The sum of a column of numbers and a vector of parts.
+/// The sum of the image of a translation and a translation.
 #[tactic(auto, unfolding(symmetry::specs::Vectors::plus))]
-pub(crate) fn sum(column: &[i64; 3], vector: &[Part; 3]) -> [Part; 3]
-    requires column { IsVectorWithin largest_image (vector_of column.now) }
+pub(crate) fn sum(image: &[Part; 3], vector: &[Part; 3]) -> [Part; 3]
+    requires image { IsVectorWithin largest_image (parts image.now) }
     requires vector { IsVectorWithin (2 ^ 40) (parts vector.now) }
-    ensures { parts result ≡ plus (vector_of column.now) (parts vector.now) }
+    ensures { parts result ≡ plus (parts image.now) (parts vector.now) }
 {
     [
-        Part(column[0] + vector[0].0),
-        Part(column[1] + vector[1].0),
-        Part(column[2] + vector[2].0),
+        image[0].add(vector[0]),
+        image[1].add(vector[1]),
+        image[2].add(vector[2]),
     ]
 }
 
-/// A column of numbers with each sign changed, in parts.
+/// The image of a translation with each sign changed.
 #[tactic(auto, unfolding(symmetry::specs::Vectors::multiple))]
-pub(crate) fn opposite(column: &[i64; 3]) -> [Part; 3]
-    requires { IsVectorWithin largest_image (vector_of column.now) }
-    ensures { parts result ≡ opposite (vector_of column.now) }
+pub(crate) fn opposite(image: &[Part; 3]) -> [Part; 3]
+    requires { IsVectorWithin largest_image (parts image.now) }
+    ensures { parts result ≡ opposite (parts image.now) }
 {
-    [Part(-column[0]), Part(-column[1]), Part(-column[2])]
+    [image[0].times(-1), image[1].times(-1), image[2].times(-1)]
 }

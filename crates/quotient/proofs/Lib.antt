@@ -1,7 +1,13 @@
+pub mod CheckLemma
+pub mod ClosureLemma
 pub mod Faults
 pub mod Firsts
 pub mod Items
 pub mod Kept
+pub mod Members
+pub mod OrderLemma
 pub mod Parts
 pub mod Positions
+pub mod Products
 pub mod Sameness
+pub mod TableLemma

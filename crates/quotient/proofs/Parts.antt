@@ -1,45 +1,16 @@
 -- A part of a list that has, of each motion of the list, one that is the same: the one list is a group where the other is.
-use Rattle.std.proofs.Common.{◌↔◌, List, Contains, ap, sym, ◌∙◌}
+use Rattle.std.proofs.Common.{◌↔◌, List, Contains}
 use Rattle.quotient.specs.Kind.{AreShiftsGroup, IsMonoid, IsSame, Keeps, Kind}
 use Rattle.quotient.specs.Lists.{AreFirst, IsListed}
 use Rattle.quotient.specs.Groups.{AreInverse, IsGroup}
 use Rattle.quotient.proofs.Firsts.{Contains-from_firsts, firsts_cover}
-use Rattle.quotient.proofs.Sameness.{same_is_equivalence, same_products}
+use Rattle.quotient.proofs.Sameness.{keeps_same, same_is_equivalence, same_products, same_reflexive, same_symmetric, same_transitive}
 
 module _ (K : Kind) (monoid : IsMonoid K.then K.one) (shifts : AreShiftsGroup K) where
-  reflexive : (m : K.Motion) → IsSame K m m
-  reflexive = (same_is_equivalence K monoid shifts).reflexive
-
-  symmetric : (m n : K.Motion) → IsSame K m n → IsSame K n m
-  symmetric = (same_is_equivalence K monoid shifts).symmetric
-
-  transitive : (l m n : K.Motion) → IsSame K l m → IsSame K m n → IsSame K l n
-  transitive = (same_is_equivalence K monoid shifts).transitive
-
-  products : (m m' n n' : K.Motion) → Keeps K n → IsSame K m m' → IsSame K n n' → IsSame K (K.then m n) (K.then m' n')
-  products = same_products K monoid shifts
-
-  -- m = n s, so first t and then m is n t' s, which is m s⁻¹ t' s
-  keeps_same : (m n : K.Motion) → IsSame K m n → Keeps K n → Keeps K m
-  keeps_same m n e keeps t is_shift =
-      let (t', moved, is) = keeps t is_shift in
-      let back = symmetric m n e in
-      let s = K.then back.shift (K.then t' e.shift) in
-      let s_is : K.IsShift s = shifts.products back.shift (K.then t' e.shift) back.is_shift (shifts.products t' e.shift moved e.is_shift) in (
-        s,
-        s_is,
-        ap (K.then t) e.is
-            ∙ sym (monoid.assoc t n e.shift)
-            ∙ ap (λ x. K.then x e.shift) is
-            ∙ monoid.assoc n t' e.shift
-            ∙ ap (λ x. K.then x (K.then t' e.shift)) back.is
-            ∙ monoid.assoc m back.shift (K.then t' e.shift),
-      )
-
   inverse_same : (m m' n n' : K.Motion) → Keeps K m → Keeps K n → IsSame K m m' → IsSame K n n' → AreInverse K m' n' → AreInverse K m n
   inverse_same m m' n n' keeps_m keeps_n e f h = record {
-    after = transitive (K.then m n) (K.then m' n') K.one (products m m' n n' keeps_n e f) h.after;
-    before = transitive (K.then n m) (K.then n' m') K.one (products n n' m m' keeps_m f e) h.before;
+    after = same_transitive K monoid shifts (K.then m n) (K.then m' n') K.one (same_products K monoid shifts m m' n n' keeps_n e f) h.after;
+    before = same_transitive K monoid shifts (K.then n m) (K.then n' m') K.one (same_products K monoid shifts n n' m m' keeps_m f e) h.before;
   }
 
   module _ (list part : List K.Motion) (inside : (m : K.Motion) → Contains part m → Contains list m) (covers : (m : K.Motion) → Contains list m → IsListed K part m) where
@@ -49,7 +20,7 @@ module _ (K : Kind) (monoid : IsMonoid K.then K.one) (shifts : AreShiftsGroup K)
     listed_in_part : (m : K.Motion) → IsListed K list m → IsListed K part m
     listed_in_part m h =
         let c = covers h.of h.listed in
-        record { of = c.of; listed = c.listed; same = transitive m h.of c.of h.same c.same }
+        record { of = c.of; listed = c.listed; same = same_transitive K monoid shifts m h.of c.of h.same c.same }
 
     listed_in_both : (m : K.Motion) → IsListed K list m ↔ IsListed K part m
     listed_in_both m = (listed_in_part m, listed_in_list m)
@@ -66,8 +37,8 @@ module _ (K : Kind) (monoid : IsMonoid K.then K.one) (shifts : AreShiftsGroup K)
             inverse = c.of;
             listed = c.listed;
             undoes =
-                inverse_same m m c.of v.inverse (G.keeps m (inside m h)) (G.keeps c.of (inside c.of c.listed)) (reflexive m)
-                (symmetric v.inverse c.of c.same) v.undoes;
+                inverse_same m m c.of v.inverse (G.keeps m (inside m h)) (G.keeps c.of (inside c.of c.listed)) (same_reflexive K monoid shifts m)
+                (same_symmetric K monoid shifts v.inverse c.of c.same) v.undoes;
           };
     }
 
@@ -76,7 +47,7 @@ module _ (K : Kind) (monoid : IsMonoid K.then K.one) (shifts : AreShiftsGroup K)
         let keeps : (m : K.Motion) → Contains list m → Keeps K m =
         λ m h.
         let c = covers m h in
-        keeps_same m c.of c.same (G.keeps c.of c.listed) in
+        keeps_same K monoid shifts m c.of c.same (G.keeps c.of c.listed) in
         record {
           identity = listed_in_list K.one G.identity;
           keeps = keeps;
@@ -87,7 +58,7 @@ module _ (K : Kind) (monoid : IsMonoid K.then K.one) (shifts : AreShiftsGroup K)
               record {
                 of = p.of;
                 listed = inside p.of p.listed;
-                same = transitive (K.then m n) (K.then c.of d.of) p.of (products m c.of n d.of (keeps n k) c.same d.same) p.same;
+                same = same_transitive K monoid shifts (K.then m n) (K.then c.of d.of) p.of (same_products K monoid shifts m c.of n d.of (keeps n k) c.same d.same) p.same;
               };
           inverses = λ m h.
               let c = covers m h in
@@ -95,7 +66,7 @@ module _ (K : Kind) (monoid : IsMonoid K.then K.one) (shifts : AreShiftsGroup K)
               record {
                 inverse = v.inverse;
                 listed = inside v.inverse v.listed;
-                undoes = inverse_same m c.of v.inverse v.inverse (keeps m h) (G.keeps v.inverse v.listed) c.same (reflexive v.inverse) v.undoes;
+                undoes = inverse_same m c.of v.inverse v.inverse (keeps m h) (G.keeps v.inverse v.listed) c.same (same_reflexive K monoid shifts v.inverse) v.undoes;
               };
         }
 

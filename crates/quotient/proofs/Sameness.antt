@@ -3,11 +3,11 @@ use Rattle.std.proofs.Common.{◌≡◌, ◌↔◌, Bool, true, false, IsTrue, a
 use Rattle.quotient.specs.Kind.{AreShiftsGroup, IsEquivalence, IsMonoid, IsSame, Keeps, Kind, kind_of}
 
 module _ (K : Kind) (monoid : IsMonoid K.then K.one) (shifts : AreShiftsGroup K) where
-  same_reflexive : (m : K.Motion) → IsSame K m m
+  pub same_reflexive : (m : K.Motion) → IsSame K m m
   same_reflexive m = record { shift = K.one; is_shift = shifts.identity; is = sym (monoid.one_right m) }
 
   -- m = n s, so n = m t for the inverse t of s
-  same_symmetric : (m n : K.Motion) → IsSame K m n → IsSame K n m
+  pub same_symmetric : (m n : K.Motion) → IsSame K m n → IsSame K n m
   same_symmetric m n e =
       let (t, is_shift, undoes) = shifts.inverses e.shift e.is_shift in
       record {
@@ -16,7 +16,7 @@ module _ (K : Kind) (monoid : IsMonoid K.then K.one) (shifts : AreShiftsGroup K)
         is = sym (monoid.one_right n) ∙ ap (K.then n) (sym undoes.after) ∙ sym (monoid.assoc n e.shift t) ∙ ap (λ x. K.then x t) (sym e.is);
       }
 
-  same_transitive : (l m n : K.Motion) → IsSame K l m → IsSame K m n → IsSame K l n
+  pub same_transitive : (l m n : K.Motion) → IsSame K l m → IsSame K m n → IsSame K l n
   same_transitive l m n e f = record {
     shift = K.then f.shift e.shift;
     is_shift = shifts.products f.shift e.shift f.is_shift e.is_shift;
@@ -39,6 +39,23 @@ module _ (K : Kind) (monoid : IsMonoid K.then K.one) (shifts : AreShiftsGroup K)
             ∙ ap (K.then m') (moved ∙ ap (λ x. K.then x s') f.is ∙ monoid.assoc n' f.shift s')
             ∙ sym (monoid.assoc m' n' (K.then f.shift s'));
       }
+
+  -- m = n s, so first t and then m is n t' s, which is m s⁻¹ t' s
+  pub keeps_same : (m n : K.Motion) → IsSame K m n → Keeps K n → Keeps K m
+  keeps_same m n e keeps t is_shift =
+      let (t', moved, is) = keeps t is_shift in
+      let back = same_symmetric m n e in
+      let s = K.then t' e.shift in
+      let s_is : K.IsShift s = shifts.products t' e.shift moved e.is_shift in (
+        K.then back.shift s,
+        shifts.products back.shift s back.is_shift s_is,
+        ap (K.then t) e.is
+            ∙ sym (monoid.assoc t n e.shift)
+            ∙ ap (λ x. K.then x e.shift) is
+            ∙ monoid.assoc n t' e.shift
+            ∙ ap (λ x. K.then x s) back.is
+            ∙ monoid.assoc m back.shift s,
+      )
 
 -- by equality of homes
 module _ {S Same : Type 0} {home_m home_n a b : S} {t : Bool} (homes : Same ↔ (home_m ≡ home_n)) (test : IsTrue t ↔ (a ≡ b)) (a_is : a ≡ home_n) (b_is : b ≡ home_m) where

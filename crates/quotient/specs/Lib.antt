@@ -1,3 +1,7 @@
+pub mod Check
+pub mod Closure
 pub mod Groups
 pub mod Kind
 pub mod Lists
+pub mod Order
+pub mod Table

@@ -1,5 +1,5 @@
 // The test that a list of motions is a group modulo shifts.
-ghost use Rattle.std.specs.Prelude.{◌≡◌, ◌↔◌, ◌^◌, pos, All, Contains, IsOk, IsTrue, MatchOption, map, Ok, Err};
+ghost use Rattle.std.specs.Prelude.{◌≡◌, ◌↔◌, ◌^◌, pos, All, Contains, IsOk, IsTrue, MatchOption, map};
 ghost use Rattle.quotient.specs.Groups.{AllHaveInverse, AllKeep, AreInverse, HasInverse, IsClosed, IsFault, IsFirstOpen, IsFirstWithout, IsGroup};
 ghost use Rattle.quotient.specs.Kind.{Keeps, kind_of};
 ghost use Rattle.quotient.specs.Lists.{IsListed};

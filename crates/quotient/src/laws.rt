@@ -1,7 +1,7 @@
 // The laws of sameness modulo shifts. A call does nothing: its contract is the law.
-ghost use Rattle.std.specs.Prelude.{◌≡◌, ◌↔◌, All, AllPairs, List, map};
+ghost use Rattle.std.specs.Prelude.{◌↔◌, AllPairs, map};
 ghost use Rattle.quotient.specs.Groups.{IsGroup};
-ghost use Rattle.quotient.specs.Kind.{IsEquivalence, IsSame, Keeps, kind_of};
+ghost use Rattle.quotient.specs.Kind.{IsEquivalence, IsInverse, IsSame, Keeps, kind_of};
 ghost use Rattle.quotient.specs.Lists.{AreFirst, IsListed, KeepsOrder};
 
 use crate::traits::{Motion, Quotient};
@@ -34,4 +34,19 @@ pub fn first_motions<Q: Quotient>(q: &Q, list: &[Q::M], firsts: &[Q::M])
         (KeepsOrder (IsSame (kind_of Q.M.meaning Q.M.product Q.M.one (Q.IsShift q.now))) (map Q.M.meaning list.now)) (map Q.M.meaning firsts.now) }
     ensures group { IsGroup (kind_of Q.M.meaning Q.M.product Q.M.one (Q.IsShift q.now)) (map Q.M.meaning list.now)
         ↔ IsGroup (kind_of Q.M.meaning Q.M.product Q.M.one (Q.IsShift q.now)) (map Q.M.meaning firsts.now) }
+{}
+
+/// The members of a group modulo shifts, which are the motions that are the same as a listed one, are a group: each
+/// product of two is a member, and each has an inverse on both sides that is one.
+pub fn members_are_a_group<Q: Quotient>(q: &Q, list: &[Q::M])
+    requires { IsGroup (kind_of Q.M.meaning Q.M.product Q.M.one (Q.IsShift q.now)) (map Q.M.meaning list.now) }
+    ensures products { (m n : Q.M.Meaning)
+        → IsListed (kind_of Q.M.meaning Q.M.product Q.M.one (Q.IsShift q.now)) (map Q.M.meaning list.now) m
+        → IsListed (kind_of Q.M.meaning Q.M.product Q.M.one (Q.IsShift q.now)) (map Q.M.meaning list.now) n
+        → IsListed (kind_of Q.M.meaning Q.M.product Q.M.one (Q.IsShift q.now)) (map Q.M.meaning list.now) (Q.M.product m n) }
+    ensures inverses { (m : Q.M.Meaning)
+        → IsListed (kind_of Q.M.meaning Q.M.product Q.M.one (Q.IsShift q.now)) (map Q.M.meaning list.now) m
+        → (n : Q.M.Meaning)
+        × IsListed (kind_of Q.M.meaning Q.M.product Q.M.one (Q.IsShift q.now)) (map Q.M.meaning list.now) n
+        × IsInverse (kind_of Q.M.meaning Q.M.product Q.M.one (Q.IsShift q.now)) m n }
 {}

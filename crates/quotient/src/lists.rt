@@ -1,5 +1,5 @@
 // Lists of motions, read modulo shifts.
-ghost use Rattle.std.specs.Prelude.{◌≡◌, ◌↔◌, All, IfOk, IfSome, IsSome, map, unsigned_abs};
+ghost use Rattle.std.specs.Prelude.{◌↔◌, All, IfOk, IfSome, IsSome, map, unsigned_abs};
 ghost use Rattle.quotient.specs.Kind.{IsSame, kind_of};
 ghost use Rattle.quotient.specs.Lists.{AreFirst, IsFirstSame, IsListed};
 
