@@ -5,3 +5,5 @@ pub mod EntrySizes
 pub mod TextLines
 pub mod LimitFacts
 pub mod OneReading
+pub mod OneRequest
+pub mod RunFacts

@@ -54,7 +54,7 @@ row_once : (h k l s : List ℕ) (u v : Vector) (p q : Fraction) → IsPlaneWords
 row_once h k l s u v p q m n =
     λ i. record { x = index_once h u.x v.x m.first n.first i; y = index_once k u.y v.y m.second n.second i; z = index_once l u.z v.z m.third n.third i }
 
-at_words_once : (words : List (List ℕ)) (w v : AtWords) → IsAtWords words w → IsAtWords words v → w ≡ v
+pub at_words_once : (words : List (List ℕ)) (w v : AtWords) → IsAtWords words w → IsAtWords words v → w ≡ v
 at_words_once (command ∷ h ∷ k ∷ l ∷ s ∷ others) w v m n = λ i. record {
   row = row_once h k l s w.row v.row _ _ m.1.plane n.1.plane i;
   frame = frame_once others w.frame v.frame m.1.frame n.1.frame i;

@@ -5,7 +5,9 @@ pub mod Refusals
 pub mod Outcomes
 pub mod Limits
 pub mod Requests
+pub mod RequestView
 pub mod Texts
+pub mod Contents
 pub mod Answers
 pub mod Runs
 pub mod Obstacles

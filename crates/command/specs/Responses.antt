@@ -1,10 +1,9 @@
 -- What is responded to a request over an input.
 use Rattle.std.specs.Prelude.{◌≡◌, ◌⊎◌, ℕ, List, Option, Some, Result, Err, IsOk}
-use Rattle.command.specs.declared.request.Request.{Request}
 use Rattle.command.specs.declared.refusal.Refusal.{Refusal}
 use Rattle.command.specs.declared.obstacle.Obstacle.{Obstacle}
 use Rattle.command.specs.declared.obstacle.Obstacle.TheVariants as obstacles
-use Rattle.command.specs.Requests.{IsRequest, IsWordsRefusal}
+use Rattle.command.specs.Requests.{PlaneAt, IsRequest, IsWordsRefusal}
 use Rattle.command.specs.Answers.{IsInputRefusal, IsOutput}
 use Rattle.devices.specs.Calls.{Rose}
 use Rattle.command.specs.declared.outcome.Outcome.{Outcome}
@@ -12,10 +11,10 @@ use Rattle.command.specs.declared.outcome.Outcome.TheVariants.{Refused, NoMemory
 use Rattle.command.specs.Runs.{Complains, IsCause}
 
 -- what keeps a request over an input from an answer
-abbrev pub IsInputObstacle : Request → List ℕ → Obstacle → Type 0
-IsInputObstacle request input (obstacles.Refused refusal) = IsInputRefusal request input refusal
-IsInputObstacle request input obstacles.ReadFault = ⊥
-IsInputObstacle request input obstacles.NoMemory = Unit {0}
+abbrev pub IsInputObstacle : PlaneAt → List ℕ → Obstacle → Type 0
+IsInputObstacle at input (obstacles.Refused refusal) = IsInputRefusal at input refusal
+IsInputObstacle at input obstacles.ReadFault = ⊥
+IsInputObstacle at input obstacles.NoMemory = Unit {0}
 
 -- this refusal, unless memory ran out
 abbrev pub RespondsRefusal : {A : Type 0} → Refusal → Result A Obstacle → Type 0
@@ -27,9 +26,9 @@ RespondsText result = IsOk result ⊎ (result ≡ Err obstacles.NoMemory)
 
 -- the words are a request, and where the source tells its bytes, the text is the answer over them
 pub record HasAnswer (words : List (List ℕ)) (left : Option (List ℕ)) (text : List ℕ) : Type 0 where
-  pub request : Request
-  pub asks : IsRequest words request
-  pub answers : (input : List ℕ) → left ≡ Some input → IsOutput request input text
+  pub at : PlaneAt
+  pub asks : IsRequest words at
+  pub answers : (input : List ℕ) → left ≡ Some input → IsOutput at input text
 
 -- what keeps the words from an answer
 abbrev pub IsObstacle : List (List ℕ) → Option (List ℕ) → ℕ → ℕ → Obstacle → Type 0

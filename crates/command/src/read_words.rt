@@ -3,6 +3,7 @@ ghost use Rattle.std.specs.Prelude.{◌≡◌, ◌↔◌, Err, IfOk, map, string
 ghost use Rattle.motions.specs.declared.plane_fault.PlaneFault.{PlaneFault};
 ghost use Rattle.command.specs.declared.refusal.Refusal.{Refusal};
 ghost use Rattle.command.specs.VectorWords.{asked};
+ghost use Rattle.command.specs.RequestView.{plane_at};
 ghost use Rattle.command.specs.Requests.{Asks, IsRequest, IsWordsRefusal, PassesLimit, plane_refusal};
 
 use crate::limits::{basis_of_words, is_height_in_range, plane_of_words};
@@ -24,7 +25,7 @@ fn refusal_of(fault: PlaneFault) -> Refusal
 
 /// The request, if it is within the limits, else the first limit that it passes.
 fn within_limits(raw: RawAt) -> Result<Request, Refusal>
-    ensures ok { IfOk result (Asks (asked raw)) }
+    ensures ok { IfOk result (λ request. Asks (asked raw) (plane_at request)) }
     ensures refused { (refusal : Refusal) → (result ≡ Err refusal) ↔ PassesLimit (asked raw) refusal }
 {
     let plane = match plane_of_words(raw.plane) {
@@ -49,7 +50,7 @@ fn within_limits(raw: RawAt) -> Result<Request, Refusal>
 /// The refusals, in this order: `Usage`, the words are no request; `OutOfRange`, `AllZero`, `NotCoprime`, the indices
 /// are no Miller indices; `FrameLimit`, `HeightLimit`, an entry of the frame or the height is out of range.
 pub fn read_words(words: &[String]) -> Result<Request, Refusal>
-    ensures ok { IfOk result (IsRequest (map string_bytes words.now)) }
+    ensures ok { IfOk result (λ request. IsRequest (map string_bytes words.now) (plane_at request)) }
     ensures refused { (refusal : Refusal) → (result ≡ Err refusal) ↔ IsWordsRefusal (map string_bytes words.now) refusal }
 {
     match read_at(words) {

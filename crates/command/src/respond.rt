@@ -2,6 +2,7 @@
 ghost use Rattle.std.specs.Prelude.{◌≤◌, ℕ, List, length, IfOk, IfErr, IsErr, ◌≡◌};
 ghost use Rattle.command.specs.declared.limits.TheConstants.{MOST_BYTES};
 ghost use Rattle.command.specs.declared.refusal.Refusal.{Refusal};
+ghost use Rattle.command.specs.RequestView.{plane_at};
 ghost use Rattle.command.specs.Answers.{IsInputRefusal, IsOutput};
 ghost use Rattle.command.specs.Responses.{IsInputObstacle, RespondsText, RespondsRefusal};
 
@@ -14,10 +15,10 @@ use crate::request::Request;
 /// The answer to a request over an input.
 pub fn respond(alloc: Global, request: &Request, input: &[u8]) -> Result<Vec<u8>, Obstacle>
     requires { length input.now ≤ MOST_BYTES }
-    ensures text { IfOk result (λ text. IsOutput request.now input.now text.items) }
-    ensures obstacle { IfErr result (IsInputObstacle request.now input.now) }
-    ensures refuses { (refusal : Refusal) → IsInputRefusal request.now input.now refusal → RespondsRefusal refusal result }
-    ensures answers { (text : List ℕ) → IsOutput request.now input.now text → RespondsText result }
+    ensures text { IfOk result (λ text. IsOutput (plane_at request.now) input.now text.items) }
+    ensures obstacle { IfErr result (IsInputObstacle (plane_at request.now) input.now) }
+    ensures refuses { (refusal : Refusal) → IsInputRefusal (plane_at request.now) input.now refusal → RespondsRefusal refusal result }
+    ensures answers { (text : List ℕ) → IsOutput (plane_at request.now) input.now text → RespondsText result }
 {
     stub(alloc, *request, input)
 }

@@ -3,9 +3,8 @@ ghost use Rattle.std.specs.Prelude.{◌≡◌, ◌≢◌, ℕ, ◌+◌, List, Op
 ghost use Rattle.std.specs.Io.KnownBytes.{IsAtEnd};
 ghost use Rattle.devices.specs.Transfers.{ReadsWithin};
 ghost use Rattle.command.specs.declared.limits.TheConstants.{MOST_BYTES};
-ghost use Rattle.command.specs.declared.request.Request.{Request};
 ghost use Rattle.command.specs.declared.refusal.Refusal.{Refusal};
-ghost use Rattle.command.specs.Requests.{IsRequest, IsWordsRefusal};
+ghost use Rattle.command.specs.Requests.{IsRequest, IsWordsRefusal, PlaneAt};
 ghost use Rattle.command.specs.Answers.{IsInputRefusal, IsOutput};
 ghost use Rattle.command.specs.Responses.{AnswersInput, HasAnswer, IsObstacle, RefusesBy, RefusesInput};
 ghost use Rattle.command.specs.Runs.{Answers, Complains, HasCause, IsCause, LeavesOut, Refuses};
@@ -18,7 +17,6 @@ use crate::obstacle::Obstacle;
 use crate::outcome::Outcome;
 use crate::read_words::read_words;
 use crate::refusal::Refusal;
-use crate::request::Request;
 use crate::respond::respond;
 
 /// Runs the program: reads the words, and for a request that asks for it the source to its end, and writes the whole
@@ -40,11 +38,11 @@ pub fn run<S: Source, K: Sink, E: Sink>(
     ensures whole { result ≡ Outcome.Done → IsAtEnd (S.left source.new) }
     ensures refuses_words { (refusal : Refusal) → IsWordsRefusal (map string_bytes words.now) refusal →
         Refuses refusal result × (S.left source.new ≡ S.left source.old) × (result ≢ Outcome.ReadFault) }
-    ensures refuses_input { (request : Request) (input : List ℕ) (refusal : Refusal) →
-        IsRequest (map string_bytes words.now) request → S.left source.old ≡ Some input → IsInputRefusal request input refusal →
+    ensures refuses_input { (at : PlaneAt) (input : List ℕ) (refusal : Refusal) →
+        IsRequest (map string_bytes words.now) at → S.left source.old ≡ Some input → IsInputRefusal at input refusal →
         Refuses refusal result }
-    ensures answers { (request : Request) (input : List ℕ) (text : List ℕ) →
-        IsRequest (map string_bytes words.now) request → S.left source.old ≡ Some input → IsOutput request input text →
+    ensures answers { (at : PlaneAt) (input : List ℕ) (text : List ℕ) →
+        IsRequest (map string_bytes words.now) at → S.left source.old ≡ Some input → IsOutput at input text →
         Answers result }
     ensures within { ReadsWithin (S.left source.old) (S.left source.new) (MOST_BYTES + 1) }
 {
@@ -66,11 +64,11 @@ fn answer<S: Source>(alloc: Global, words: &[String], source: &mut S) -> Result<
     ensures obstacle { IfErr result (IsObstacle (map string_bytes words.now) (S.left source.old) (S.faults source.old) (S.faults source.new)) }
     ensures refuses_words { (refusal : Refusal) → IsWordsRefusal (map string_bytes words.now) refusal →
         (result ≡ Err (Obstacle.Refused refusal)) × (S.left source.new ≡ S.left source.old) }
-    ensures refuses_input { (request : Request) (input : List ℕ) (refusal : Refusal) →
-        IsRequest (map string_bytes words.now) request → S.left source.old ≡ Some input → IsInputRefusal request input refusal →
+    ensures refuses_input { (at : PlaneAt) (input : List ℕ) (refusal : Refusal) →
+        IsRequest (map string_bytes words.now) at → S.left source.old ≡ Some input → IsInputRefusal at input refusal →
         RefusesInput refusal result }
-    ensures answers { (request : Request) (input : List ℕ) (text : List ℕ) →
-        IsRequest (map string_bytes words.now) request → S.left source.old ≡ Some input → IsOutput request input text →
+    ensures answers { (at : PlaneAt) (input : List ℕ) (text : List ℕ) →
+        IsRequest (map string_bytes words.now) at → S.left source.old ≡ Some input → IsOutput at input text →
         AnswersInput result }
     ensures within { ReadsWithin (S.left source.old) (S.left source.new) (MOST_BYTES + 1) }
 {
