@@ -8,10 +8,12 @@ use Rattle.fractions.specs.Fraction.{Fraction}
 use Rattle.symmetry.specs.Vectors.{Vector}
 use Rattle.symmetry.specs.Frames.{Basis}
 use Rattle.symmetry.proofs.VectorLaws.{vector_path}
+use Rattle.motions.specs.declared.plane_fault.PlaneFault.TheVariants as planes
 use Rattle.command.specs.declared.refusal.Refusal.{Refusal}
+use Rattle.command.specs.declared.refusal.Refusal.TheVariants.{Usage, OutOfRange, AllZero, NotCoprime, FrameLimit, HeightLimit, TooLong, Text, TooMany, TooFine, NoIdentity, ShiftMoved, NotClosed, NoInverse, NotFrame, SkewFrame}
 use Rattle.command.specs.Words.{AtWords, IsAtWords, Fractions, FrameWords}
 use Rattle.command.specs.Limits.{IsFrameEntry, AreFrameEntries, AreFrameVectors, IsFrameInRange, IsInParts, IsFrameInParts, IsBasisOf}
-use Rattle.command.specs.Requests.{PlaneAt, Asks, IsRequest, IsWordsRefusal}
+use Rattle.command.specs.Requests.{PlaneAt, Asks, PassesLimit, IsRequest, IsWordsRefusal}
 use Rattle.command.proofs.OneReading.{at_words_once}
 
 -- a denominator that divides the unit is not 0
@@ -45,3 +47,27 @@ pub one_request : (words : List (List ℕ)) (at at' : PlaneAt) → IsRequest wor
 one_request words at at' p q =
     one_asked p.words_of at at' p.asks
     (subst (λ (w : AtWords). Asks w at') (at_words_once words q.words_of p.words_of q.are_words p.are_words) q.asks)
+
+-- words that ask for a plane in range are refused for nothing
+asked_in_range : (w : AtWords) (at : PlaneAt) (refusal : Refusal) → Asks w at → PassesLimit w refusal → ⊥
+asked_in_range w at OutOfRange p h = p.plane_in_range planes.OutOfRange h
+asked_in_range w at AllZero p h = p.plane_in_range planes.AllZero h
+asked_in_range w at (NotCoprime g) p h = p.plane_in_range (planes.NotCoprime g) h
+asked_in_range w at FrameLimit p h = h.1 p.frame_in_range
+asked_in_range w at HeightLimit p h = h.2 p.height_in_range
+asked_in_range w at Usage p h = h
+asked_in_range w at TooLong p h = h
+asked_in_range w at (Text line column kind) p h = h
+asked_in_range w at (TooMany n) p h = h
+asked_in_range w at TooFine p h = h
+asked_in_range w at NoIdentity p h = h
+asked_in_range w at (ShiftMoved i) p h = h
+asked_in_range w at (NotClosed i j) p h = h
+asked_in_range w at (NoInverse i) p h = h
+asked_in_range w at NotFrame p h = h
+asked_in_range w at SkewFrame p h = h
+
+pub not_refused : (words : List (List ℕ)) (at : PlaneAt) (refusal : Refusal) → IsRequest words at → IsWordsRefusal words refusal → ⊥
+not_refused words at Usage p h = h p.words_of p.are_words
+not_refused words at refusal p h =
+    asked_in_range p.words_of at refusal p.asks (subst (λ (w : AtWords). PassesLimit w refusal) (at_words_once words h.0 p.words_of h.1 p.are_words) h.2)
