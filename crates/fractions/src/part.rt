@@ -7,7 +7,7 @@ ghost use Rattle.fractions.specs.Parts.{reduced_parts, IsReduced};
 pub const UNIT: i64 = 24;
 
 /// A whole number of parts, each of which is 1/[`UNIT`] of a cell edge.
-#[derive(Clone, Copy, PartialEq, Eq, Debug)]
+#[derive(Clone, Copy, PartialEq, Eq, PartialOrd, Ord, Debug)]
 pub struct Part(pub i64);
 
 impl Part {

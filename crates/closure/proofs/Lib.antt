@@ -1,0 +1,17 @@
+pub mod Spans
+pub mod Cosets
+pub mod Membership
+pub mod Growth
+pub mod Made
+pub mod Sorting
+pub mod Counting
+pub mod Homes
+pub mod Decisions
+pub mod Generators
+pub mod Members
+pub mod Firsts
+pub mod FirstOrder
+pub mod GroupFaults
+pub mod Untruncated
+pub mod OwnLattice
+pub mod GroupMade

@@ -1,0 +1,49 @@
+-- The tests of the code: arrays of parts as vectors, and residues that are listed.
+use Rattle.std.proofs.Common.{◌≡◌, ℕ, zero, suc, ◌+◌, ◌<◌, ◌↔◌, Bool, true, false, ◌&&◌, ◌||◌, IsTrue, arith, refl, sym, ap, subst, ◌∙◌, List, [], ◌∷◌, ◌++◌, length, get_or, map, take, All}
+use Rattle.std.specs.Prelude.{Contains}
+use Rattle.std.specs.List.{list_any}
+use Rattle.std.specs.Ordering.{int_eq}
+use Rattle.std.proofs.lemmas.List.{get_or-map, get_or_append_left, length-map, map_more, append_assoc, map-append}
+use Rattle.std.proofs.lemmas.List.Folds.{list_any_at}
+use Rattle.std.proofs.lemmas.List.Elements.{All-head, All-tail}
+use Rattle.std.proofs.lemmas.Map.Views.{Contains-from_any}
+use lib.Pointwise.{pointwise}
+use Rattle.fractions.specs.declared.part.Part.{Part}
+use Rattle.symmetry.specs.Vectors.{Vector, plus}
+use Rattle.symmetry.specs.Frames.{same_vector}
+use Rattle.motions.specs.Views.{parts, part_at}
+use Rattle.motions.specs.MotionLaws.{same_vector-is}
+use Rattle.closure.specs.Residues.{residue, has_residue, IsResidue}
+use Rattle.closure.specs.Spans.{coset}
+
+-- ---- arrays of three parts
+
+pub three_entries : (r : List Part) → length r ≡ 3 → r ≡ record { 0 = part_at r 0 } ∷ record { 0 = part_at r 1 } ∷ record { 0 = part_at r 2 } ∷ []
+three_entries [] e = absurd (omega arith)
+three_entries (a ∷ []) e = absurd (omega arith)
+three_entries (a ∷ b ∷ []) e = absurd (omega arith)
+three_entries (a ∷ b ∷ c ∷ []) e = refl
+three_entries (a ∷ b ∷ c ∷ d ∷ r) e = absurd (omega arith)
+
+abbrev same_part : Part → Part → Bool
+same_part a b = int_eq a.0 b.0
+
+bracketed : (a b c : Bool) → (a && (b && (c && true))) ≡ (a && b && c)
+bracketed true true true = refl
+bracketed true true false = refl
+bracketed true false c = refl
+bracketed false b c = refl
+
+-- equality entry by entry is that of the vectors
+pointwise-parts : (r s : List Part) → length r ≡ 3 → length s ≡ 3 → pointwise same_part r s ≡ same_vector (parts r) (parts s)
+pointwise-parts r s h k =
+    (λ i. pointwise same_part (three_entries r h i) (three_entries s k i))
+    ∙ bracketed (int_eq (part_at r 0) (part_at s 0)) (int_eq (part_at r 1) (part_at s 1)) (int_eq (part_at r 2) (part_at s 2))
+
+pub list_any-parts : (rs : List (List Part)) (s : List Part) (v : Vector) → ((i : ℕ) → i < length rs → length (get_or rs i []) ≡ 3)
+    → length s ≡ 3 → parts s ≡ residue v → list_any (λ r. pointwise same_part r s) rs ≡ has_residue (map parts rs) v
+list_any-parts [] s v h k e = refl
+list_any-parts (r ∷ rs) s v h k e =
+    let here = pointwise-parts r s (h 0 (omega arith)) k ∙ ap (same_vector (parts r)) e in
+    let rest = list_any-parts rs s v (λ i l. h (suc i) (omega arith)) k e in
+    λ j. here j || rest j

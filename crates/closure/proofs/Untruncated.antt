@@ -1,0 +1,84 @@
+-- A group that is known to be one has its members' products and inverses among its listed operations: they are searched.
+use Rattle.std.proofs.Common.{◌≡◌, ℕ, ◌<◌, ◌↔◌, Bool, true, false, ◌&&◌, IsTrue, refl, sym, ap, subst, ◌∙◌, List}
+use Rattle.std.specs.Prelude.{Any, Contains}
+use Rattle.std.specs.List.{list_any}
+use Rattle.std.proofs.Math.Bool.{Bool-set}
+use Rattle.std.proofs.Math.Logic.{∥∥₁_elim, ∥∥₁_map}
+use Rattle.std.proofs.lemmas.List.Folds.{Any-from_list_any, list_any-from_Any}
+use Rattle.symmetry.specs.Vectors.{Vector, image, minus}
+use Rattle.symmetry.specs.Motions.{Motion, followed_by, identity}
+use Rattle.symmetry.specs.Groups.{Listing, IsInLattice, Generates, SameModulo, IsGroup, IsListedGroup}
+use Rattle.symmetry.proofs.GroupLaws.{group_by_listed}
+use Rattle.motions.specs.Equality.{same_matrix}
+use Rattle.motions.specs.MotionLaws.{same_matrix-is}
+use Rattle.closure.specs.declared.lattice.Lattice.{Lattice}
+use Rattle.closure.specs.Residues.{has_residue}
+use Rattle.closure.specs.ResidueLaws.{has_residue-is}
+use Rattle.closure.specs.Lattices.{residues_of, IsLatticeOf}
+
+-- a motion of the list that passes a test, where there is known to be one
+found : {A : Type 0} (P : A → Type 0) (test : A → Bool) → ((x : A) → IsTrue (test x) ↔ P x) → (xs : List A)
+    → ∥ ((x : A) × Contains xs x × P x) ∥₁ → (x : A) × Contains xs x × P x
+found P test is xs known =
+    let t : list_any test xs ≡ true = ∥∥₁_elim known (Bool-set _ _)
+    (λ (x, (k, within, at), p). list_any-from_Any test xs (k, x, within, at, (is x).1 p)) in
+    let (k, x, within, at, p) = Any-from_list_any test xs t in
+    (x, (k, within, at), (is x).0 p)
+
+module _ (g : Listing) (lattice : Lattice) (h : IsLatticeOf g lattice) where
+  in_test : Vector → Bool
+  in_test v = has_residue (residues_of lattice) v
+
+  in_test-is : (v : Vector) → IsTrue (in_test v) ↔ IsInLattice g v
+  unfolding in_test
+  in_test-is v = (λ t. (h v).0 ((has_residue-is (residues_of lattice) v).0 t), λ is. (has_residue-is (residues_of lattice) v).1 ((h v).1 is))
+
+  same_test : Motion → Motion → Bool
+  same_test m n = same_matrix m.matrix n.matrix && in_test (minus m.shift n.shift)
+
+  both : (a b : Bool) → IsTrue (a && b) → IsTrue a × IsTrue b
+  both true b t = (refl, t)
+  both false b t = cc
+
+  all_true : (a b : Bool) → IsTrue a → IsTrue b → IsTrue (a && b)
+  all_true true b s t = t
+  all_true false b s t = cc
+
+  same_test-is : (m n : Motion) → IsTrue (same_test m n) ↔ SameModulo g m n
+  unfolding same_test
+  same_test-is m n = (
+    λ t.
+        let p = both (same_matrix m.matrix n.matrix) (in_test (minus m.shift n.shift)) t in
+        record { matrix = (same_matrix-is m.matrix n.matrix).0 p.0; shift = (in_test-is (minus m.shift n.shift)).0 p.1 },
+    λ s. all_true (same_matrix m.matrix n.matrix) (in_test (minus m.shift n.shift)) ((same_matrix-is m.matrix n.matrix).1 s.matrix)
+        ((in_test-is (minus m.shift n.shift)).1 s.shift),
+  )
+
+  inverse_test-is : (m n : Motion) → IsTrue (same_test (followed_by m n) identity && same_test (followed_by n m) identity)
+      ↔ (SameModulo g (followed_by m n) identity × SameModulo g (followed_by n m) identity)
+  inverse_test-is m n = (
+    λ t.
+        let p = both (same_test (followed_by m n) identity) (same_test (followed_by n m) identity) t in
+        ((same_test-is (followed_by m n) identity).0 p.0, (same_test-is (followed_by n m) identity).0 p.1),
+    λ (a, b). all_true (same_test (followed_by m n) identity) (same_test (followed_by n m) identity) ((same_test-is (followed_by m n) identity).1 a)
+        ((same_test-is (followed_by n m) identity).1 b),
+  )
+
+  listed_group : ∥ IsListedGroup g ∥₁ → IsListedGroup g
+  listed_group known = record {
+    has_identity = found (λ n. SameModulo g n identity) (λ n. same_test n identity) (λ n. same_test-is n identity) g.ops
+        (∥∥₁_map known (λ k. k.has_identity));
+    keeps_lattice = λ m is v made. (in_test-is (image m.matrix v)).0
+        (∥∥₁_elim known (Bool-set _ _) (λ k. (in_test-is (image m.matrix v)).1 (k.keeps_lattice m is v made)));
+    products = λ m n p q. found (λ k. SameModulo g (followed_by m n) k) (λ k. same_test (followed_by m n) k) (λ k. same_test-is (followed_by m n) k) g.ops
+        (∥∥₁_map known (λ k. k.products m n p q));
+    inverses = λ m is.
+        let (n, at, (a, b)) =
+        found (λ n. SameModulo g (followed_by m n) identity × SameModulo g (followed_by n m) identity)
+        (λ n. same_test (followed_by m n) identity && same_test (followed_by n m) identity) (inverse_test-is m) g.ops
+        (∥∥₁_map known (λ k. let i = k.inverses m is in (i.0, i.1, (i.2, i.3)))) in
+        (n, at, a, b);
+  }
+
+  pub group_is_known : ∥ IsGroup g ∥₁ → IsGroup g
+  group_is_known known = (group_by_listed g).0 (listed_group (∥∥₁_map known (group_by_listed g).1))

@@ -1,0 +1,119 @@
+// A space group: operations, each once modulo the translation lattice.
+ghost use Rattle.std.specs.Prelude.{◌≡◌, ◌≤◌, ◌↔◌, All, IfErr, IfOk, IsTrue, length, map, unsigned_abs, vec_len};
+ghost use Rattle.quotient.specs.Lists.{AreFirst};
+ghost use Rattle.symmetry.specs.Groups.{IsGroup, IsInLattice, IsMember, SameModulo};
+ghost use Rattle.symmetry.specs.Lists.{ComesBefore};
+ghost use Rattle.symmetry.specs.Motions.{Motion as MotionOfSpace};
+ghost use Rattle.symmetry.specs.Vectors.{Vector};
+ghost use Rattle.motions.specs.ListedSizes.{IsListedSmall, IsSmallWithin};
+ghost use Rattle.motions.specs.Views.{listing_of, motion_of, parts};
+ghost use Rattle.closure.specs.declared.limits.TheConstants.{MAX_ENTRY, MAX_OPERATIONS};
+ghost use Rattle.closure.specs.Lattices.{InLattice, IsLatticeOf};
+ghost use Rattle.closure.specs.Operations.{listing_with, AreApart, HoldsTranslations};
+
+use crate::group_error::GroupError;
+use crate::lattice::Lattice;
+use crate::limits::MAX_OPERATIONS;
+use crate::residues::lists_residue;
+use crate::translations::listed_lattice;
+use fractions::Part;
+use motions::{Listed, Motion3};
+use quotient::{check_group, distinct};
+use std::alloc::{AllocError, Global};
+
+/// A space group: its operations, each once modulo its translation lattice.
+///
+/// There are at most [`MAX_OPERATIONS`](crate::MAX_OPERATIONS) of them, with matrix entries at most
+/// [`MAX_ENTRY`](crate::MAX_ENTRY) in size.
+#[derive(Debug, Drop)]
+pub struct Group {
+    ops: Vec<Motion3>,
+    lattice: Lattice,
+    pub ghost group: { ∥ IsGroup (listing_with ops.items lattice) ∥₁ },
+    pub ghost apart: { AreApart (listing_with ops.items lattice) },
+    pub ghost translations: { HoldsTranslations (listing_with ops.items lattice) lattice },
+    pub ghost small: { All (IsSmallWithin (unsigned_abs MAX_ENTRY)) (map motion_of ops.items) },
+    pub ghost few: { vec_len ops ≤ MAX_OPERATIONS },
+}
+
+impl Group {
+    ghost use Rattle.closure.specs.declared.group_error.GroupError.TheVariants.{NoMemory};
+    ghost use Rattle.closure.specs.GroupErrors.{IsGroupError, IsWithinLimits};
+    ghost use Rattle.closure.specs.Groups.{group_listing, lattice_of};
+
+    /// The group of what is listed: all products of the listed operations and the translations of the lattice.
+    ///
+    /// The lattice is that of the cell edges, the centring vectors and the listed translations. A motion that is the
+    /// same as an earlier one modulo the lattice is left out. The motions are small, with matrix entries at most
+    /// [`MAX_ENTRY`](crate::MAX_ENTRY) in size, and the centring vectors have entries of at most 2^40 parts.
+    ///
+    /// It is made exactly where the listed operations are a group modulo the lattice. The error is the first that
+    /// stands in [`GroupError`], and a fault the first that stands in [`GroupFault`](quotient::GroupFault).
+    pub fn make(alloc: Global, listed: Listed) -> Result<Group, GroupError>
+        requires { IsListedSmall (unsigned_abs MAX_ENTRY) listed }
+        ensures limits { IfOk result (λ _. IsWithinLimits (listing_of listed)) }
+        ensures group { IfOk result (λ _. IsGroup (listing_of listed)) }
+        ensures lattice { IfOk result (λ group. IsLatticeOf (listing_of listed) (lattice_of group)) }
+        ensures ops { IfOk result (λ group.
+            AreFirst (SameModulo (listing_of listed)) (listing_of listed).ops (group_listing group).ops) }
+        ensures members { IfOk result (λ group. (m : MotionOfSpace)
+            → IsMember (listing_of listed) m ↔ IsMember (group_listing group) m) }
+        ensures order { IfOk result (λ group. (m n : MotionOfSpace)
+            → ComesBefore (SameModulo (listing_of listed)) (listing_of listed).ops m n
+            ↔ ComesBefore (SameModulo (listing_of listed)) (group_listing group).ops m n) }
+        ensures accepted { IsWithinLimits (listing_of listed) → IsGroup (listing_of listed)
+            → IfErr result (λ error. error ≡ NoMemory) }
+        ensures refused { IfErr result (IsGroupError (listing_of listed)) }
+    {
+        let count = listed.ops.len();
+        if count > MAX_OPERATIONS {
+            return Err(GroupError::TooMany(count));
+        }
+        let lattice = listed_lattice(alloc, &listed)?;
+        let ops = first_operations(alloc, &lattice, &listed)?;
+        check_group(&lattice, &ops)?;
+        Ok(Group { ops, lattice })
+    }
+
+    /// The operations, each once modulo the lattice, in the order in which they were first listed.
+    pub fn ops(&self) -> &[Motion3]
+        ensures ops { map motion_of result.now ≡ (group_listing self.now).ops }
+        ensures group { IsGroup (group_listing self.now) }
+        ensures apart { AreApart (group_listing self.now) }
+        ensures small { All (IsSmallWithin (unsigned_abs MAX_ENTRY)) (map motion_of result.now) }
+        ensures few { length result.now ≤ MAX_OPERATIONS }
+    {
+        &self.ops
+    }
+
+    /// The translation lattice.
+    pub fn lattice(&self) -> &Lattice
+        ensures lattice { result.now ≡ lattice_of self.now }
+        ensures same { IsLatticeOf (group_listing self.now) result.now }
+    {
+        &self.lattice
+    }
+
+    /// Whether the vector is in the lattice.
+    pub fn has(&self, v: [Part; 3]) -> bool
+        ensures { IsTrue result ↔ IsInLattice (group_listing self.now) (parts v) }
+    {
+        lists_residue(self.lattice.residues(), &v)
+    }
+}
+
+/// The listed operations that are the same as no earlier one modulo the lattice.
+fn first_operations(
+    alloc: Global,
+    lattice: &Lattice,
+    listed: &Listed,
+) -> Result<Vec<Motion3>, AllocError>
+    requires small { IsListedSmall (unsigned_abs MAX_ENTRY) listed.now }
+    requires lattice { IsLatticeOf (listing_of listed.now) lattice.now }
+    ensures first { IfOk result (λ ops.
+        AreFirst (SameModulo (listing_of listed.now)) (listing_of listed.now).ops (map motion_of ops.items)) }
+    ensures small { IfOk result (λ ops. All (IsSmallWithin (unsigned_abs MAX_ENTRY)) (map motion_of ops.items)) }
+    ensures few { IfOk result (λ ops. vec_len ops ≤ vec_len listed.now.ops) }
+{
+    distinct(alloc, lattice, &listed.ops)
+}
