@@ -1,0 +1,12 @@
+pub mod Cramer
+pub mod Edges
+pub mod FrameTestFacts
+pub mod Homes
+pub mod Operations
+pub mod Options
+pub mod Oriented
+pub mod Passed
+pub mod Quotients
+pub mod Scanning
+pub mod Sizes
+pub mod Wide

@@ -1,0 +1,9 @@
+pub mod Bounds
+pub mod Coordinates
+pub mod FrameOf
+pub mod FrameTests
+pub mod FrameView
+pub mod PlaneLattice
+pub mod QuotientLaws
+pub mod Scanning
+pub mod Skews

@@ -1,0 +1,79 @@
+// Motions of space modulo the plane lattice of a frame.
+ghost use Rattle.std.specs.Prelude.{◌≡◌, ◌↔◌, ◌^◌, ◌≤ℤ◌, pos, IsTrue};
+ghost use Rattle.symmetry.specs.Frames.{IsAtHome};
+ghost use Rattle.symmetry.specs.Sizes.{IsSmall, IsVectorWithin};
+ghost use Rattle.symmetry.specs.Vectors.{dot, image, minus};
+ghost use Rattle.motions.specs.BasisView.{basis_of};
+ghost use Rattle.motions.specs.Views.{motion_of, row_of};
+ghost use Rattle.plane_lattice.specs.Coordinates.{IsPlaneCombination, volume};
+ghost use Rattle.plane_lattice.specs.FrameView.{basis_of_frame};
+ghost use Rattle.plane_lattice.specs.PlaneLattice.{IsPlaneShift, home_of_motion};
+ghost use Rattle.plane_lattice.specs.QuotientLaws.{plane_by_meaning, plane_shifts, plane_home_is_same, plane_homes};
+
+use motions::{Basis, Motion3};
+use quotient::Quotient;
+
+use crate::coordinates::{is_in_plane, scaled, volume, whole_part, without};
+use crate::frame::Frame;
+use crate::images::{image, is_translation};
+
+impl Quotient for Frame {
+    type M = Motion3;
+
+    const REACH: i64 = 1 << 20;
+
+    ghost REACH = { pos (2 ^ 20) };
+
+    ghost IsShift = { λ q m. IsPlaneShift (basis_of_frame q) (motion_of m) };
+
+    ghost home_of = { λ q m. home_of_motion (basis_of_frame q) m };
+
+    /// Whether the motion is the translation by a whole combination of a and b.
+    fn is_shift(&self, m: &Motion3) -> bool {
+        is_translation(m) && is_in_plane(&self.basis(), &m.t)
+    }
+
+    /// The motion at home that differs from this one by a whole combination of a and b: its translation has coordinates
+    /// from 0 to below 1 along a and b.
+    fn home(&self, m: &Motion3) -> Motion3
+        requires { IsVectorWithin (2 ^ 20) (motion_of m.now).shift }
+        ensures value { motion_of result ≡ motion_of (home_of_motion (basis_of_frame self.now) m.now) }
+        ensures at_home { IsAtHome (basis_of_frame self.now) (motion_of result) }
+        ensures matrix { (motion_of result).matrix ≡ (motion_of m.now).matrix }
+        ensures differs { IsPlaneCombination (basis_of_frame self.now) (minus (motion_of m.now).shift (motion_of result).shift) }
+        ensures level { dot (row_of self.now.plane) (motion_of result).shift ≡ dot (row_of self.now.plane) (motion_of m.now).shift }
+        ensures small { IsVectorWithin (2 ^ 44) (motion_of result).shift }
+    {
+        let basis = self.basis();
+        let volume = volume(&basis);
+        let whole = whole_part(&scaled(&basis, &m.t), volume);
+        Motion3 {
+            w: m.w,
+            t: without(&m.t, &basis, &whole),
+        }
+    }
+
+    /// Whether the matrix takes each whole combination of a and b to such a combination.
+    fn keeps(&self, m: &Motion3) -> bool {
+        keeps_plane(&self.basis(), m)
+    }
+
+    ghost by_meaning = { λ q m n. plane_by_meaning (basis_of_frame q) m n };
+
+    ghost shifts = { λ q. plane_shifts (basis_of_frame q) };
+
+    ghost home_is_same = { λ q m. plane_home_is_same (basis_of_frame q) m };
+
+    ghost homes = { λ q m n. plane_homes (basis_of_frame q) q.right_handed m n };
+}
+
+/// Whether the matrix of the motion takes a and b to whole combinations of a and b.
+fn keeps_plane(basis: &Basis, m: &Motion3) -> bool
+    requires motion { IsSmall (motion_of m.now) }
+    requires volume { pos 1 ≤ℤ volume (basis_of basis.now) }
+    ensures { IsTrue result
+        ↔ (IsPlaneCombination (basis_of basis.now) (image (motion_of m.now).matrix (basis_of basis.now).a)
+        × IsPlaneCombination (basis_of basis.now) (image (motion_of m.now).matrix (basis_of basis.now).b)) }
+{
+    is_in_plane(basis, &image(m, &basis.a)) && is_in_plane(basis, &image(m, &basis.b))
+}
