@@ -1,0 +1,4 @@
+pub mod Choices
+pub mod RaisedMotions
+pub mod Remainders
+pub mod Shifts

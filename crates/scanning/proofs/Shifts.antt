@@ -1,0 +1,48 @@
+-- How far a vector leads across the planes, and what the code computes of it.
+use Rattle.std.proofs.Common.{◌≡◌, ℕ, ◌*◌, ◌≤◌, ℤ, ◌-ℤ◌, ◌*ℤ◌, unsigned_abs, Option, Some, None, MatchOption, IfSome, FitsSigned, w64, [], ◌∷◌, ◌∙◌, ap, sym, subst, lit<, lit≤, arith}
+use Rattle.fractions.specs.declared.part.TheConstants.{UNIT}
+use Rattle.integers.specs.Size.{IsWithin}
+use Rattle.integers.proofs.Coded.{again, again_is, code_fits, code_is}
+use Rattle.integers.proofs.Ring.{IsWithin-add, IsWithin-mul, IsWithin-sub}
+use Rattle.integers.proofs.Solver.{Expr.{var, ◌⊝◌}}
+use Rattle.symmetry.specs.Sizes.{IsVectorWithin}
+use Rattle.symmetry.specs.Vectors.{Vector, dot}
+use Rattle.motions.specs.declared.index.TheConstants.{INDEX}
+use Rattle.scanning.specs.Bounds.{largest_count, largest_level, largest_shift}
+
+pub shift_within : (n : ℕ) (r v : Vector) → IsVectorWithin (unsigned_abs INDEX) r → IsVectorWithin n v → IsWithin (largest_shift n) (dot r v)
+unfolding dot
+shift_within n r v row small = IsWithin-add (IsWithin-add (IsWithin-mul row.x small.x) (IsWithin-mul row.y small.y)) (IsWithin-mul row.z small.z)
+
+-- the code's difference of a level and the shift of a vector within a cell
+module _ (r v : Vector) (level shift : ℤ) (is : shift ≡ dot r v) (level_small : IsWithin largest_level level)
+    (row : IsVectorWithin (unsigned_abs INDEX) r) (small : IsVectorWithin (unsigned_abs UNIT) v) where
+  shift_small : IsWithin (largest_shift (unsigned_abs UNIT)) shift
+  shift_small = subst (IsWithin (largest_shift (unsigned_abs UNIT))) (sym is) (shift_within (unsigned_abs UNIT) r v row small)
+
+  pub apart_fits : FitsSigned w64 (again level -ℤ again shift)
+  apart_fits = code_fits (largest_level ∷ largest_shift (unsigned_abs UNIT) ∷ []) (level ∷ shift ∷ []) (var 0 ⊝ var 1) tt (level_small, (shift_small, tt))
+
+  pub apart_is : again (again level -ℤ again shift) ≡ level -ℤ dot r v
+  apart_is =
+      code_is (largest_level ∷ largest_shift (unsigned_abs UNIT) ∷ []) (level ∷ shift ∷ []) (var 0 ⊝ var 1) tt (level_small, (shift_small, tt))
+      ∙ ap (λ z. level -ℤ z) is
+
+  pub apart_within : IsWithin largest_count (level -ℤ dot r v)
+  apart_within = IsWithin-sub level_small (shift_within (unsigned_abs UNIT) r v row small)
+
+-- ---- quotients
+
+-- the quotient is the whole number that it is, and none where there is none
+abbrev pub IsQuotient : Option ℤ → ℤ → ℤ → Type 0
+IsQuotient o d x = MatchOption o ((q : ℤ) → ¬ (d *ℤ q ≡ x)) (λ q. d *ℤ q ≡ x)
+
+pub quotient_is : (o : Option ℤ) (d d' x x' : ℤ) → d ≡ d' → x ≡ x' → IsQuotient o d x → IsQuotient o d' x'
+quotient_is o d d' x x' p e h =
+    let P : ℤ → Type 0 = λ y. IsQuotient o d y in
+    let Q : ℤ → Type 0 = λ c. IsQuotient o c x' in
+    subst Q p (subst P e h)
+
+pub quotient_within : (o : Option ℤ) (n : ℕ) (x x' : ℤ) → x ≡ x' → IsWithin n x' → IfSome o (λ q. unsigned_abs q ≤ unsigned_abs x) → IfSome o (IsWithin n)
+quotient_within None n x x' e small h = tt
+quotient_within (Some q) n x x' e small h = record { most = let same = ap unsigned_abs e in omega (arith, small.most) }

@@ -1,0 +1,10 @@
+// The planes of an orientation, height by height.
+//
+// Promises to the crates above: `operations_at` gives the list of the stabiliser of a plane.
+#![tactic(auto)]
+
+mod levels;
+mod operations;
+mod raised;
+
+pub use operations::{NoMemory, operations_at};
