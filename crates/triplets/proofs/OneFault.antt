@@ -1,5 +1,5 @@
 -- A text lists one thing or has one fault.
-use Rattle.std.proofs.Common.{◌≡◌, ℕ, zero, suc, ◌+◌, ◌<◌, ◌≤◌, List, [], ◌∷◌, length, take, Option, Some, None, Result, Ok, refl, sym, ◌∙◌, ap, subst, arith, inl, inr, ◌⊎◌}
+use Rattle.std.proofs.Common.{◌≡◌, ℕ, zero, suc, ◌+◌, ◌<◌, List, [], ◌∷◌, take, Option, Some, None, Result, Ok, refl, sym, ◌∙◌, ap, subst, arith, inl, inr}
 use Rattle.std.specs.Prelude.{slice_get}
 use Rattle.std.proofs.lemmas.List.{take-take}
 use Rattle.symmetry.specs.Groups.{Listing}
@@ -7,7 +7,6 @@ use Rattle.triplets.specs.declared.fault.TextKind.{TextKind}
 use Rattle.triplets.specs.Faults.{TableRow}
 use Rattle.triplets.specs.LineFaults.{IsPrefixOfGoodLine, IsLinePlace, HasLineKind, HasLineKindAt, IsLineFault}
 use Rattle.triplets.specs.Texts.{lines_of, IsGroupText, IsFirstBad, Fault, IsTextFault}
-use Rattle.triplets.specs.TextReading.{group_of}
 use Rattle.triplets.proofs.TextShown.{shorter}
 use Rattle.triplets.proofs.Answered.{only_group, bad_lines}
 
