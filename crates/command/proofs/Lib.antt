@@ -7,3 +7,6 @@ pub mod LimitFacts
 pub mod OneReading
 pub mod OneRequest
 pub mod RunFacts
+pub mod Alike
+pub mod OneAnswer
+pub mod Responding

@@ -12,3 +12,5 @@ pub mod Answers
 pub mod Runs
 pub mod Obstacles
 pub mod Responses
+pub mod Alike
+pub mod Causes
