@@ -1,13 +1,13 @@
 -- A group that is known to be one has its members' products and inverses among its listed operations: they are searched.
-use Rattle.std.proofs.Common.{◌≡◌, ℕ, ◌<◌, ◌↔◌, Bool, true, false, ◌&&◌, IsTrue, refl, sym, ap, subst, ◌∙◌, List}
-use Rattle.std.specs.Prelude.{Any, Contains}
+use Rattle.std.proofs.Common.{◌≡◌, ◌↔◌, Bool, true, false, ◌&&◌, IsTrue, refl, List}
+use Rattle.std.specs.Prelude.{Contains}
 use Rattle.std.specs.List.{list_any}
 use Rattle.std.proofs.Math.Bool.{Bool-set}
 use Rattle.std.proofs.Math.Logic.{∥∥₁_elim, ∥∥₁_map}
 use Rattle.std.proofs.lemmas.List.Folds.{Any-from_list_any, list_any-from_Any}
 use Rattle.symmetry.specs.Vectors.{Vector, image, minus}
 use Rattle.symmetry.specs.Motions.{Motion, followed_by, identity}
-use Rattle.symmetry.specs.Groups.{Listing, IsInLattice, Generates, SameModulo, IsGroup, IsListedGroup}
+use Rattle.symmetry.specs.Groups.{Listing, IsInLattice, SameModulo, IsGroup, IsListedGroup}
 use Rattle.symmetry.proofs.GroupLaws.{group_by_listed}
 use Rattle.motions.specs.Equality.{same_matrix}
 use Rattle.motions.specs.MotionLaws.{same_matrix-is}

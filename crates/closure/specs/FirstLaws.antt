@@ -1,7 +1,7 @@
 -- The first of the vectors that differ by a group of residues. Proofs: they stand here since an `impl` cites them.
-use Rattle.std.proofs.Common.{◌≡◌, ℕ, zero, suc, Bool, true, false, ◌+◌, ◌<◌, IsTrue, arith, refl, sym, ap, subst, ◌∙◌, List, [], ◌∷◌, length, get_or}
+use Rattle.std.proofs.Common.{◌≡◌, ℕ, zero, suc, true, false, ◌<◌, IsTrue, arith, refl, sym, ap, subst, ◌∙◌, List, ◌∷◌, length, get_or}
 use Rattle.std.specs.Prelude.{Contains, All}
-use Rattle.std.specs.List.{best_of, IsFirstBest}
+use Rattle.std.specs.List.{IsFirstBest}
 use Rattle.std.specs.declared.cmp.Ordering.TheVariants.{Less, Equal, Greater}
 use Rattle.std.specs.declared.cmp.Ordering.{Ordering}
 use Rattle.std.proofs.lemmas.List.{get_or_default}
@@ -14,7 +14,7 @@ use Rattle.symmetry.specs.Vectors.{Vector, origin, plus, minus, multiple, opposi
 use Rattle.symmetry.proofs.VectorLaws.{vector_path, minus-plus, minus-same, opposite-minus, minus-plus-minus}
 use Rattle.closure.specs.ListLaws.{Contains-map, Contains-from_map}
 use Rattle.closure.specs.Residues.{residue, has_residue, vector_cmp, is_before, IsResidueGroup}
-use Rattle.closure.specs.ResidueLaws.{residue-same, residue-residue, residue-plus, has_residue-is}
+use Rattle.closure.specs.ResidueLaws.{residue-residue, residue-plus, has_residue-is}
 use Rattle.closure.specs.VectorOrder.{vector_cmp_total, vector_cmp_equal}
 use Rattle.closure.specs.Spans.{coset}
 use Rattle.closure.specs.Lattices.{first_with}

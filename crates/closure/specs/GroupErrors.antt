@@ -7,7 +7,7 @@ use Rattle.quotient.specs.Groups.{IsPosition, IsFirstWithout, motion_at, ComesBe
 use Rattle.quotient.specs.Lists.{AreFirst}
 use Rattle.symmetry.specs.Vectors.{Vector, image, unit_matrix}
 use Rattle.symmetry.specs.Motions.{Motion, followed_by, identity}
-use Rattle.symmetry.specs.Groups.{Listing, IsInLattice, IsMember, IsGroup, SameModulo}
+use Rattle.symmetry.specs.Groups.{Listing, IsInLattice, IsMember, SameModulo}
 use Rattle.closure.specs.declared.limits.TheConstants.{MAX_OPERATIONS}
 use Rattle.closure.specs.declared.group_error.GroupError.{GroupError}
 use Rattle.closure.specs.declared.group_error.GroupError.TheVariants.{TooMany, TooFine, Fault, NoMemory}

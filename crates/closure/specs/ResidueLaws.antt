@@ -7,14 +7,14 @@ use Rattle.std.proofs.lemmas.Int.{ints}
 use Rattle.integers.specs.Size.{Divides}
 use Rattle.fractions.specs.declared.part.TheConstants.{UNIT}
 use Rattle.symmetry.specs.Vectors.{Vector, Matrix, origin, plus, minus, multiple, opposite, dot, image}
-use Rattle.symmetry.proofs.VectorLaws.{vector_path, minus-same, minus-plus-minus, minus-exchange, opposite-minus}
+use Rattle.symmetry.proofs.VectorLaws.{vector_path, minus-same, minus-exchange, opposite-minus}
 use Rattle.symmetry.specs.Frames.{same_vector}
 use Rattle.fractions.specs.Parts.{reduced_parts}
 use Rattle.fractions.specs.declared.part.Part.{Part}
 use Rattle.motions.specs.Views.{parts, part_at}
 use Rattle.motions.specs.MotionLaws.{same_vector-is}
 use Rattle.closure.specs.Residues.{IsWhole, residue, has_residue, IsResidue}
-use Rattle.closure.specs.Remainders.{rem-same, same_rem, minus-rem, rem-small, Divides-zero, Divides-self, Divides-add, Divides-multiple}
+use Rattle.closure.specs.Remainders.{rem-same, same_rem, minus-rem, rem-small, Divides-zero, Divides-add, Divides-multiple}
 
 -- the parts of an edge
 abbrev edge : ℕ

@@ -5,7 +5,7 @@ ghost use Rattle.closure.specs.FromLattice.{error_of};
 
 use crate::lattice_fault::LatticeFault;
 use quotient::GroupFault;
-use std::alloc::{AllocError, AllocFailed};
+use std::alloc::AllocError;
 
 /// Why what is listed makes no [`Group`](crate::Group).
 #[derive(Clone, Copy, PartialEq, Eq, Debug)]
@@ -43,14 +43,6 @@ impl From<AllocError> for GroupError {
     ghost from_gives = { λ _ error. error ≡ NoMemory };
 
     fn from(_error: AllocError) -> GroupError {
-        GroupError::NoMemory
-    }
-}
-
-impl<T: Drop> From<AllocFailed<T>> for GroupError {
-    ghost from_gives = { λ _ error. error ≡ NoMemory };
-
-    fn from(_error: AllocFailed<T>) -> GroupError {
         GroupError::NoMemory
     }
 }

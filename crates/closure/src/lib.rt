@@ -13,6 +13,8 @@ mod laws;
 mod limits;
 mod residues;
 mod shifts;
+#[cfg(test)]
+mod tests;
 mod translations;
 
 pub use group::Group;

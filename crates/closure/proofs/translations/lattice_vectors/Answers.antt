@@ -1,7 +1,6 @@
-use Rattle.std.proofs.Common.{◌≡◌, ℕ, ◌+◌, ◌<◌, ◌≤◌, ◌^◌, true, false, All, sym, ap, subst, ◌∙◌, arith, map, take, length, get_or, [], ◌∷◌, ◌++◌, List}
+use Rattle.std.proofs.Common.{◌≡◌, ◌+◌, ◌<◌, ◌≤◌, ◌^◌, true, false, All, sym, ap, subst, ◌∙◌, arith, map, take, length, get_or, [], ◌∷◌, ◌++◌, List}
 use Rattle.std.proofs.lemmas.List.{get_or_default, take_all}
 use Rattle.std.proofs.lemmas.List.Elements.{All-push}
-use Rattle.fractions.specs.declared.part.Part.{Part}
 use Rattle.symmetry.specs.Sizes.{IsVectorWithin}
 use Rattle.motions.specs.declared.motion.Motion3.{Motion3}
 use Rattle.motions.specs.Views.{parts, motion_of, listing_of}

@@ -1,4 +1,4 @@
-use Rattle.std.proofs.Common.{◌≡◌, ◌≤◌, ◌<◌, true, false, arith, refl, sym, ap, subst, ◌∙◌, length, map, unsigned_abs, All, List, vec_len}
+use Rattle.std.proofs.Common.{◌≡◌, ◌≤◌, true, false, arith, refl, sym, subst, length, map, unsigned_abs, All, List, vec_len}
 use Rattle.std.proofs.lemmas.Result.{err_from_is_err_and}
 use Rattle.std.proofs.lemmas.List.{length-map}
 use Rattle.std.proofs.lemmas.List.Elements.{All-weaker}
