@@ -2,11 +2,14 @@ pub mod Cramer
 pub mod Edges
 pub mod FrameTestFacts
 pub mod Homes
+pub mod LatticeTests
 pub mod Operations
 pub mod Options
 pub mod Oriented
 pub mod Passed
 pub mod Quotients
 pub mod Scanning
+pub mod ScanningFacts
 pub mod Sizes
+pub mod Skewness
 pub mod Wide

@@ -15,16 +15,16 @@ use Rattle.plane_lattice.specs.declared.frame.Frame.{Frame}
 use Rattle.plane_lattice.specs.Scanning.{scanning_ops, IsPointOf}
 
 -- the frame of the group and the plane with these vectors: it is a frame that is not skewed, with the period and the vector c'
-pub record IsFrameOf (group : Group) (plane : Miller) (basis : Basis) (frame : Frame) : Type 0 where
-  pub plane : frame.plane ≡ plane
+pub record IsFrameOf (group : Group) (orientation : Miller) (basis : Basis) (frame : Frame) : Type 0 where
+  pub plane : frame.plane ≡ orientation
   pub a : frame.a ≡ basis.a
   pub b : frame.b ≡ basis.b
   pub tau : frame.tau ≡ basis.tau
-  pub is_frame : IsFrame (group_listing group) (row_of plane) (basis_of basis)
-  pub not_skewed : ¬ IsSkewed (group_listing group) (row_of plane) (basis_of basis)
-  pub period : IsPeriod (group_listing group) (row_of plane) frame.period.0
-  pub scanning : AreScanning (group_listing group) (row_of plane) (scanning_ops (row_of plane) (group_listing group).ops)
-  pub mean : IsPointOf (mean_of (row_of plane) (parts basis.tau) (scanning_ops (row_of plane) (group_listing group).ops)) frame.c
+  pub is_frame : IsFrame (group_listing group) (row_of orientation) (basis_of basis)
+  pub not_skewed : ¬ IsSkewed (group_listing group) (row_of orientation) (basis_of basis)
+  pub period : IsPeriod (group_listing group) (row_of orientation) frame.period.0
+  pub scanning : AreScanning (group_listing group) (row_of orientation) (scanning_ops (row_of orientation) (group_listing group).ops)
+  pub mean : IsPointOf (mean_of (row_of orientation) (parts basis.tau) (scanning_ops (row_of orientation) (group_listing group).ops)) frame.c
 
 -- the vectors are no frame; they are one that is skewed
 abbrev pub IsFrameFault : Group → Miller → Basis → FrameFault → Type 0

@@ -212,11 +212,11 @@ plane_homes f spans m n = (to, from)
 
 -- ---- motions that carry shifts into shifts
 
-along_a : (f : Basis) → combination f (record { x = pos 1; y = pos 0; z = pos 0 }) ≡ f.a
+pub along_a : (f : Basis) → combination f (record { x = pos 1; y = pos 0; z = pos 0 }) ≡ f.a
 unfolding plus multiple
 along_a f = vector_path (omega (arith, ints)) (omega (arith, ints)) (omega (arith, ints))
 
-along_b : (f : Basis) → combination f (record { x = pos 0; y = pos 1; z = pos 0 }) ≡ f.b
+pub along_b : (f : Basis) → combination f (record { x = pos 0; y = pos 1; z = pos 0 }) ≡ f.b
 unfolding plus multiple
 along_b f = vector_path (omega (arith, ints)) (omega (arith, ints)) (omega (arith, ints))
 
