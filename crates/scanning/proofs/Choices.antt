@@ -23,7 +23,7 @@ dot-minus r v w = dot-plus r v (opposite w) ∙ ap (λ n. dot r v +ℤ n) (dot-m
 
 module _ (g : Listing) (r : Vector) (f : Basis) (frame : IsFrame g r f) (S : Motion → Type 0) (m : Motion) where
   -- under the row members of the lattice give whole numbers of periods
-  periods_between : (n : Motion) → SameModulo g n m → (k : ℤ) × (dot r n.shift -ℤ dot r m.shift ≡ k *ℤ dot r f.tau)
+  pub periods_between : (n : Motion) → SameModulo g n m → (k : ℤ) × (dot r n.shift -ℤ dot r m.shift ≡ k *ℤ dot r f.tau)
   periods_between n same =
       let (c, is) = frame.spans (minus n.shift m.shift) same.shift in
       (c.z, sym (dot-minus r n.shift m.shift) ∙ ap (dot r) (sym is) ∙ in_tau c)

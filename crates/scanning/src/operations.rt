@@ -4,13 +4,14 @@ ghost use Rattle.std.specs.Option.{option_map};
 ghost use Rattle.fractions.specs.Fraction.{IsFractionWithin};
 ghost use Rattle.fractions.specs.FractionOf.{fraction_of};
 ghost use Rattle.symmetry.specs.Frames.{IsAtHome, IsFrame};
-ghost use Rattle.symmetry.specs.Groups.{InRowStabiliser, InStabiliser, IsMember, SameModulo, IsGroup};
-ghost use Rattle.symmetry.specs.Lists.{IsChoice, IsListOf};
+ghost use Rattle.symmetry.specs.Groups.{InStabiliser, IsMember, SameModulo, IsGroup};
+ghost use Rattle.symmetry.specs.Lists.{IsListOf};
 ghost use Rattle.symmetry.specs.Sizes.{IsSmall};
 ghost use Rattle.motions.specs.Views.{motion_of, row_of};
 ghost use Rattle.closure.specs.Groups.{group_listing, lattice_of};
 ghost use Rattle.closure.specs.Lattices.{IsLatticeOf};
 ghost use Rattle.plane_lattice.specs.FrameView.{basis_of_frame};
+ghost use Rattle.scanning.specs.Members.{IsChoiceAt};
 
 use std::alloc::{AllocError, Global};
 
@@ -61,9 +62,7 @@ fn member_at(group: &Group, frame: &Frame, s: Ratio, m: &Motion3) -> Option<Moti
     requires member { IsMember (group_listing group.now) (motion_of m.now) }
     requires small { IsSmall (motion_of m.now) }
     requires same { IsLatticeOf (group_listing group.now) (lattice_of group.now) }
-    ensures { let g = group_listing group.now in
-        IsChoice (SameModulo g) (IsAtHome (basis_of_frame frame.now))
-        (InRowStabiliser g (row_of frame.now.plane) (fraction_of s)) (motion_of m.now) (option_map motion_of result) }
+    ensures { IsChoiceAt group.now frame.now s (motion_of m.now) (option_map motion_of result) }
 {
     let level = level(side(m, &frame.plane)?, s)?;
     let reduced = group.lattice().home(m);

@@ -1,0 +1,89 @@
+-- What is chosen operation by operation, with one operation more, and the list that comes of it.
+use Rattle.std.proofs.Common.{◌≡◌, ℕ, ◌+◌, ◌<◌, ◌≤◌, List, [], ◌∷◌, ◌++◌, length, take, map, get_or, Some, None, subst, sym, ap, ◌∙◌}
+use Rattle.std.specs.Prelude.{All, AllPairs, Contains}
+use Rattle.std.proofs.lemmas.List.{get_or_default, map-append, take_all, take_more}
+use Rattle.std.proofs.lemmas.List.Elements.{All-contains, at_from_Contains}
+use Rattle.quotient.proofs.Items.{Contains-item}
+use Rattle.symmetry.specs.Vectors.{Vector}
+use Rattle.symmetry.specs.Motions.{Motion, identity}
+use Rattle.symmetry.specs.Planes.{Height, IsCoprime, IsHeight}
+use Rattle.symmetry.specs.Groups.{Listing, IsGroup, InRowStabiliser, InStabiliser, IsMember, SameModulo}
+use Rattle.symmetry.specs.Frames.{Basis, IsAtHome}
+use Rattle.symmetry.specs.Lists.{motion_at, AreChosen, no_more, passed, taken, AreCovered, IsChoice, IsListOf, IsSameness}
+use Rattle.symmetry.specs.Sizes.{IsSmall}
+use Rattle.symmetry.proofs.LatticeLaws.{listed_member, same_sym, same_trans}
+use Rattle.symmetry.proofs.ListFacts.{chosen_is_list}
+use Rattle.symmetry.proofs.ListLaws.{list_of_same_set}
+use Rattle.symmetry.proofs.PlaneRows.{stabiliser_by_row}
+use Rattle.motions.specs.declared.motion.Motion3.{Motion3}
+use Rattle.motions.specs.ListedSizes.{IsSmallWithin}
+use Rattle.motions.specs.Views.{motion_of}
+
+op_listed : (ops : List Motion3) (i : ℕ) (d : Motion3) → i < length ops → Contains (map motion_of ops) (motion_of (get_or ops i d))
+op_listed ops i d h = Contains-item motion_of ops i (get_or ops i d) h (get_or_default ops i d (get_or ops i d) h)
+
+module _ (Same : Motion → Motion → Type 0) (IsHome S : Motion → Type 0) where
+  chosen_passed : (m : Motion) (ms out : List Motion) → AreChosen Same IsHome S ms out → IsChoice Same IsHome S m None → AreChosen Same IsHome S (ms ++ m ∷ []) out
+  chosen_passed m _ _ no_more none = passed m [] [] none no_more
+  chosen_passed m _ _ (passed k ms out not more) none = passed k (ms ++ m ∷ []) out not (chosen_passed m ms out more none)
+  chosen_passed m _ _ (taken k n ms out one more) none = taken k n (ms ++ m ∷ []) out one (chosen_passed m ms out more none)
+
+  chosen_taken : (m n : Motion) (ms out : List Motion) → AreChosen Same IsHome S ms out → IsChoice Same IsHome S m (Some n)
+      → AreChosen Same IsHome S (ms ++ m ∷ []) (out ++ n ∷ [])
+  chosen_taken m n _ _ no_more one = taken m n [] [] one no_more
+  chosen_taken m n _ _ (passed k ms out not more) one = passed k (ms ++ m ∷ []) (out ++ n ∷ []) not (chosen_taken m n ms out more one)
+  chosen_taken m n _ _ (taken k j ms out also more) one = taken k j (ms ++ m ∷ []) (out ++ n ∷ []) also (chosen_taken m n ms out more one)
+
+  -- ---- the same for the code's motions
+
+  abbrev pub ChosenFrom : List Motion3 → List Motion3 → Type 0
+  ChosenFrom ops members = AreChosen Same IsHome S (map motion_of ops) (map motion_of members)
+
+  one_more : (ops : List Motion3) (i : ℕ) (d : Motion3) → i < length ops → map motion_of (take i ops) ++ motion_of (get_or ops i d) ∷ [] ≡ map motion_of (take (i + 1) ops)
+  one_more ops i d h = sym (ap (map motion_of) (take_more ops i d h) ∙ map-append motion_of (take i ops) (get_or ops i d ∷ []))
+
+  pub none_yet : (members : List Motion3) → members ≡ [] → ChosenFrom [] members
+  none_yet members is = subst (ChosenFrom []) (sym is) no_more
+
+  pub passed_more : (ops : List Motion3) (i : ℕ) (d : Motion3) (members more : List Motion3) → more ≡ members → i < length ops
+      → ChosenFrom (take i ops) members → IsChoice Same IsHome S (motion_of (get_or ops i d)) None → ChosenFrom (take (i + 1) ops) more
+  passed_more ops i d members more is h chosen none =
+      subst (ChosenFrom (take (i + 1) ops)) (sym is)
+      (subst (λ ms. AreChosen Same IsHome S ms (map motion_of members)) (one_more ops i d h)
+      (chosen_passed (motion_of (get_or ops i d)) (map motion_of (take i ops)) (map motion_of members) chosen none))
+
+  pub taken_more : (ops : List Motion3) (i : ℕ) (d : Motion3) (members more : List Motion3) (n : Motion3) → more ≡ members ++ n ∷ [] → i < length ops
+      → ChosenFrom (take i ops) members → IsChoice Same IsHome S (motion_of (get_or ops i d)) (Some (motion_of n)) → ChosenFrom (take (i + 1) ops) more
+  taken_more ops i d members more n is h chosen one =
+      subst (AreChosen Same IsHome S (map motion_of (take (i + 1) ops))) (sym (ap (map motion_of) is ∙ map-append motion_of members (n ∷ [])))
+      (subst (λ ms. AreChosen Same IsHome S ms (map motion_of members ++ motion_of n ∷ [])) (one_more ops i d h)
+      (chosen_taken (motion_of (get_or ops i d)) (motion_of n) (map motion_of (take i ops)) (map motion_of members) chosen one))
+
+-- ---- the list
+
+module _ (g : Listing) (r : Vector) (f : Basis) (s : Height) (group : IsGroup g) (coprime : IsCoprime r) (high : IsHeight s)
+    (apart : AllPairs (λ m n. ¬ SameModulo g m n) g.ops) where
+  covered : AreCovered (SameModulo g) g.ops (InRowStabiliser g r s)
+  covered n (member, _) =
+      let (k, below, at) = at_from_Contains g.ops member.of member.listed in
+      (k, below, subst (SameModulo g n) (sym (at identity)) member.same)
+
+  pub chosen_lists : (ops : List Motion3) (i : ℕ) (members : List Motion3) → map motion_of ops ≡ g.ops → length ops ≤ i
+      → ChosenFrom (SameModulo g) (IsAtHome f) (InRowStabiliser g r s) (take i ops) members
+      → IsListOf (SameModulo g) g.ops (IsAtHome f) (InStabiliser g r s) (map motion_of members)
+  chosen_lists ops i members are all chosen =
+      (list_of_same_set (SameModulo g) g.ops (IsAtHome f) (InStabiliser g r s) (InRowStabiliser g r s) (map motion_of members)
+      (λ m. stabiliser_by_row g r s m group coprime high)).1
+      (chosen_is_list (SameModulo g) (IsAtHome f) (InRowStabiliser g r s) g.ops (map motion_of members) (record { back = same_sym g; on = same_trans g })
+      (λ p q before below. apart p q identity before below) covered
+      (subst (λ ms. AreChosen (SameModulo g) (IsAtHome f) (InRowStabiliser g r s) ms (map motion_of members))
+      (ap (map motion_of) (take_all i ops all) ∙ are) chosen))
+
+-- ---- the operations of the code
+
+-- each is a member, and small
+pub op_member : (g : Listing) (ops : List Motion3) (i : ℕ) (d : Motion3) → map motion_of ops ≡ g.ops → i < length ops → IsMember g (motion_of (get_or ops i d))
+op_member g ops i d are h = listed_member g (motion_of (get_or ops i d)) (subst (λ ms. Contains ms (motion_of (get_or ops i d))) are (op_listed ops i d h))
+
+pub op_small : (n : ℕ) (ops : List Motion3) (i : ℕ) (d : Motion3) → All (IsSmallWithin n) (map motion_of ops) → i < length ops → IsSmall (motion_of (get_or ops i d))
+op_small n ops i d small h = (All-contains (IsSmallWithin n) (map motion_of ops) (motion_of (get_or ops i d)) small (op_listed ops i d h)).small
