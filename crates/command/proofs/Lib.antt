@@ -10,3 +10,4 @@ pub mod RunFacts
 pub mod Alike
 pub mod OneAnswer
 pub mod Responding
+pub mod GroupCauses

@@ -1,15 +1,17 @@
 // The answer to a request over an input.
-ghost use Rattle.std.specs.Prelude.{◌≤◌, ℕ, List, length, IfOk, IfErr, IsErr, ◌≡◌};
+ghost use Rattle.std.specs.Prelude.{◌≤◌, ℕ, List, length, IfOk, IfErr};
 ghost use Rattle.command.specs.declared.limits.TheConstants.{MOST_BYTES};
 ghost use Rattle.command.specs.declared.refusal.Refusal.{Refusal};
 ghost use Rattle.command.specs.Alike.{IsGroupOf};
 ghost use Rattle.command.specs.Answers.{IsInputRefusal, IsOutput};
-ghost use Rattle.command.specs.Causes.{IsGroupObstacle};
+ghost use Rattle.command.specs.Causes.{IsFrameObstacle, IsGroupObstacle, IsFrameHere};
 ghost use Rattle.command.specs.Limits.{IsHeightInRange};
 ghost use Rattle.command.specs.RequestView.{plane_at};
 ghost use Rattle.command.specs.Responses.{IsInputObstacle, RespondsText, RespondsRefusal};
 
 use closure::Group;
+use plane_lattice::Frame;
+use scanning::operations_at;
 use std::alloc::Global;
 use triplets::read_group;
 
@@ -36,8 +38,10 @@ fn response(alloc: Global, request: &Request, input: &[u8]) -> Result<Vec<u8>, O
     ensures text { IfOk result (λ text. IsOutput (plane_at request.now) input.now text.items) }
     ensures obstacle { IfErr result (IsInputObstacle (plane_at request.now) input.now) }
 {
-    let _group = group_of(alloc, input)?;
-    stub(alloc, *request, input)
+    let group = group_of(alloc, input)?;
+    let frame = frame_of(&group, request)?;
+    let operations = operations_at(alloc, &group, &frame, request.s)?;
+    Ok(at_text(alloc, request.s, &operations)?)
 }
 
 /// The group that the input lists.
@@ -50,13 +54,10 @@ fn group_of(alloc: Global, input: &[u8]) -> Result<Group, Obstacle>
     Ok(Group::make(alloc, listed)?)
 }
 
-fn stub(alloc: Global, at: Request, input: &[u8]) -> Result<Vec<u8>, Obstacle>
-    ensures only { IfErr result (λ o. o ≡ Obstacle.NoMemory) }
-    ensures never { IsErr result }
+/// The frame of the request, in the group.
+fn frame_of(group: &Group, request: &Request) -> Result<Frame, Obstacle>
+    ensures frame { IfOk result (IsFrameHere group.now (plane_at request.now)) }
+    ensures obstacle { IfErr result (IsFrameObstacle group.now (plane_at request.now)) }
 {
-    let text = at_text(alloc, at.s, &[])?;
-    if text.len() > input.len() {
-        return Err(Obstacle::NoMemory);
-    }
-    Err(Obstacle::NoMemory)
+    Ok(Frame::make(group, request.plane, request.basis)?)
 }

@@ -43,8 +43,8 @@ module _ (g : Listing) (r : Vector) (f : Basis) (frame : IsFrame g r f) (s : Hei
     pub no_count : ((k : ℤ) → ¬ (dot r f.tau *ℤ k ≡ t -ℤ dot r n.shift)) → IsChoice (SameModulo g) (IsAtHome f) (InRowStabiliser g r s) m None
     no_count none =
         off_level e row t is (λ k apart.
-          let (j, between) = periods_between g r f frame (InRowStabiliser g r s) m n same in
-          none (k -ℤ j) (left (dot r f.tau) k j t (dot r n.shift) (dot r m.shift) apart between))
+        let (j, between) = periods_between g r f frame (InRowStabiliser g r s) m n same in
+        none (k -ℤ j) (left (dot r f.tau) k j t (dot r n.shift) (dot r m.shift) apart between))
       where
         left : (d k j t n m : ℤ) → t -ℤ m ≡ k *ℤ d → n -ℤ m ≡ j *ℤ d → d *ℤ (k -ℤ j) ≡ t -ℤ n
         left d k j t n m e e' = simp spread (omega (arith, ints))

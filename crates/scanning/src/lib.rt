@@ -6,5 +6,7 @@
 mod levels;
 mod operations;
 mod raised;
+#[cfg(test)]
+mod tests;
 
 pub use operations::{NoMemory, operations_at};

@@ -1,28 +1,25 @@
 // The operations that map a plane to itself.
-ghost use Rattle.std.specs.Prelude.{◌^◌, All, IfOk, map};
+ghost use Rattle.std.specs.Prelude.{◌^◌, IfOk, map};
 ghost use Rattle.std.specs.Option.{option_map};
 ghost use Rattle.fractions.specs.Fraction.{IsFractionWithin};
 ghost use Rattle.fractions.specs.FractionOf.{fraction_of};
 ghost use Rattle.symmetry.specs.Frames.{IsAtHome, IsFrame};
-ghost use Rattle.symmetry.specs.Groups.{InStabiliser, IsMember, SameModulo, IsGroup};
+ghost use Rattle.symmetry.specs.Groups.{InStabiliser, IsMember, SameModulo};
 ghost use Rattle.symmetry.specs.Lists.{IsListOf};
 ghost use Rattle.symmetry.specs.Sizes.{IsSmall};
 ghost use Rattle.motions.specs.Views.{motion_of, row_of};
-ghost use Rattle.closure.specs.Groups.{group_listing, lattice_of};
-ghost use Rattle.closure.specs.Lattices.{IsLatticeOf};
+ghost use Rattle.closure.specs.Groups.{group_listing};
 ghost use Rattle.plane_lattice.specs.FrameView.{basis_of_frame};
 ghost use Rattle.scanning.specs.Members.{IsChoiceAt};
 
-use std::alloc::{AllocError, Global};
-
+use crate::levels::{level, periods_to};
+use crate::raised::raised;
 use closure::Group;
 use fractions::Ratio;
 use motions::{Motion3, side};
 use plane_lattice::Frame;
 use quotient::Quotient;
-
-use crate::levels::{level, periods_to};
-use crate::raised::raised;
+use std::alloc::{AllocError, Global};
 
 /// Memory ran out.
 pub type NoMemory = AllocError;
@@ -39,11 +36,9 @@ pub fn operations_at(
 ) -> Result<Vec<Motion3>, NoMemory>
     requires frame { IsFrame (group_listing group.now) (row_of frame.now.plane) (basis_of_frame frame.now) }
     requires height { IsFractionWithin (10 ^ 9) (fraction_of s) }
-    requires stub { IsGroup (group_listing group.now) }
-    requires same { IsLatticeOf (group_listing group.now) (lattice_of group.now) }
     ensures { let g = group_listing group.now in
         IfOk result (λ ops. IsListOf (SameModulo g) g.ops (IsAtHome (basis_of_frame frame.now))
-            (InStabiliser g (row_of frame.now.plane) (fraction_of s)) (map motion_of ops.items)) }
+        (InStabiliser g (row_of frame.now.plane) (fraction_of s)) (map motion_of ops.items)) }
 {
     let mut members = Vec::new(alloc);
     for m in group.ops() {
@@ -61,7 +56,6 @@ fn member_at(group: &Group, frame: &Frame, s: Ratio, m: &Motion3) -> Option<Moti
     requires height { IsFractionWithin (10 ^ 9) (fraction_of s) }
     requires member { IsMember (group_listing group.now) (motion_of m.now) }
     requires small { IsSmall (motion_of m.now) }
-    requires same { IsLatticeOf (group_listing group.now) (lattice_of group.now) }
     ensures { IsChoiceAt group.now frame.now s (motion_of m.now) (option_map motion_of result) }
 {
     let level = level(side(m, &frame.plane)?, s)?;

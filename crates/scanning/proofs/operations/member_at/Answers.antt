@@ -10,10 +10,8 @@ use Rattle.symmetry.specs.Motions.{Motion}
 use Rattle.symmetry.specs.Vectors.{dot}
 use Rattle.motions.specs.Views.{motion_of, row_of}
 use Rattle.motions.specs.declared.motion.Motion3.{Motion3}
-use Rattle.closure.specs.Groups.{group_listing, lattice_of}
-use Rattle.closure.specs.Lattices.{IsLatticeOf}
+use Rattle.closure.specs.Groups.{group_listing}
 use Rattle.closure.specs.declared.group.Group.{Group}
-use Rattle.closure.specs.declared.lattice.Lattice.{Lattice}
 use Rattle.plane_lattice.specs.FrameView.{basis_of_frame}
 use Rattle.plane_lattice.specs.declared.frame.Frame.{Frame}
 use Rattle.scanning.specs.Bounds.{largest_count, largest_level}
@@ -50,14 +48,13 @@ returns-in_err-count c =
     let g = group_listing c.args.group.now in
     let m = motion_of c.args.m.now in
     let n = motion_of c.home-reduced.result in
-    let lattice : IsLatticeOf g c.lattice.result.now = let P : Lattice → Type 0 = IsLatticeOf g in subst P (sym c.lattice.ensures) c.requires.same in
     nothing c.args.group.now q c.args.s m _ c.from_residual-in_err-count.ensures
     (no_count g (row_of q.plane) (basis_of_frame q) c.requires.frame (fraction_of c.args.s) c.args.s.positive m
     c.in_ok-side.field-0 ((c.side.ensures.sign c.in_ok-side.field-0).0 c.in_ok-side.was) c.in_ok-level.level c.in_ok-level.ensures.is
-    n (reduced_same c.lattice.result.now m n c.home-reduced.ensures.matrix c.home-reduced.ensures.first g lattice)
+    n (reduced_same c.lattice.result.now m n c.home-reduced.ensures.matrix c.home-reduced.ensures.first g c.lattice.ensures.same)
     (λ k e.
-      c.in_err-count.ensures.is k
-      (ap (λ d. d *ℤ k) (sym q.tau_gives) ∙ e ∙ ap (λ t. t -ℤ dot (row_of q.plane) n.shift) (passed largest_level c.in_ok-level.level c.in_ok-level.ensures.small (lit< tt)))))
+    c.in_err-count.ensures.is k
+    (ap (λ d. d *ℤ k) (sym q.tau_gives) ∙ e ∙ ap (λ t. t -ℤ dot (row_of q.plane) n.shift) (passed largest_level c.in_ok-level.level c.in_ok-level.ensures.small (lit< tt)))))
 
 pub home-requires : goal.home-requires
 home-requires c =
@@ -69,11 +66,10 @@ returns c =
     let g = group_listing c.args.group.now in
     let m = motion_of c.args.m.now in
     let n = motion_of c.home-reduced.result in
-    let lattice : IsLatticeOf g c.lattice.result.now = let P : Lattice → Type 0 = IsLatticeOf g in subst P (sym c.lattice.ensures) c.requires.same in
     subst (λ (x : Motion). IsChoiceAt c.args.group.now q c.args.s m (Some x)) (sym c.raised.ensures)
     (raised_choice g (row_of q.plane) (basis_of_frame q) c.requires.frame (fraction_of c.args.s) c.args.s.positive m
     c.in_ok-side.field-0 ((c.side.ensures.sign c.in_ok-side.field-0).0 c.in_ok-side.was) c.in_ok-level.level c.in_ok-level.ensures.is
-    n (reduced_same c.lattice.result.now m n c.home-reduced.ensures.matrix c.home-reduced.ensures.first g lattice)
+    n (reduced_same c.lattice.result.now m n c.home-reduced.ensures.matrix c.home-reduced.ensures.first g c.lattice.ensures.same)
     c.requires.member (motion_of c.home.result) c.home.ensures.matrix c.home.ensures.differs c.home.ensures.level c.home.ensures.at_home
     (again c.in_ok-count.count)
     ((λ i. q.tau_gives i *ℤ again_is c.in_ok-count.count largest_count c.in_ok-count.ensures.small (lit< tt) i) ∙ c.in_ok-count.ensures.is

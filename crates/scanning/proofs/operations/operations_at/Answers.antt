@@ -21,15 +21,15 @@ pub loop-m-preserved : goal.loop-m-preserved
 loop-m-preserved c =
     elim c.match-member_at.branch [
       | in-Some+in_ok-push w ↦
-        taken_more _ _ _ c.ops-m-items.result.now c.loop-m.m-index _ c.loop-m.members.items _ w.in-Some.member (ap (λ v. v.items) w.members-is ∙ w.in_ok-push.ensures.items)
-        c.loop-m-test.true c.loop-m.invariant w.in-Some.ensures
+          taken_more _ _ _ c.ops-m-items.result.now c.loop-m.m-index _ c.loop-m.members.items _ w.in-Some.member (ap (λ v. v.items) w.members-is ∙ w.in_ok-push.ensures.items)
+          c.loop-m-test.true c.loop-m.invariant w.in-Some.ensures
       | in_default w ↦
-        passed_more _ _ _ c.ops-m-items.result.now c.loop-m.m-index _ c.loop-m.members.items _ (ap (λ v. v.items) w.members-is) c.loop-m-test.true c.loop-m.invariant
-        w.in_default.ensures
+          passed_more _ _ _ c.ops-m-items.result.now c.loop-m.m-index _ c.loop-m.members.items _ (ap (λ v. v.items) w.members-is) c.loop-m-test.true c.loop-m.invariant
+          w.in_default.ensures
     ]
 
 pub returns : goal.returns
 returns c =
     let q = c.args.frame.now in
-    chosen_lists (group_listing c.args.group.now) (row_of q.plane) (basis_of_frame q) (fraction_of c.args.s) c.requires.stub q.plane.coprime c.args.s.positive
+    chosen_lists (group_listing c.args.group.now) (row_of q.plane) (basis_of_frame q) (fraction_of c.args.s) c.ops-m-items.ensures.group q.plane.coprime c.args.s.positive
     c.ops-m-items.ensures.apart c.ops-m-items.result.now c.loop-m.m-index c.loop-m.members.items c.ops-m-items.ensures.ops c.loop-m-test.false c.loop-m.invariant
