@@ -9,6 +9,19 @@ use Rattle.symmetry.specs.Lists.{ComesBefore, IsListOf, IsFirstPlace, ExactlyOne
 use Rattle.symmetry.proofs.LatticeLaws.{listed_member}
 use Rattle.command.specs.Alike.{AreAlike}
 
+-- a listed operation is a member, so that the other lists one with its matrix
+pub skewed_as : (g h : Listing) → ((m : Motion) → IsMember g m → IsMember h m) → (r : Vector) (f : Basis) → IsSkewed g r f → IsSkewed h r f
+skewed_as g h members r f s =
+    let member : IsMember h s.op = members s.op (listed_member g s.op s.listed) in
+    record {
+      op = member.of;
+      listed = member.listed;
+      scanning = subst (λ (w : Matrix). (row_times r w ≡ r) ⊎ (row_times r w ≡ opposite r)) member.same.matrix s.scanning;
+      coefficients = s.coefficients;
+      of = subst (λ (w : Matrix). (combination f s.coefficients ≡ image w f.a) ⊎ ((combination f s.coefficients ≡ image w f.b) ⊎ (combination f s.coefficients ≡ image w f.tau))) member.same.matrix s.of;
+      large = s.large;
+    }
+
 module _ (g h : Listing) (alike : AreAlike g h) where
   same_to : (m n : Motion) → SameModulo g m n → SameModulo h m n
   same_to m n p = record { matrix = p.matrix; shift = (alike.lattice (minus m.shift n.shift)).0 p.shift }
@@ -53,19 +66,6 @@ module _ (g h : Listing) (alike : AreAlike g h) where
     tau_above = frame.tau_above;
     right_handed = frame.right_handed;
   }
-
-  -- a listed operation is a member, so that the other lists one with its matrix
-  pub skewed_to : (r : Vector) (f : Basis) → IsSkewed g r f → IsSkewed h r f
-  skewed_to r f s =
-      let member : IsMember h s.op = (alike.members s.op).0 (listed_member g s.op s.listed) in
-      record {
-        op = member.of;
-        listed = member.listed;
-        scanning = subst (λ (w : Matrix). (row_times r w ≡ r) ⊎ (row_times r w ≡ opposite r)) member.same.matrix s.scanning;
-        coefficients = s.coefficients;
-        of = subst (λ (w : Matrix). (combination f s.coefficients ≡ image w f.a) ⊎ ((combination f s.coefficients ≡ image w f.b) ⊎ (combination f s.coefficients ≡ image w f.tau))) member.same.matrix s.of;
-        large = s.large;
-      }
 
   pub list_from : (r : Vector) (f : Basis) (s : Height) (ms : List Motion)
       → IsListOf (SameModulo h) h.ops (IsAtHome f) (InStabiliser h r s) ms → IsListOf (SameModulo g) g.ops (IsAtHome f) (InStabiliser g r s) ms

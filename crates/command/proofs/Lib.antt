@@ -11,3 +11,4 @@ pub mod Alike
 pub mod OneAnswer
 pub mod Responding
 pub mod GroupCauses
+pub mod FrameCauses
