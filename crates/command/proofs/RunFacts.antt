@@ -1,5 +1,5 @@
 -- Long inputs are refused as such, and a request is one.
-use Rattle.std.proofs.Common.{◌≡◌, ℕ, ◌<◌, ◌≤◌, List, length, refl, sym, subst, arith, inl, inr, Result, Err, Vec, Global, Some, IfSome, Option}
+use Rattle.std.proofs.Common.{◌≡◌, ℕ, ◌<◌, ◌≤◌, List, length, refl, sym, ap, ◌∙◌, subst, arith, inl, inr, Result, Err, Vec, Global, Some, IfSome, Option}
 use Rattle.devices.specs.declared.read.Input.{Input}
 use Rattle.devices.specs.declared.read.Input.TheVariants as inputs
 use Rattle.devices.specs.Input.{IfWhole}
@@ -10,7 +10,10 @@ use Rattle.command.specs.Requests.{PlaneAt}
 use Rattle.command.specs.Answers.{IsInputRefusal}
 use Rattle.command.specs.declared.obstacle.Obstacle.{Obstacle}
 use Rattle.command.specs.declared.obstacle.Obstacle.TheVariants as obstacles
-use Rattle.command.specs.Responses.{AnswersInput}
+use Rattle.command.specs.Responses.{AnswersInput, HasAnswer}
+use Rattle.command.specs.Runs.{WritesAnswer, WritesFront}
+use Rattle.std.specs.Io.KnownBytes.{append_known}
+use Rattle.devices.specs.Transfers.{HoldsFront}
 
 -- an input that is too long is refused for that alone
 pub long_refusal : (at : PlaneAt) (input : List ℕ) (refusal : Refusal) → MOST_BYTES < length input → IsInputRefusal at input refusal → refusal ≡ TooLong
@@ -48,3 +51,21 @@ whole_bytes {left = left} {input = input} read bytes is whole left_is = sym all
     whole_too = subst (λ (l : Option (List ℕ)). IfSome l (λ all. bytes.items ≡ all)) left_is (subst (λ (r : Input). IfWhole r (λ items. IfSome left (λ all. items ≡ all))) is whole)
     all : bytes.items ≡ input
     all = whole_too
+
+-- the text that was made is the answer; it was written whole
+pub written : (words : List (List ℕ)) (left held held' : Option (List ℕ)) (text bytes : List ℕ) → HasAnswer words left text → bytes ≡ text
+    → held' ≡ append_known held bytes → WritesAnswer words left held held'
+written words left held held' text bytes made same is = record {
+  at = made.at;
+  asks = made.asks;
+  writes = λ input all. (text, made.answers input all, is ∙ ap (append_known held) same);
+}
+
+-- or a front of it
+pub front_written : (words : List (List ℕ)) (left held held' : Option (List ℕ)) (text bytes : List ℕ) → HasAnswer words left text → bytes ≡ text
+    → HoldsFront held held' bytes → WritesFront words left held held'
+front_written words left held held' text bytes made same front = record {
+  at = made.at;
+  asks = made.asks;
+  writes = λ input all. (text, made.answers input all, subst (HoldsFront held held') same front);
+}
