@@ -3,9 +3,9 @@ use Rattle.std.proofs.Common.{◌≡◌, ◌⊎◌, ℕ, List, subst}
 use Rattle.symmetry.specs.Vectors.{Vector, Matrix, minus, image, row_times, opposite}
 use Rattle.symmetry.specs.Motions.{Motion}
 use Rattle.symmetry.specs.Planes.{Height}
-use Rattle.symmetry.specs.Groups.{Listing, IsInLattice, IsMember, SameModulo, InStabiliser}
-use Rattle.symmetry.specs.Frames.{Basis, combination, IsFrame, IsSkewed, IsAtHome, KeepsOrientation}
-use Rattle.symmetry.specs.Lists.{ComesBefore, IsListOf, IsFirstPlace, ExactlyOne, motion_at}
+use Rattle.symmetry.specs.Groups.{Listing, IsMember, SameModulo, InStabiliser}
+use Rattle.symmetry.specs.Frames.{Basis, combination, IsFrame, IsSkewed, IsAtHome}
+use Rattle.symmetry.specs.Lists.{ComesBefore, IsListOf, IsFirstPlace, motion_at}
 use Rattle.symmetry.proofs.LatticeLaws.{listed_member}
 use Rattle.command.specs.Alike.{AreAlike}
 

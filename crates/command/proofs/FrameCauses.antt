@@ -1,15 +1,12 @@
 -- What keeps a group from a frame, as its listings say it.
-use Rattle.std.proofs.Common.{◌≡◌, ◌≤◌, ℕ, List, length, map, subst, sym, inl, inr, ◌∙◌, ap}
+use Rattle.std.proofs.Common.{◌≡◌, ◌≤◌, ℕ, List, length, subst, sym, inl, inr}
 use Rattle.symmetry.specs.Vectors.{Vector}
 use Rattle.symmetry.specs.Groups.{Listing, SameModulo, InStabiliser}
-use Rattle.symmetry.specs.Frames.{Basis as Vectors, IsFrame, IsSkewed, IsAtHome}
+use Rattle.symmetry.specs.Frames.{Basis as Vectors, IsFrame, IsAtHome}
 use Rattle.symmetry.specs.Lists.{IsListOf}
 use Rattle.symmetry.specs.Motions.{Motion}
-use Rattle.motions.specs.declared.basis.Basis.{Basis}
-use Rattle.motions.specs.declared.miller.Miller.{Miller}
 use Rattle.motions.specs.declared.frame_fault.FrameFault.{FrameFault}
 use Rattle.motions.specs.declared.frame_fault.FrameFault.TheVariants as frames
-use Rattle.motions.specs.BasisView.{basis_of}
 use Rattle.motions.specs.Views.{row_of}
 use Rattle.closure.specs.declared.group.Group.{Group}
 use Rattle.closure.specs.Groups.{group_listing}
@@ -27,7 +24,7 @@ use Rattle.command.specs.RequestView.{plane_at}
 use Rattle.command.specs.Texts.{at_text}
 use Rattle.command.specs.Alike.{AreAlike, IsGroupOf}
 use Rattle.command.specs.Causes.{IsFrameObstacle, IsFrameHere, IsGroupObstacle}
-use Rattle.command.specs.Contents.{IsAnswer, IsRefusal, RefusesFrame, RefusesGroup, AreOperationsAt}
+use Rattle.command.specs.Contents.{IsRefusal, RefusesFrame, AreOperationsAt}
 use Rattle.command.specs.Answers.{IsInputRefusal, IsOutput}
 use Rattle.command.specs.Obstacles.{refusal_of_frame}
 use Rattle.command.specs.Responses.{IsInputObstacle}
@@ -76,13 +73,15 @@ answered at input text group frame ops short of here list is =
     let at_row : IsListOf (SameModulo h) h.ops (IsAtHome (basis_of_frame frame)) (InStabiliser h at.row at.height) ops =
     subst (λ (r : Vector). IsListOf (SameModulo h) h.ops (IsAtHome (basis_of_frame frame)) (InStabiliser h r at.height) ops) here.row list in
     let in_frame : AreOperationsAt h at ops =
-    subst (λ (f : Vectors). IsListOf (SameModulo h) h.ops (IsAtHome f) (InStabiliser h at.row at.height) ops) here.basis at_row in
-    (short, record {
-      group = of.listing;
-      lists = of.lists;
-      is_frame = frame_from of.listing h of.alike at.row at.basis here.is_frame;
-      not_skewed = λ s. here.not_skewed (skewed_as of.listing h (λ m. (of.alike.members m).0) at.row at.basis s);
-      ops = ops;
-      are_ops = list_from of.listing h of.alike at.row at.basis at.height ops in_frame;
-      is_text = is;
-    })
+    subst (λ (f : Vectors). IsListOf (SameModulo h) h.ops (IsAtHome f) (InStabiliser h at.row at.height) ops) here.basis at_row in (
+      short,
+      record {
+        group = of.listing;
+        lists = of.lists;
+        is_frame = frame_from of.listing h of.alike at.row at.basis here.is_frame;
+        not_skewed = λ s. here.not_skewed (skewed_as of.listing h (λ m. (of.alike.members m).0) at.row at.basis s);
+        ops = ops;
+        are_ops = list_from of.listing h of.alike at.row at.basis at.height ops in_frame;
+        is_text = is;
+      },
+    )

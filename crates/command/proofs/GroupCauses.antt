@@ -1,6 +1,5 @@
 -- What keeps an input from a group.
-use Rattle.std.proofs.Common.{◌≡◌, ℕ, List}
-use Rattle.quotient.specs.declared.check.GroupFault.{GroupFault}
+use Rattle.std.proofs.Common.{ℕ, List}
 use Rattle.quotient.specs.declared.check.GroupFault.TheVariants as faults
 use Rattle.symmetry.specs.Groups.{Listing}
 use Rattle.closure.specs.declared.group_error.GroupError.{GroupError}

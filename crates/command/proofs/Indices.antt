@@ -1,5 +1,5 @@
 -- What `parse` gives of a short word.
-use Rattle.std.proofs.Common.{◌≡◌, ◌≢◌, ℕ, ◌*◌, ◌^◌, ◌<◌, ◌≤◌, ℤ, pos, neg_ℤ, List, length, Option, Some, None, Result, Ok, Err, MatchOption, Bool, true, false, cond, slice_index, FitsSigned, w64, lit<, arith}
+use Rattle.std.proofs.Common.{◌≢◌, ℕ, ◌^◌, ◌<◌, ◌≤◌, ℤ, pos, neg_ℤ, List, length, Result, Ok, Err, MatchOption, Bool, true, false, cond, slice_index, FitsSigned, w64, lit<, arith}
 use Rattle.std.proofs.Math.Nat.{pow-le-pow_right}
 use Rattle.std.specs.Result.{result_ok}
 use Rattle.std.specs.Str.Parse.{IsNumeral, digits_value, starts_with_minus, without_leading_sign, signed_digits_value, ParsesSigned}

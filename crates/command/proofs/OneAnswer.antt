@@ -1,5 +1,5 @@
 -- An input has one answer, or one refusal.
-use Rattle.std.proofs.Common.{◌≡◌, ◌≢◌, ◌⊎◌, ℕ, List, refl, sym, ap, ◌∙◌, subst, inl, inr}
+use Rattle.std.proofs.Common.{◌≡◌, ◌≢◌, ℕ, List, refl, sym, ap, ◌∙◌, subst, inl, inr}
 use Rattle.quotient.specs.declared.check.GroupFault.TheVariants as faults
 use Rattle.symmetry.specs.Groups.{Listing}
 use Rattle.symmetry.specs.Frames.{IsFrame, IsSkewed}
@@ -9,10 +9,10 @@ use Rattle.closure.specs.declared.group_error.GroupError.{GroupError}
 use Rattle.closure.specs.declared.group_error.GroupError.TheVariants as groups
 use Rattle.closure.specs.GroupErrors.{IsGroupError}
 use Rattle.closure.proofs.OneError.{one_group_error, no_group_and_error}
-use Rattle.triplets.specs.Texts.{Fault, IsGroupText, IsTextFault}
+use Rattle.triplets.specs.Texts.{Fault, IsTextFault}
 use Rattle.triplets.proofs.OneFault.{one_listing, one_fault, no_listing_and_fault}
 use Rattle.command.specs.declared.refusal.Refusal.{Refusal}
-use Rattle.command.specs.declared.refusal.Refusal.TheVariants.{Usage, OutOfRange, AllZero, NotCoprime, FrameLimit, HeightLimit, TooLong, Text, TooMany, TooFine, NoIdentity, ShiftMoved, NotClosed, NoInverse, NotFrame, SkewFrame}
+use Rattle.command.specs.declared.refusal.Refusal.TheVariants.{Usage, Text, TooMany, TooFine, NoIdentity, ShiftMoved, NotClosed, NoInverse, NotFrame, SkewFrame}
 use Rattle.command.specs.Requests.{PlaneAt}
 use Rattle.command.specs.Contents.{ListsGroup, IsAnswer, IsGroupRefusal, RefusesGroup, RefusesFrame, IsRefusal}
 use Rattle.command.specs.Obstacles.{refusal_of_fault, refusal_of_frame}

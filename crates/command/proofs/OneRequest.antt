@@ -1,7 +1,6 @@
 -- Words ask for one plane at the most, or are refused.
-use Rattle.std.proofs.Common.{◌≡◌, ◌≢◌, ℕ, ◌*◌, ℤ, pos, ◌*ℤ◌, List, Option, Some, None, refl, sym, ap, ◌∙◌, subst, arith}
+use Rattle.std.proofs.Common.{◌≡◌, ℕ, ◌*◌, ℤ, pos, ◌*ℤ◌, List, Option, Some, None, sym, ap, ◌∙◌, subst, arith}
 use Rattle.std.specs.Prelude.{unsigned_abs}
-use Rattle.std.proofs.lemmas.Int.{ints}
 use Rattle.integers.proofs.Ring.{mul_right_cancel}
 use Rattle.fractions.specs.declared.part.TheConstants.{UNIT}
 use Rattle.fractions.specs.Fraction.{Fraction}
@@ -11,8 +10,8 @@ use Rattle.symmetry.proofs.VectorLaws.{vector_path}
 use Rattle.motions.specs.declared.plane_fault.PlaneFault.TheVariants as planes
 use Rattle.command.specs.declared.refusal.Refusal.{Refusal}
 use Rattle.command.specs.declared.refusal.Refusal.TheVariants.{Usage, OutOfRange, AllZero, NotCoprime, FrameLimit, HeightLimit, TooLong, Text, TooMany, TooFine, NoIdentity, ShiftMoved, NotClosed, NoInverse, NotFrame, SkewFrame}
-use Rattle.command.specs.Words.{AtWords, IsAtWords, Fractions, FrameWords}
-use Rattle.command.specs.Limits.{IsFrameEntry, AreFrameEntries, AreFrameVectors, IsFrameInRange, IsInParts, IsFrameInParts, IsBasisOf}
+use Rattle.command.specs.Words.{AtWords, Fractions, FrameWords}
+use Rattle.command.specs.Limits.{IsFrameEntry, AreFrameEntries, IsFrameInRange, IsInParts, IsBasisOf}
 use Rattle.command.specs.Requests.{PlaneAt, Asks, PassesLimit, IsRequest, IsWordsRefusal}
 use Rattle.command.proofs.OneReading.{at_words_once}
 

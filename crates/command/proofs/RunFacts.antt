@@ -1,5 +1,5 @@
 -- Long inputs are refused as such, and a request is one.
-use Rattle.std.proofs.Common.{◌≡◌, ℕ, ◌<◌, ◌≤◌, List, length, refl, sym, ap, ◌∙◌, subst, arith, inl, inr, Result, Err, Vec, Global, Some, IfSome, Option}
+use Rattle.std.proofs.Common.{◌≡◌, ℕ, ◌<◌, List, length, refl, sym, ap, ◌∙◌, subst, arith, inl, inr, Err, Vec, Global, Some, IfSome, Option}
 use Rattle.devices.specs.declared.read.Input.{Input}
 use Rattle.devices.specs.declared.read.Input.TheVariants as inputs
 use Rattle.devices.specs.Input.{IfWhole}
@@ -49,6 +49,7 @@ whole_bytes {left = left} {input = input} read bytes is whole left_is = sym all
   where
     whole_too : IfSome (Some input) (λ all. bytes.items ≡ all)
     whole_too = subst (λ (l : Option (List ℕ)). IfSome l (λ all. bytes.items ≡ all)) left_is (subst (λ (r : Input). IfWhole r (λ items. IfSome left (λ all. items ≡ all))) is whole)
+
     all : bytes.items ≡ input
     all = whole_too
 

@@ -1,5 +1,5 @@
 -- A word is one vector at the most.
-use Rattle.std.proofs.Common.{◌≡◌, ℕ, ◌+◌, List, length, refl, sym, ◌∙◌, ap, subst}
+use Rattle.std.proofs.Common.{◌≡◌, ℕ, ◌+◌, List, length, sym, ◌∙◌, ap, subst}
 use Rattle.fractions.specs.Fraction.{Fraction}
 use Rattle.command.specs.Words.{Fractions, IsRatioAt, BeforeComma, IsVectorWord}
 

@@ -1,5 +1,5 @@
 -- Words, taken from the list that has them.
-use Rattle.std.proofs.Common.{◌≡◌, ℕ, ◌<◌, ◌≤◌, List, [], ◌∷◌, length, map, take, drop, ◌-◌, get_or, Option, Some, None, refl, sym, ap, subst, arith}
+use Rattle.std.proofs.Common.{◌≡◌, ℕ, ◌<◌, ◌≤◌, List, [], ◌∷◌, length, map, take, drop, ◌-◌, get_or, Option, Some, None, sym, subst, arith}
 use Rattle.std.proofs.lemmas.List.{take_all}
 use Rattle.command.specs.Words.{AtWords, FrameWords, AreVectorWords, IsFrameWords, ArePlaneAndFrame, IsAtWords}
 use Rattle.std.specs.Prelude.{codes, MatchOption}

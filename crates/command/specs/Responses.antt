@@ -3,7 +3,7 @@ use Rattle.std.specs.Prelude.{◌≡◌, ◌⊎◌, ℕ, List, Option, Some, Res
 use Rattle.command.specs.declared.refusal.Refusal.{Refusal}
 use Rattle.command.specs.declared.obstacle.Obstacle.{Obstacle}
 use Rattle.command.specs.declared.obstacle.Obstacle.TheVariants as obstacles
-use Rattle.command.specs.Requests.{PlaneAt, IsRequest, IsWordsRefusal}
+use Rattle.command.specs.Requests.{PlaneAt, IsRequest}
 use Rattle.command.specs.Answers.{IsInputRefusal, IsOutput}
 use Rattle.devices.specs.Calls.{Rose}
 use Rattle.command.specs.declared.outcome.Outcome.{Outcome}

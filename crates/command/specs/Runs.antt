@@ -1,6 +1,6 @@
 -- What a run of the program does.
 use Rattle.std.specs.Prelude.{◌≡◌, ◌⊎◌, ℕ, List, ◌++◌, codes, Option, Some}
-use Rattle.std.specs.Io.KnownBytes.{append_known, IsAtEnd}
+use Rattle.std.specs.Io.KnownBytes.{append_known}
 use Rattle.devices.specs.Calls.{Rose}
 use Rattle.devices.specs.Transfers.{HoldsFront}
 use Rattle.command.specs.declared.refusal.Refusal.{Refusal}

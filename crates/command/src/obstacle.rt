@@ -1,13 +1,12 @@
 // What keeps the program from an answer.
 
+use crate::refusal::Refusal;
 use closure::GroupError;
 use devices::ReadFault;
 use motions::FrameFault;
 use quotient::GroupFault;
 use std::alloc::AllocError;
 use triplets::TextFault;
-
-use crate::refusal::Refusal;
 
 /// What keeps the program from an answer.
 #[derive(Clone, Copy, PartialEq, Eq, Debug)]
@@ -64,7 +63,11 @@ impl From<TextFault> for Obstacle {
 
     fn from(fault: TextFault) -> Obstacle {
         match fault {
-            TextFault::At { line, column, kind } => Obstacle::Refused(Refusal::Text { line, column, kind }),
+            TextFault::At { line, column, kind } => Obstacle::Refused(Refusal::Text {
+                line,
+                column,
+                kind,
+            }),
             TextFault::NoMemory => Obstacle::NoMemory,
         }
     }

@@ -3,7 +3,6 @@ ghost use Rattle.std.specs.Prelude.{◌≡◌};
 ghost use Rattle.command.specs.KindNames.{kind_text};
 
 use std::fmt;
-
 use triplets::TextKind;
 
 /// Why the words or the input were refused. The first that applies is given, in this order.

@@ -9,15 +9,14 @@ ghost use Rattle.command.specs.Limits.{IsHeightInRange};
 ghost use Rattle.command.specs.RequestView.{plane_at};
 ghost use Rattle.command.specs.Responses.{IsInputObstacle, RespondsText, RespondsRefusal};
 
+use crate::at_text::at_text;
+use crate::obstacle::Obstacle;
+use crate::request::Request;
 use closure::Group;
 use plane_lattice::Frame;
 use scanning::operations_at;
 use std::alloc::Global;
 use triplets::read_group;
-
-use crate::at_text::at_text;
-use crate::obstacle::Obstacle;
-use crate::request::Request;
 
 /// The answer to a request over an input: the text of the operations that map the plane to itself, in the frame.
 pub fn respond(alloc: Global, request: &Request, input: &[u8]) -> Result<Vec<u8>, Obstacle>

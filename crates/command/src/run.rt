@@ -9,15 +9,14 @@ ghost use Rattle.command.specs.Answers.{IsInputRefusal, IsOutput};
 ghost use Rattle.command.specs.Responses.{AnswersInput, HasAnswer, IsObstacle, RefusesBy, RefusesInput};
 ghost use Rattle.command.specs.Runs.{Answers, Complains, HasCause, IsCause, LeavesOut, Refuses};
 
-use devices::{Input, Sink, Source, put_all, read_all};
-use std::alloc::Global;
-
 use crate::limits::MOST_BYTES;
 use crate::obstacle::Obstacle;
 use crate::outcome::Outcome;
 use crate::read_words::read_words;
 use crate::refusal::Refusal;
 use crate::respond::respond;
+use devices::{Input, Sink, Source, put_all, read_all};
+use std::alloc::Global;
 
 /// Runs the program: reads the words, and for a request that asks for it the source to its end, and writes the whole
 /// answer to `out`, or the line of a refusal to `complaints`.
