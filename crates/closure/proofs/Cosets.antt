@@ -1,22 +1,22 @@
 -- The residues of a lattice and its cosets by the multiples of one more vector.
-use Rattle.std.proofs.Common.{◌≡◌, ℕ, zero, suc, ◌+◌, ◌-◌, ◌<◌, ◌≤◌, ◌↔◌, inl, inr, arith, refl, sym, ap, subst, ◌∙◌, List, [], ◌∷◌, ◌++◌, length, get_or, map, take, ℤ, pos, negsuc, ◌+ℤ◌, ◌*ℤ◌}
+use Rattle.std.proofs.Common.{◌≡◌, ℕ, zero, suc, ◌+◌, ◌-◌, ◌<◌, ◌≤◌, ◌↔◌, inl, inr, arith, sym, ap, subst, ◌∙◌, List, [], ◌∷◌, ◌++◌, length, get_or, take, ℤ, pos, negsuc, ◌+ℤ◌, ◌*ℤ◌}
 use Rattle.std.specs.Prelude.{All, AllPairs, Contains}
 use Rattle.std.proofs.lemmas.Bool.{cases_lt}
 use Rattle.std.proofs.lemmas.Int.{ints}
-use Rattle.std.proofs.lemmas.List.{length-append, length-map, length-take-le, take-append-le, take-append-drop}
+use Rattle.std.proofs.lemmas.List.{length-append, take-append-le}
 use Rattle.std.proofs.Math.Seq.{take-length}
 use Rattle.std.proofs.lemmas.List.Elements.{All-append, All-map, All-contains, All-contains_itself, All-weaker, Contains-append_left, Contains-append_right, Contains-append_cases}
-use Rattle.integers.proofs.Solver.{Expr.{var, num, neg, ◌⊕◌, ◌⊝◌, ◌⊗◌}, ring, linear, given}
+use Rattle.integers.proofs.Solver.{Expr.{var, num, ◌⊕◌, ◌⊗◌}, linear, given}
 use Rattle.symmetry.specs.Vectors.{Vector, origin, plus, minus, multiple, opposite}
-use Rattle.symmetry.specs.Groups.{Listing, Generates, IsInLattice, zero_vector, added, subtracted}
-use Rattle.symmetry.proofs.VectorLaws.{vector_path, minus-plus, plus-origin, minus-same}
+use Rattle.symmetry.specs.Groups.{Listing, IsInLattice, zero_vector, added, subtracted}
+use Rattle.symmetry.proofs.VectorLaws.{vector_path, minus-plus, plus-origin}
 use Rattle.symmetry.proofs.LatticeLaws.{lattice-plus, lattice-minus, lattice-opposite, lattice-made}
 use Rattle.closure.specs.declared.limits.TheConstants.{MAX_RESIDUES}
-use Rattle.closure.specs.Residues.{IsWhole, residue}
+use Rattle.closure.specs.Residues.{residue}
 use Rattle.closure.specs.Spans.{AreResiduesOf, coset, with_centring}
 use Rattle.closure.specs.Fineness.{IsTooFine}
 use Rattle.closure.specs.ListLaws.{AllPairs-append, AllPairs-map, Contains-map, Contains-from_map}
-use Rattle.closure.specs.ResidueLaws.{residue-same, residue-residue, residue-plus, residue-minus, whole_from_residues}
+use Rattle.closure.specs.ResidueLaws.{residue-same, residue-residue, residue-plus, residue-minus}
 use Rattle.closure.proofs.Spans.{multiple-zero, multiple-suc, lattice-multiple, lattice-by_residue, generates_with, lattice-with, lattice-centring}
 
 -- ---- sums of three vectors and multiples

@@ -1,5 +1,5 @@
 -- What the tests of a lattice's shifts tell, by its residues as the code reads them.
-use Rattle.std.proofs.Common.{◌≡◌, ◌<◌, ◌↔◌, Bool, IsTrue, sym, ap, subst, ◌∙◌, List, length, get_or, map}
+use Rattle.std.proofs.Common.{◌≡◌, ◌<◌, ◌↔◌, Bool, IsTrue, sym, ap, subst, ◌∙◌, List, get_or, map}
 use Rattle.std.specs.Prelude.{All}
 use Rattle.std.proofs.lemmas.List.{get_or-map, length-map}
 use Rattle.std.proofs.lemmas.List.Elements.{All-map, All-weaker}

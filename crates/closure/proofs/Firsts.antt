@@ -1,23 +1,23 @@
 -- The lattice of what is listed by the vectors that were collected, and the first of the listed operations.
-use Rattle.std.proofs.Common.{◌≡◌, ◌↔◌, inl, inr, refl, sym, ap, subst, ◌∙◌, List, map}
-use Rattle.std.specs.Prelude.{All, AllPairs, Any, Contains}
+use Rattle.std.proofs.Common.{◌≡◌, ◌↔◌, inl, inr, sym, subst, List, map}
+use Rattle.std.specs.Prelude.{Contains}
 use Rattle.std.proofs.lemmas.List.Elements.{All-contains}
 use Rattle.quotient.specs.Kind.{IsSame}
-use Rattle.quotient.specs.Lists.{AreFirst, IsListed}
+use Rattle.quotient.specs.Lists.{AreFirst}
 use Rattle.quotient.specs.Lists.AreFirst.{none, kept, left_out}
 use Rattle.quotient.specs.Groups.{IsGroup as IsGroupModulo}
-use Rattle.quotient.proofs.Firsts.{AreFirst-map, Contains-from_firsts, firsts_apart}
+use Rattle.quotient.proofs.Firsts.{AreFirst-map, Contains-from_firsts}
 use Rattle.quotient.proofs.Parts.{firsts_are_listed, group_of_firsts}
-use Rattle.symmetry.specs.Vectors.{Vector, minus}
+use Rattle.symmetry.specs.Vectors.{Vector}
 use Rattle.symmetry.specs.Motions.{Motion, translation}
 use Rattle.symmetry.specs.Groups.{Listing, Generates, IsInLattice, SameModulo, IsMember, IsGroup}
-use Rattle.symmetry.proofs.LatticeLaws.{lattice-made, same_sym}
+use Rattle.symmetry.proofs.LatticeLaws.{lattice-made}
 use Rattle.motions.specs.MotionLaws.{followed_by_laws}
 use Rattle.motions.specs.declared.motion.Motion3.{Motion3}
 use Rattle.motions.specs.Views.{motion_of}
 use Rattle.closure.specs.declared.lattice.Lattice.{Lattice}
 use Rattle.closure.specs.Fineness.{centrings_alone, IsTooFine}
-use Rattle.closure.specs.Lattices.{residues_of, InLattice, IsLatticeOf}
+use Rattle.closure.specs.Lattices.{residues_of, IsLatticeOf}
 use Rattle.closure.specs.ResidueLaws.{residue-residue}
 use Rattle.closure.specs.Residues.{residue}
 use Rattle.closure.specs.ShiftLaws.{modulo, shifts_lem, residues-reduced}

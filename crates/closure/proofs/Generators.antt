@@ -1,7 +1,7 @@
 -- The vectors that a lattice is made of, collected from what is listed.
-use Rattle.std.proofs.Common.{◌≡◌, ℕ, ◌+◌, ◌<◌, ◌↔◌, ◌⊎◌, inl, inr, arith, refl, sym, ap, subst, ◌∙◌, List, [], ◌∷◌, ◌++◌, length, get_or, map, take}
+use Rattle.std.proofs.Common.{◌≡◌, ℕ, ◌+◌, ◌<◌, ◌↔◌, ◌⊎◌, inl, inr, refl, sym, ap, subst, ◌∙◌, List, [], ◌∷◌, ◌++◌, length, get_or, map, take}
 use Rattle.std.specs.Prelude.{Contains}
-use Rattle.std.proofs.lemmas.List.{map_more, map-append, get_or_default}
+use Rattle.std.proofs.lemmas.List.{map_more, map-append}
 use Rattle.std.proofs.lemmas.List.Elements.{Contains-append_left, Contains-push, Contains-push_cases}
 use Rattle.fractions.specs.declared.part.Part.{Part}
 use Rattle.symmetry.specs.Vectors.{Vector, unit_matrix}
@@ -10,20 +10,18 @@ use Rattle.symmetry.specs.Groups.{Listing, Generates}
 use Rattle.symmetry.proofs.MotionLaws.{motion_path}
 use Rattle.motions.specs.declared.motion.Motion3.{Motion3}
 use Rattle.motions.specs.Views.{parts, motion_of}
+use Rattle.closure.specs.ListLaws.{nothing_contained}
 use Rattle.closure.specs.Fineness.{centrings_alone}
 
 -- the vectors are the centring vectors and those of the listed translations
 pub record CollectsTranslations (centrings : List Vector) (ops : List Motion) (vectors : List Vector) : Type 0 where
   pub same : (v : Vector) → Contains vectors v ↔ (Contains centrings v ⊎ Contains ops (translation v))
 
-nothing_listed : {X : Type 0} (x : X) → ¬ Contains [] x
-nothing_listed x (k, within, is) = absurd (omega arith)
-
 pub collects_none : (centrings vectors : List Vector) → vectors ≡ centrings → CollectsTranslations centrings [] vectors
 collects_none centrings vectors e = record {
   same = λ v. (
     λ is. inl (subst (λ vs. Contains vs v) e is),
-    λ is. elim is [ inl old ↦ subst (λ vs. Contains vs v) (sym e) old | inr none ↦ absurd (nothing_listed (translation v) none) ],
+    λ is. elim is [ inl old ↦ subst (λ vs. Contains vs v) (sym e) old | inr none ↦ absurd (nothing_contained (translation v) none) ],
   );
 }
 
@@ -70,7 +68,7 @@ collects_generators g vectors h v = (to, from)
     to : Generates (centrings_alone vectors) v → Generates g v
     to (inl edge) = inl edge
     to (inr (inl is)) = inr ((h.same v).0 is)
-    to (inr (inr none)) = absurd (nothing_listed (translation v) none)
+    to (inr (inr none)) = absurd (nothing_contained (translation v) none)
 
     from : Generates g v → Generates (centrings_alone vectors) v
     from (inl edge) = inl edge

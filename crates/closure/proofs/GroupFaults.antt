@@ -1,14 +1,14 @@
 -- What is wrong with a list of operations modulo a Lattice is wrong with it modulo L.
-use Rattle.std.proofs.Common.{◌≡◌, ℕ, ◌-◌, ◌<◌, ◌≤◌, ◌↔◌, arith, refl, sym, ap, subst, ◌∙◌, List}
+use Rattle.std.proofs.Common.{◌≡◌, ℕ, ◌-◌, ◌↔◌, arith, refl, sym, ap, subst, ◌∙◌, List}
 use Rattle.std.specs.Prelude.{Contains}
 use Rattle.std.proofs.lemmas.List.Elements.{Contains-get_or}
 use Rattle.quotient.specs.declared.check.GroupFault.{GroupFault}
 use Rattle.quotient.specs.declared.check.GroupFault.TheVariants.{NoIdentity, ShiftMoved, NotClosed, NoInverse}
-use Rattle.quotient.specs.Kind.{IsEquivalence, IsSame, Keeps}
+use Rattle.quotient.specs.Kind.{IsEquivalence}
 use Rattle.quotient.specs.Lists.{AreFirst, IsListed}
-use Rattle.quotient.specs.Groups.{AllKeep, IsFault, IsFirstWithout, IsPosition, motion_at, HasInverse as HasInverseModulo, IsClosed as IsClosedModulo, IsFirstOpen as IsFirstOpenModulo}
+use Rattle.quotient.specs.Groups.{AllKeep, IsFault, IsPosition, motion_at, HasInverse as HasInverseModulo, IsClosed as IsClosedModulo, IsFirstOpen as IsFirstOpenModulo}
 use Rattle.quotient.proofs.Firsts.{Contains-from_firsts, firsts_cover}
-use Rattle.symmetry.specs.Vectors.{Vector, origin, image, minus, opposite, plus, product, unit_matrix}
+use Rattle.symmetry.specs.Vectors.{Vector, origin, image, minus, opposite, plus}
 use Rattle.symmetry.proofs.VectorLaws.{opposite-origin, opposite-plus, plus-origin}
 use Rattle.symmetry.specs.Motions.{Motion, followed_by, identity}
 use Rattle.symmetry.specs.Groups.{Listing, IsInLattice, SameModulo, IsMember}
@@ -17,7 +17,7 @@ use Rattle.symmetry.proofs.MotionLaws.{inverse_by, followed_by-inverse_by, inver
 use Rattle.closure.specs.declared.lattice.Lattice.{Lattice}
 use Rattle.closure.specs.Lattices.{IsLatticeOf}
 use Rattle.closure.specs.ShiftLaws.{modulo}
-use Rattle.closure.specs.GroupErrors.{space_modulo, KeepsLattice, HasInverse, IsFirstOpen, AllKeepLattice, IsClosed, IsFaultAt}
+use Rattle.closure.specs.GroupErrors.{KeepsLattice, HasInverse, IsFirstOpen, AllKeepLattice, IsClosed, IsFaultAt}
 use Rattle.closure.proofs.Members.{same_modulo, member_is, keeps_lattice}
 use Rattle.closure.proofs.Firsts.{kept_listing, kept_lattice, kept_member}
 

@@ -1,9 +1,8 @@
 -- From what the code of `Group::make` is told to what it says of the listed operations.
-use Rattle.std.proofs.Common.{◌≡◌, ℕ, ◌<◌, ◌≤◌, ◌^◌, ◌↔◌, IsTrue, arith, refl, sym, ap, subst, ◌∙◌, List, [], ◌∷◌, ◌++◌, length, get_or, map, lit≤}
-use Rattle.std.specs.Prelude.{All, AllPairs, Contains, IsOk, Result, Ok, Err}
+use Rattle.std.proofs.Common.{◌≡◌, ℕ, ◌≤◌, ◌^◌, ◌↔◌, arith, refl, sym, subst, List, [], ◌∷◌, length, get_or, map, lit≤}
+use Rattle.std.specs.Prelude.{All, Contains}
 use Rattle.std.proofs.lemmas.List.{length-append}
 use Rattle.std.proofs.lemmas.List.Elements.{All-map, All-weaker, All-contains, All-contains_itself}
-use Rattle.integers.proofs.Ring.{IsWithin-more}
 use Rattle.quotient.specs.declared.check.GroupFault.{GroupFault}
 use Rattle.quotient.specs.Kind.{IsSame}
 use Rattle.quotient.specs.Lists.{AreFirst}
@@ -24,7 +23,6 @@ use Rattle.symmetry.proofs.LatticeLaws.{same_sym}
 use Rattle.closure.specs.declared.lattice.Lattice.{Lattice}
 use Rattle.closure.specs.declared.lattice_fault.LatticeFault.{LatticeFault}
 use Rattle.closure.specs.declared.lattice_fault.LatticeFault.TheVariants.{TooFine, NoMemory}
-use Rattle.closure.specs.declared.group_error.GroupError.{GroupError}
 use Rattle.closure.specs.declared.group_error.GroupError.TheVariants.{Fault, NoMemory as OutOfMemory}
 use Rattle.closure.specs.declared.limits.TheConstants.{MAX_OPERATIONS}
 use Rattle.closure.specs.Faults.{IsLatticeFault}
@@ -32,7 +30,6 @@ use Rattle.closure.specs.Fineness.{centrings_alone, IsTooFine}
 use Rattle.closure.specs.FromLattice.{error_of}
 use Rattle.closure.specs.GroupErrors.{IsGroupError, IsWithinLimits}
 use Rattle.closure.specs.Lattices.{IsLatticeOf, residues_of}
-use Rattle.closure.specs.Residues.{has_residue}
 use Rattle.closure.specs.ResidueLaws.{has_residue-is}
 use Rattle.closure.specs.Operations.{listing_with, AreApart, HoldsTranslations}
 use Rattle.closure.specs.ShiftLaws.{modulo}
@@ -127,6 +124,12 @@ module _ (g : Listing) (lattice : Lattice) (h : IsLatticeOf g lattice) (ops : Li
     pub refused_fault : IsWithinLimits g → (fault : GroupFault) → IsFault (modulo lattice) (map motion_of now) fault → IsGroupError g (Fault fault)
     refused_fault limits fault is =
         (limits, (map motion_of ops, f, fault_is g lattice h (map motion_of ops) f fault (subst (λ ms. IsFault (modulo lattice) (map motion_of ms) fault) read is)))
+
+  pub kept_vectors : (v : Vector) → IsInLattice g v ↔ IsInLattice (listing_with ops lattice) v
+  kept_vectors v = (
+    λ is. (kept_lattice g lattice h (map motion_of ops) f v).0 ((h v).1 is),
+    λ is. (h v).0 ((kept_lattice g lattice h (map motion_of ops) f v).1 is),
+  )
 
   pub kept_members : (m : Motion) → IsMember g m ↔ IsMember (listing_with ops lattice) m
   kept_members = kept_member g lattice h (map motion_of ops) f

@@ -1,5 +1,5 @@
 -- What the loops keep: a coset that is appended residue by residue, and cosets that are appended one by one.
-use Rattle.std.proofs.Common.{◌≡◌, ℕ, true, false, ◌+◌, ◌-◌, ◌<◌, ◌≤◌, arith, refl, sym, ap, subst, ◌∙◌, List, [], ◌∷◌, ◌++◌, length, get_or, map, take}
+use Rattle.std.proofs.Common.{◌≡◌, ℕ, true, false, ◌+◌, ◌<◌, ◌≤◌, arith, refl, sym, ap, subst, ◌∙◌, List, [], ◌∷◌, ◌++◌, length, get_or, map, take}
 use Rattle.std.proofs.lemmas.List.{get_or-map, get_or_append_left, length-map, length-append, length-take-le, map_more, append_assoc, map-append}
 use Rattle.fractions.specs.declared.part.Part.{Part}
 use Rattle.symmetry.specs.Vectors.{Vector, plus}

@@ -1,5 +1,5 @@
 -- A turn of the loop that looks for the first translation.
-use Rattle.std.proofs.Common.{◌≡◌, ℕ, Bool, true, false, cond, ◌+◌, ◌<◌, sym, ap, ◌∙◌, List, [], ◌∷◌, ◌++◌, length, get_or, map, take}
+use Rattle.std.proofs.Common.{◌≡◌, ℕ, true, false, cond, ◌+◌, ◌<◌, sym, ap, ◌∙◌, List, [], ◌∷◌, length, get_or, map, take}
 use Rattle.std.specs.List.{best_of}
 use Rattle.std.proofs.lemmas.List.{map_more, map-append}
 use Rattle.std.proofs.lemmas.List.Sums.{fold-append}

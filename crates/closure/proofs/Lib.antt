@@ -15,3 +15,4 @@ pub mod GroupFaults
 pub mod Untruncated
 pub mod OwnLattice
 pub mod GroupMade
+pub mod OneError

@@ -1,25 +1,25 @@
 -- The lattice that vectors make, residues in another order, and lattices with too many of them.
-use Rattle.std.proofs.Common.{◌≡◌, ℕ, zero, suc, true, ◌+◌, ◌<◌, ◌≤◌, ◌↔◌, IsTrue, inl, inr, arith, refl, sym, ap, subst, ◌∙◌, lit<, List, [], ◌∷◌, ◌++◌, length, get_or, map, take, drop, ℤ, pos}
-use Rattle.std.specs.Prelude.{All, AllPairs, Contains, unsigned_abs}
-use Rattle.std.proofs.lemmas.List.{get_or-map, get_or_default, length-map, map_more, map-append, take-append-drop}
+use Rattle.std.proofs.Common.{◌≡◌, ℕ, zero, suc, ◌+◌, ◌<◌, inl, inr, arith, refl, sym, ap, subst, ◌∙◌, List, [], ◌∷◌, ◌++◌, length, get_or, map, take, drop, pos}
+use Rattle.std.specs.Prelude.{All, Contains, unsigned_abs}
+use Rattle.std.proofs.lemmas.List.{map_more, map-append, take-append-drop}
 use Rattle.std.proofs.lemmas.List.Elements.{All-weaker, All-cons, All-nil, Contains-append_left}
 use Rattle.std.proofs.lemmas.Int.{ints}
 use Rattle.fractions.specs.declared.part.Part.{Part}
 use Rattle.fractions.specs.declared.part.TheConstants.{UNIT}
 use Rattle.symmetry.proofs.VectorLaws.{plus-origin}
 use Rattle.motions.specs.Views.{parts}
-use Rattle.symmetry.specs.Vectors.{Vector, origin, plus, minus, opposite, multiple}
+use Rattle.symmetry.specs.Vectors.{Vector, origin, minus, multiple}
 use Rattle.symmetry.specs.Groups.{Listing, Generates, IsInLattice, zero_vector, added, subtracted, edges}
-use Rattle.symmetry.proofs.LatticeLaws.{lattice-plus, lattice-opposite, lattice-minus, lattice-made}
-use Rattle.closure.specs.declared.limits.TheConstants.{MAX_RESIDUES}
-use Rattle.closure.specs.Residues.{IsWhole, residue, has_residue, IsResidueGroup, IsResidue, IsResidueEntry}
+use Rattle.symmetry.proofs.LatticeLaws.{lattice-made}
+use Rattle.closure.specs.Residues.{IsWhole, residue, IsResidue, IsResidueEntry}
 use Rattle.closure.specs.declared.lattice_fault.LatticeFault.{LatticeFault}
 use Rattle.closure.specs.declared.lattice_fault.LatticeFault.TheVariants.{TooFine, NoMemory}
 use Rattle.closure.specs.Faults.{IsLatticeFault}
 use Rattle.closure.specs.Remainders.{Divides-zero, Divides-self}
 use Rattle.closure.specs.Fineness.{centrings_alone, IsTooFine}
 use Rattle.closure.specs.Spans.{AreResiduesOf, with_centring}
-use Rattle.closure.specs.ResidueLaws.{whole-origin, whole-plus, whole-minus, whole_from_residues, residue-same, residue-residue}
+use Rattle.closure.specs.ListLaws.{nothing_contained}
+use Rattle.closure.specs.ResidueLaws.{whole-origin, whole-plus, whole-minus, whole_from_residues, residue-same}
 use Rattle.closure.proofs.Spans.{lattice-whole, lattice-more}
 
 -- ---- no vectors: the cell edges alone
@@ -37,9 +37,6 @@ edge-whole v (zero, within, is) = subst IsWhole is (record { x = Divides-self (u
 edge-whole v (suc zero, within, is) = subst IsWhole is (record { x = Divides-zero (unsigned_abs UNIT); y = Divides-self (unsigned_abs UNIT); z = Divides-zero (unsigned_abs UNIT) })
 edge-whole v (suc (suc zero), within, is) = subst IsWhole is (record { x = Divides-zero (unsigned_abs UNIT); y = Divides-zero (unsigned_abs UNIT); z = Divides-self (unsigned_abs UNIT) })
 edge-whole v (suc (suc (suc k)), within, is) = absurd (omega arith)
-
-nothing_contained : {X : Type 0} (x : X) → ¬ Contains [] x
-nothing_contained x (k, within, is) = absurd (omega arith)
 
 made_whole : (v : Vector) → Generates (centrings_alone []) v → IsWhole v
 made_whole v (inl edge) = edge-whole v edge

@@ -1,20 +1,17 @@
 -- A Lattice as the lattice of what is listed: sameness, members and groups modulo the one are those modulo the other.
-use Rattle.std.proofs.Common.{◌≡◌, ◌↔◌, refl, sym, ap, subst, ◌∙◌, List}
-use Rattle.std.specs.Prelude.{Contains}
-use Rattle.std.proofs.lemmas.List.Elements.{All-contains}
+use Rattle.std.proofs.Common.{◌↔◌}
 use Rattle.quotient.specs.Kind.{IsSame, Keeps}
 use Rattle.quotient.specs.Lists.{IsListed}
-use Rattle.quotient.specs.Groups.{AreInverse, IsGroup as IsGroupModulo, HasInverse as HasInverseModulo}
-use Rattle.symmetry.specs.Vectors.{Vector, image, minus, product, unit_matrix}
-use Rattle.symmetry.specs.Motions.{Motion, followed_by, identity, translation}
-use Rattle.symmetry.specs.Groups.{Listing, Generates, IsInLattice, SameModulo, IsMember, IsGroup, IsListedGroup}
+use Rattle.quotient.specs.Groups.{IsGroup as IsGroupModulo}
+use Rattle.symmetry.specs.Vectors.{image, minus}
+use Rattle.symmetry.specs.Motions.{Motion, followed_by, identity}
+use Rattle.symmetry.specs.Groups.{Listing, SameModulo, IsMember, IsGroup, IsListedGroup}
 use Rattle.symmetry.proofs.LatticeLaws.{lattice-made, lattice-image, same_sym}
 use Rattle.symmetry.proofs.GroupLaws.{group_by_listed}
 use Rattle.closure.specs.declared.lattice.Lattice.{Lattice}
-use Rattle.closure.specs.Residues.{residue}
-use Rattle.closure.specs.Lattices.{InLattice, IsLatticeOf}
+use Rattle.closure.specs.Lattices.{IsLatticeOf}
 use Rattle.closure.specs.GroupErrors.{KeepsLattice}
-use Rattle.closure.specs.ShiftLaws.{modulo, same_is, keeps_is, keeps_vectors}
+use Rattle.closure.specs.ShiftLaws.{modulo, same_is, keeps_vectors}
 
 module _ (g : Listing) (lattice : Lattice) (h : IsLatticeOf g lattice) where
   pub same_modulo : (m n : Motion) → IsSame (modulo lattice) m n ↔ SameModulo g m n

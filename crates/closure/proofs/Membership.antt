@@ -1,20 +1,13 @@
 -- The tests of the code: arrays of parts as vectors, and residues that are listed.
-use Rattle.std.proofs.Common.{◌≡◌, ℕ, zero, suc, ◌+◌, ◌<◌, ◌↔◌, Bool, true, false, ◌&&◌, ◌||◌, IsTrue, arith, refl, sym, ap, subst, ◌∙◌, List, [], ◌∷◌, ◌++◌, length, get_or, map, take, All}
-use Rattle.std.specs.Prelude.{Contains}
+use Rattle.std.proofs.Common.{◌≡◌, ℕ, suc, ◌<◌, Bool, true, false, ◌&&◌, ◌||◌, arith, refl, ap, ◌∙◌, List, [], ◌∷◌, length, get_or, map}
 use Rattle.std.specs.List.{list_any}
 use Rattle.std.specs.Ordering.{int_eq}
-use Rattle.std.proofs.lemmas.List.{get_or-map, get_or_append_left, length-map, map_more, append_assoc, map-append}
-use Rattle.std.proofs.lemmas.List.Folds.{list_any_at}
-use Rattle.std.proofs.lemmas.List.Elements.{All-head, All-tail}
-use Rattle.std.proofs.lemmas.Map.Views.{Contains-from_any}
 use lib.Pointwise.{pointwise}
 use Rattle.fractions.specs.declared.part.Part.{Part}
-use Rattle.symmetry.specs.Vectors.{Vector, plus}
+use Rattle.symmetry.specs.Vectors.{Vector}
 use Rattle.symmetry.specs.Frames.{same_vector}
 use Rattle.motions.specs.Views.{parts, part_at}
-use Rattle.motions.specs.MotionLaws.{same_vector-is}
-use Rattle.closure.specs.Residues.{residue, has_residue, IsResidue}
-use Rattle.closure.specs.Spans.{coset}
+use Rattle.closure.specs.Residues.{residue, has_residue}
 
 -- ---- arrays of three parts
 

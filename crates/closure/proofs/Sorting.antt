@@ -1,25 +1,19 @@
 -- The lexicographic order of vectors, and residues in another order.
-use Rattle.std.proofs.Common.{◌≡◌, ℕ, zero, suc, Bool, true, false, ◌+◌, ◌<◌, ◌≤◌, ◌↔◌, IsTrue, arith, refl, sym, ap, subst, ◌∙◌, List, [], ◌∷◌, length, get_or, map, ℤ, pos}
-use Rattle.std.specs.Prelude.{All, AllPairs, Contains, Some}
-use Rattle.std.specs.List.{IsDistinct, AllByRecursion}
+use Rattle.std.proofs.Common.{◌≡◌, ℕ, Bool, true, false, ◌+◌, ◌<◌, IsTrue, arith, refl, sym, ap, subst, ◌∙◌, List, length, get_or, map}
+use Rattle.std.specs.Prelude.{All, AllPairs, Some}
 use Rattle.std.specs.List.Sorted.{IsPermutation, IsSorted, IsSortedBy}
-use Rattle.std.specs.Cmp.{IsTotalOrder}
 use Rattle.std.specs.Cmp.Lexicographic.{slice_cmp, slice_partial_cmp, lists_agrees}
 use Rattle.std.specs.declared.cmp.Ordering.{Ordering}
 use Rattle.std.specs.declared.cmp.Ordering.TheVariants.{Less, Equal, Greater}
 use Rattle.std.specs.Ordering.{int_cmp, is_lt, is_some_and, ordering_then}
-use Rattle.std.proofs.lemmas.Int.{ints}
-use Rattle.std.proofs.lemmas.Cmp.{int_cmp_total, int_ranked, on_total, then_total}
-use Rattle.std.proofs.lemmas.List.{get_or-map, get_or_default, length-map}
-use Rattle.std.proofs.lemmas.List.Elements.{recursion_from_All, All-from_recursion}
-use Rattle.std.proofs.lemmas.List.Kept.{AllPairs-cons}
-use Rattle.std.proofs.lemmas.List.Sorted.{sorted_far, ranks_by, All-permutation, Contains-permutation, IsPermutation-sym, IsPermutation-map}
+use Rattle.std.proofs.lemmas.Bool.{true≢false}
+use Rattle.std.proofs.lemmas.List.{get_or-map, length-map}
+use Rattle.std.proofs.lemmas.List.Sorted.{sorted_far, ranks_by, All-permutation, Contains-permutation, IsPermutation-sym}
 use Rattle.std.proofs.lemmas.Map.Keys.{IsDistinct-IsPermutation}
 use Rattle.fractions.specs.declared.part.Part.{Part}
 use Rattle.symmetry.specs.Vectors.{Vector, origin, plus, opposite}
 use Rattle.symmetry.specs.Groups.{Listing, IsInLattice, zero_vector}
 use Rattle.symmetry.specs.Frames.{same_vector}
-use Rattle.symmetry.proofs.VectorLaws.{vector_path}
 use Rattle.symmetry.proofs.LatticeLaws.{lattice-plus, lattice-opposite}
 use Rattle.motions.specs.Views.{parts}
 use Rattle.motions.specs.MotionLaws.{same_vector-is}
@@ -33,10 +27,7 @@ use Rattle.closure.specs.ListLaws.{AllPairs-map, distinct_from_apart, apart_from
 -- ---- residues in another order
 
 apart_from_test : (v w : Vector) → same_vector v w ≡ false → ¬ (v ≡ w)
-apart_from_test v w f e = not_both (sym ((same_vector-is v w).1 e) ∙ f)
-  where
-    not_both : true ≡ false → ⊥
-    not_both h = cc
+apart_from_test v w f e = true≢false (sym ((same_vector-is v w).1 e) ∙ f)
 
 test_from_apart : (v w : Vector) → ¬ (v ≡ w) → same_vector v w ≡ false
 test_from_apart v w n = go (same_vector v w) refl

@@ -1,13 +1,14 @@
 -- A group that is known to be one has its members' products and inverses among its listed operations: they are searched.
-use Rattle.std.proofs.Common.{◌≡◌, ℕ, ◌<◌, ◌↔◌, Bool, true, false, ◌&&◌, IsTrue, refl, sym, ap, subst, ◌∙◌, List}
-use Rattle.std.specs.Prelude.{Any, Contains}
+use Rattle.std.proofs.Common.{◌≡◌, ◌↔◌, Bool, true, ◌&&◌, IsTrue, List}
+use Rattle.std.specs.Prelude.{Contains}
 use Rattle.std.specs.List.{list_any}
 use Rattle.std.proofs.Math.Bool.{Bool-set}
 use Rattle.std.proofs.Math.Logic.{∥∥₁_elim, ∥∥₁_map}
+use Rattle.std.proofs.lemmas.Bool.Decides.{Decides-and}
 use Rattle.std.proofs.lemmas.List.Folds.{Any-from_list_any, list_any-from_Any}
 use Rattle.symmetry.specs.Vectors.{Vector, image, minus}
 use Rattle.symmetry.specs.Motions.{Motion, followed_by, identity}
-use Rattle.symmetry.specs.Groups.{Listing, IsInLattice, Generates, SameModulo, IsGroup, IsListedGroup}
+use Rattle.symmetry.specs.Groups.{Listing, IsInLattice, SameModulo, IsGroup, IsListedGroup}
 use Rattle.symmetry.proofs.GroupLaws.{group_by_listed}
 use Rattle.motions.specs.Equality.{same_matrix}
 use Rattle.motions.specs.MotionLaws.{same_matrix-is}
@@ -36,33 +37,16 @@ module _ (g : Listing) (lattice : Lattice) (h : IsLatticeOf g lattice) where
   same_test : Motion → Motion → Bool
   same_test m n = same_matrix m.matrix n.matrix && in_test (minus m.shift n.shift)
 
-  both : (a b : Bool) → IsTrue (a && b) → IsTrue a × IsTrue b
-  both true b t = (refl, t)
-  both false b t = cc
-
-  all_true : (a b : Bool) → IsTrue a → IsTrue b → IsTrue (a && b)
-  all_true true b s t = t
-  all_true false b s t = cc
-
   same_test-is : (m n : Motion) → IsTrue (same_test m n) ↔ SameModulo g m n
   unfolding same_test
-  same_test-is m n = (
-    λ t.
-        let p = both (same_matrix m.matrix n.matrix) (in_test (minus m.shift n.shift)) t in
-        record { matrix = (same_matrix-is m.matrix n.matrix).0 p.0; shift = (in_test-is (minus m.shift n.shift)).0 p.1 },
-    λ s. all_true (same_matrix m.matrix n.matrix) (in_test (minus m.shift n.shift)) ((same_matrix-is m.matrix n.matrix).1 s.matrix)
-        ((in_test-is (minus m.shift n.shift)).1 s.shift),
-  )
+  same_test-is m n =
+      let d = Decides-and (same_matrix m.matrix n.matrix) (in_test (minus m.shift n.shift)) (same_matrix-is m.matrix n.matrix) (in_test-is (minus m.shift n.shift)) in
+      (λ t. let p = d.0 t in record { matrix = p.0; shift = p.1 }, λ s. d.1 (s.matrix, s.shift))
 
   inverse_test-is : (m n : Motion) → IsTrue (same_test (followed_by m n) identity && same_test (followed_by n m) identity)
       ↔ (SameModulo g (followed_by m n) identity × SameModulo g (followed_by n m) identity)
-  inverse_test-is m n = (
-    λ t.
-        let p = both (same_test (followed_by m n) identity) (same_test (followed_by n m) identity) t in
-        ((same_test-is (followed_by m n) identity).0 p.0, (same_test-is (followed_by n m) identity).0 p.1),
-    λ (a, b). all_true (same_test (followed_by m n) identity) (same_test (followed_by n m) identity) ((same_test-is (followed_by m n) identity).1 a)
-        ((same_test-is (followed_by n m) identity).1 b),
-  )
+  inverse_test-is m n =
+      Decides-and (same_test (followed_by m n) identity) (same_test (followed_by n m) identity) (same_test-is (followed_by m n) identity) (same_test-is (followed_by n m) identity)
 
   listed_group : ∥ IsListedGroup g ∥₁ → IsListedGroup g
   listed_group known = record {

@@ -1,9 +1,10 @@
 -- The first of the vectors that differ by a group of residues. Proofs: they stand here since an `impl` cites them.
-use Rattle.std.proofs.Common.{◌≡◌, ℕ, zero, suc, Bool, true, false, ◌+◌, ◌<◌, IsTrue, arith, refl, sym, ap, subst, ◌∙◌, List, [], ◌∷◌, length, get_or}
+use Rattle.std.proofs.Common.{◌≡◌, ℕ, zero, suc, false, ◌<◌, IsTrue, arith, refl, sym, ap, subst, ◌∙◌, List, ◌∷◌, length, get_or}
 use Rattle.std.specs.Prelude.{Contains, All}
-use Rattle.std.specs.List.{best_of, IsFirstBest}
+use Rattle.std.specs.List.{IsFirstBest}
 use Rattle.std.specs.declared.cmp.Ordering.TheVariants.{Less, Equal, Greater}
 use Rattle.std.specs.declared.cmp.Ordering.{Ordering}
+use Rattle.std.proofs.lemmas.Bool.{true≢false}
 use Rattle.std.proofs.lemmas.List.{get_or_default}
 use Rattle.std.specs.Ordering.{is_lt, ordering_reverse}
 use Rattle.std.proofs.lemmas.List.Elements.{Contains-get_or, All-contains}
@@ -14,7 +15,7 @@ use Rattle.symmetry.specs.Vectors.{Vector, origin, plus, minus, multiple, opposi
 use Rattle.symmetry.proofs.VectorLaws.{vector_path, minus-plus, minus-same, opposite-minus, minus-plus-minus}
 use Rattle.closure.specs.ListLaws.{Contains-map, Contains-from_map}
 use Rattle.closure.specs.Residues.{residue, has_residue, vector_cmp, is_before, IsResidueGroup}
-use Rattle.closure.specs.ResidueLaws.{residue-same, residue-residue, residue-plus, has_residue-is}
+use Rattle.closure.specs.ResidueLaws.{residue-residue, residue-plus, has_residue-is}
 use Rattle.closure.specs.VectorOrder.{vector_cmp_total, vector_cmp_equal}
 use Rattle.closure.specs.Spans.{coset}
 use Rattle.closure.specs.Lattices.{first_with}
@@ -101,9 +102,6 @@ module _ (rs : List Vector) (group : IsResidueGroup rs) (reduced : All (λ r. re
   pub first-same : (v w : Vector) → In (minus v w) → first_with v rs ≡ first_with w rs
   first-same v w p = neither (vector_cmp (first_with v rs) (first_with w rs)) refl
     where
-      clash : true ≡ false → ⊥
-      clash h = cc
-
       from_w : is_before (first_with v rs) (first_with w rs) ≡ false
       from_w = first-first w (first_with v rs) (subst In (between (first_with v rs) w v) (in_plus (minus (first_with v rs) v) (minus v w) (first-in v) p)) (first-reduced v)
 
@@ -111,6 +109,6 @@ module _ (rs : List Vector) (group : IsResidueGroup rs) (reduced : All (λ r. re
       from_v = first-first v (first_with w rs) (subst In (between (first_with w rs) v w) (in_plus (minus (first_with w rs) w) (minus w v) (first-in w) (in_flip v w p))) (first-reduced w)
 
       neither : (o : Ordering) → vector_cmp (first_with v rs) (first_with w rs) ≡ o → first_with v rs ≡ first_with w rs
-      neither Less e = absurd (clash (ap is_lt (sym e) ∙ from_w))
+      neither Less e = absurd (true≢false (ap is_lt (sym e) ∙ from_w))
       neither Equal e = vector_cmp_equal (first_with v rs) (first_with w rs) e
-      neither Greater e = absurd (clash (ap is_lt (sym (vector_cmp_total.antisymm (first_with w rs) (first_with v rs) ∙ ap ordering_reverse e)) ∙ from_v))
+      neither Greater e = absurd (true≢false (ap is_lt (sym (vector_cmp_total.antisymm (first_with w rs) (first_with v rs) ∙ ap ordering_reverse e)) ∙ from_v))

@@ -7,7 +7,7 @@ use Rattle.quotient.specs.Groups.{IsPosition, IsFirstWithout, motion_at, ComesBe
 use Rattle.quotient.specs.Lists.{AreFirst}
 use Rattle.symmetry.specs.Vectors.{Vector, image, unit_matrix}
 use Rattle.symmetry.specs.Motions.{Motion, followed_by, identity}
-use Rattle.symmetry.specs.Groups.{Listing, IsInLattice, IsMember, IsGroup, SameModulo}
+use Rattle.symmetry.specs.Groups.{Listing, IsInLattice, IsMember, SameModulo}
 use Rattle.closure.specs.declared.limits.TheConstants.{MAX_OPERATIONS}
 use Rattle.closure.specs.declared.group_error.GroupError.{GroupError}
 use Rattle.closure.specs.declared.group_error.GroupError.TheVariants.{TooMany, TooFine, Fault, NoMemory}
@@ -41,10 +41,11 @@ pub record IsFirstOpen (g : Listing) (ops : List Motion) (i j : ℕ) : Type 0 wh
   pub lacks : ¬ HasProduct g ops i j
   pub before : (k l : ℕ) → IsPosition (space_modulo g) ops k → IsPosition (space_modulo g) ops l → ComesBefore k l i j → HasProduct g ops k l
 
--- each listed operation keeps the lattice; each product of two is a member of G
+-- each listed operation takes the lattice into itself
 abbrev pub AllKeepLattice : Listing → Type 0
 AllKeepLattice g = (m : Motion) → Contains g.ops m → KeepsLattice g m
 
+-- each product of two listed operations is a member of G
 abbrev pub IsClosed : Listing → Type 0
 IsClosed g = (m n : Motion) → Contains g.ops m → Contains g.ops n → IsMember g (followed_by m n)
 

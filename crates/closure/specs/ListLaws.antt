@@ -1,10 +1,10 @@
 -- Lists: pairs of places, and what a map contains. Proofs: they stand here since an `impl` cites them.
-use Rattle.std.proofs.Common.{◌≡◌, ℕ, zero, suc, Bool, true, false, ◌+◌, ◌-◌, ◌<◌, ◌≤◌, inl, inr, arith, refl, sym, ap, subst, ◌∙◌, List, [], ◌∷◌, ◌++◌, length, get_or, map, take, ⊎_elim}
-use Rattle.std.specs.Prelude.{All, AllPairs, Contains}
+use Rattle.std.proofs.Common.{◌≡◌, ℕ, zero, suc, Bool, false, ◌-◌, ◌<◌, ◌≤◌, inl, inr, arith, refl, sym, ap, subst, ◌∙◌, List, [], ◌∷◌, ◌++◌, length, get_or, map, take}
+use Rattle.std.specs.Prelude.{AllPairs, Contains}
 use Rattle.std.proofs.lemmas.Bool.{cases_lt}
-use Rattle.std.proofs.lemmas.List.{get_or-map, get_or_default, length-map, length-append, get_or_append_left, get_or-append_right, take-append-drop}
+use Rattle.std.proofs.lemmas.List.{get_or-map, length-map, length-append, get_or_append_left, get_or-append_right, take-append-drop}
 use Rattle.std.specs.List.{IsDistinct}
-use Rattle.std.proofs.lemmas.List.Elements.{Contains-get_or, Contains-append_left, recursion_from_All, All-from_recursion}
+use Rattle.std.proofs.lemmas.List.Elements.{Contains-get_or, recursion_from_All, All-from_recursion}
 use Rattle.std.proofs.lemmas.List.Kept.{AllPairs-cons}
 
 -- ---- pairs of places
@@ -89,3 +89,7 @@ module _ {X : Type 0} (E : X → X → Bool) where
       AllPairs-cons (λ x y. ¬ (x ≡ y)) x xs
       (λ k e l. tells x (get_or xs k e) (All-from_recursion (λ y. E x y ≡ false) xs d.0 k e l))
       (apart_from_distinct tells xs d.1)
+
+-- the empty list contains nothing
+pub nothing_contained : {X : Type 0} (x : X) → ¬ Contains [] x
+nothing_contained x (k, within, is) = absurd (omega arith)

@@ -6,7 +6,7 @@ use Rattle.std.specs.Int.{int_rem_euclid}
 use Rattle.std.proofs.lemmas.Int.{ints}
 use Rattle.integers.specs.Size.{Divides}
 use Rattle.integers.proofs.Ring.{add_mul, mul_assoc}
-use Rattle.integers.proofs.Solver.{Expr.{var, num, neg, ◌⊕◌, ◌⊝◌, ◌⊗◌}, ring, linear, given}
+use Rattle.integers.proofs.Solver.{Expr.{var, num, ◌⊕◌, ◌⊝◌, ◌⊗◌}, linear, given}
 
 -- a number as multiples of d and a rest below d
 pub record Divided (d : ℕ) (z : ℤ) : Type 0 where

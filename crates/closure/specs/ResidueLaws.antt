@@ -1,20 +1,21 @@
 -- Vectors of whole edges, and residues modulo these. Proofs: they stand here since an `impl` cites them.
-use Rattle.std.proofs.Common.{◌≡◌, ℕ, ◌<◌, ◌↔◌, true, false, IsTrue, arith, sym, ap, subst, ◌∙◌, lit<, ℤ, negsuc, ◌+ℤ◌, ◌-ℤ◌, ◌*ℤ◌, List, get_or}
+use Rattle.std.proofs.Common.{◌≡◌, ℕ, ◌<◌, ◌↔◌, false, IsTrue, arith, sym, ap, subst, ◌∙◌, lit<, ℤ, negsuc, ◌+ℤ◌, ◌-ℤ◌, ◌*ℤ◌, List, get_or}
 use Rattle.std.specs.Prelude.{Contains, unsigned_abs}
+use Rattle.std.proofs.lemmas.Bool.{true≢false}
 use Rattle.std.proofs.lemmas.List.Folds.{list_any_at}
 use Rattle.std.proofs.lemmas.Map.Views.{Contains-from_any}
 use Rattle.std.proofs.lemmas.Int.{ints}
 use Rattle.integers.specs.Size.{Divides}
 use Rattle.fractions.specs.declared.part.TheConstants.{UNIT}
 use Rattle.symmetry.specs.Vectors.{Vector, Matrix, origin, plus, minus, multiple, opposite, dot, image}
-use Rattle.symmetry.proofs.VectorLaws.{vector_path, minus-same, minus-plus-minus, minus-exchange, opposite-minus}
+use Rattle.symmetry.proofs.VectorLaws.{vector_path, minus-same, minus-exchange, opposite-minus}
 use Rattle.symmetry.specs.Frames.{same_vector}
 use Rattle.fractions.specs.Parts.{reduced_parts}
 use Rattle.fractions.specs.declared.part.Part.{Part}
 use Rattle.motions.specs.Views.{parts, part_at}
 use Rattle.motions.specs.MotionLaws.{same_vector-is}
 use Rattle.closure.specs.Residues.{IsWhole, residue, has_residue, IsResidue}
-use Rattle.closure.specs.Remainders.{rem-same, same_rem, minus-rem, rem-small, Divides-zero, Divides-self, Divides-add, Divides-multiple}
+use Rattle.closure.specs.Remainders.{rem-same, same_rem, minus-rem, rem-small, Divides-zero, Divides-add, Divides-multiple}
 
 -- the parts of an edge
 abbrev edge : ℕ
@@ -114,10 +115,7 @@ has_residue-is rs v = (
 )
 
 pub has_residue-false : (rs : List Vector) (v : Vector) → has_residue rs v ≡ false → ¬ Contains rs (residue v)
-has_residue-false rs v e is = true_and_false (sym ((has_residue-is rs v).1 is) ∙ e)
-  where
-    true_and_false : true ≡ false → ⊥
-    true_and_false h = cc
+has_residue-false rs v e is = true≢false (sym ((has_residue-is rs v).1 is) ∙ e)
 
 -- an array of reduced entries is its own residue
 pub residue-parts : (r : List Part) → IsResidue r → residue (parts r) ≡ parts r

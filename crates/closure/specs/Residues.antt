@@ -1,5 +1,5 @@
 -- Residues of vectors modulo whole cell edges.
-use Rattle.std.specs.Prelude.{◌≡◌, ℤ, pos, ◌≤ℤ◌, ◌<ℤ◌, Bool, IsTrue, List, length, AllPairs, unsigned_abs}
+use Rattle.std.specs.Prelude.{◌≡◌, pos, ◌≤ℤ◌, ◌<ℤ◌, Bool, IsTrue, List, length, AllPairs, unsigned_abs}
 use Rattle.std.specs.List.{list_any}
 use Rattle.std.specs.declared.cmp.Ordering.{Ordering}
 use Rattle.std.specs.Ordering.{int_cmp, is_lt, ordering_then}

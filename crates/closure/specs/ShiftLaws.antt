@@ -1,21 +1,19 @@
 -- Proofs that a Lattice meets the laws of `Quotient`. They stand here since an `impl` cites them.
-use Rattle.std.proofs.Common.{◌≡◌, ℕ, ◌<◌, ◌↔◌, true, false, IsTrue, arith, refl, sym, ap, subst, ◌∙◌, List, [], ◌∷◌, ℤ, pos, ◌+ℤ◌}
-use Rattle.std.specs.Prelude.{Contains, All, map}
-use Rattle.std.proofs.lemmas.Int.{ints}
+use Rattle.std.proofs.Common.{◌≡◌, ◌↔◌, IsTrue, refl, sym, ap, subst, ◌∙◌, List, [], ◌∷◌, pos}
+use Rattle.std.specs.Prelude.{Contains, All}
 use Rattle.std.proofs.lemmas.List.Elements.{All-map, All-weaker, All-contains, All-contains_itself}
 use Rattle.quotient.specs.Kind.{Kind, kind_of, AreShiftsGroup, IsInverse, IsSame, Keeps}
-use Rattle.fractions.specs.declared.part.Part.{Part}
-use Rattle.symmetry.specs.Vectors.{Vector, Matrix, origin, plus, minus, opposite, image, product, unit_matrix}
+use Rattle.symmetry.specs.Vectors.{Vector, Matrix, origin, plus, minus, opposite, image}
 use Rattle.symmetry.specs.Motions.{Motion, followed_by, identity, translation}
-use Rattle.symmetry.proofs.VectorLaws.{vector_path, plus_comm, minus-plus, minus-same, opposite-plus_same, plus-minus_first, minus-plus-minus}
+use Rattle.symmetry.proofs.VectorLaws.{plus_comm, minus-plus, minus-same, opposite-plus_same, plus-minus_first, minus-plus-minus}
 use Rattle.symmetry.proofs.MatrixLaws.{image-unit, image-minus, product-unit_left, product-unit_right}
 use Rattle.symmetry.proofs.MotionLaws.{motion_path}
 use Rattle.motions.specs.declared.motion.Motion3.{Motion3}
 use Rattle.motions.specs.Views.{parts, motion_of}
 use Rattle.closure.specs.declared.lattice.Lattice.{Lattice}
-use Rattle.closure.specs.Residues.{IsWhole, residue, has_residue, IsResidue}
+use Rattle.closure.specs.Residues.{IsWhole, residue, has_residue}
 use Rattle.closure.specs.ResidueLaws.{has_residue-is, residue-same, residue-parts, whole_from_residues, whole-image, residue-residue}
-use Rattle.closure.specs.FirstLaws.{in_plus, in_minus, in_by_residue, in_flip, first-in, first-reduced, first-first, first-same}
+use Rattle.closure.specs.FirstLaws.{in_plus, in_flip, first-in, first-reduced, first-first, first-same}
 use Rattle.closure.specs.Lattices.{residues_of, InLattice, IsLatticeShift, array_of, first_with, lattice_home, IsHome}
 
 -- the kind of motions modulo the lattice

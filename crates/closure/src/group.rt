@@ -54,6 +54,8 @@ impl Group {
         ensures limits { IfOk result (λ _. IsWithinLimits (listing_of listed)) }
         ensures group { IfOk result (λ _. IsGroup (listing_of listed)) }
         ensures lattice { IfOk result (λ group. IsLatticeOf (listing_of listed) (lattice_of group)) }
+        ensures vectors { IfOk result (λ group. (v : Vector)
+            → IsInLattice (listing_of listed) v ↔ IsInLattice (group_listing group) v) }
         ensures ops { IfOk result (λ group.
             AreFirst (SameModulo (listing_of listed)) (listing_of listed).ops (group_listing group).ops) }
         ensures members { IfOk result (λ group. (m : MotionOfSpace)

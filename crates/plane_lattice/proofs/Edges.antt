@@ -1,17 +1,16 @@
 -- Coordinates in parts, in a basis of a lattice that holds all whole vectors.
-use Rattle.std.proofs.Common.{◌≡◌, ℤ, pos, ◌+ℤ◌, ◌*ℤ◌, ◌≤ℤ◌, refl, sym, ap, subst, ◌∙◌, arith}
+use Rattle.std.proofs.Common.{◌≡◌, ℤ, pos, ◌*ℤ◌, ◌≤ℤ◌, sym, ap, subst, ◌∙◌, arith}
 use Rattle.std.specs.Int.{int_div_euclid, int_rem_euclid}
 use Rattle.std.proofs.lemmas.Int.{ints}
 use Rattle.std.proofs.Math.Logic.{∥∥₁_elim}
 use Rattle.std.proofs.Math.IntN.{ℤ_set}
-use Rattle.integers.proofs.Spread.{spread}
 use Rattle.fractions.specs.declared.part.TheConstants.{UNIT}
-use Rattle.symmetry.specs.Vectors.{Vector, plus, multiple, dot, cross}
+use Rattle.symmetry.specs.Vectors.{Vector, plus, multiple, cross}
 use Rattle.symmetry.specs.Frames.{Basis, combination}
 use Rattle.symmetry.proofs.VectorLaws.{vector_path, dot-multiple}
 use Rattle.symmetry.proofs.FrameLaws.{combination-multiple}
 use Rattle.plane_lattice.specs.Coordinates.{volume, scaled, HoldsEdges, IsCombination}
-use Rattle.plane_lattice.specs.QuotientLaws.{scaled-combination, combination-plus}
+use Rattle.plane_lattice.specs.QuotientLaws.{combination-plus}
 use Rattle.plane_lattice.proofs.Cramer.{whole_x, whole_y, whole_z, combination_of}
 use Rattle.plane_lattice.proofs.Quotients.{rem-multiple, exact_quotient}
 

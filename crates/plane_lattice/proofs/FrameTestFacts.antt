@@ -1,8 +1,7 @@
 -- A frame is told by finitely many vectors.
-use Rattle.std.proofs.Common.{◌≡◌, ℕ, zero, suc, ℤ, pos, negsuc, ◌+ℤ◌, ◌*ℤ◌, ◌<ℤ◌, refl, sym, ap, subst, ◌∙◌, arith}
-use Rattle.std.specs.Prelude.{◌↔◌}
+use Rattle.std.proofs.Common.{◌≡◌, ℕ, zero, suc, ℤ, pos, negsuc, ◌*ℤ◌, ◌<ℤ◌, sym, ap, subst, ◌∙◌, arith}
 use Rattle.std.proofs.lemmas.Int.{ints}
-use Rattle.symmetry.specs.Vectors.{Vector, origin, plus, minus, multiple, opposite, dot, cross}
+use Rattle.symmetry.specs.Vectors.{Vector, origin, plus, minus, multiple, dot, cross}
 use Rattle.symmetry.specs.Groups.{Listing, Generates, IsInLattice, zero_vector, added, subtracted}
 use Rattle.symmetry.specs.Frames.{Basis, combination, IsFrame}
 use Rattle.symmetry.proofs.VectorLaws.{vector_path, multiple-dot}
@@ -10,7 +9,7 @@ use Rattle.symmetry.proofs.LatticeLaws.{lattice-plus, lattice-minus, lattice-mad
 use Rattle.plane_lattice.specs.FrameTests.{PassesFrameTests}
 use Rattle.symmetry.proofs.FrameLaws.{combination-minus}
 use Rattle.plane_lattice.specs.Coordinates.{volume}
-use Rattle.plane_lattice.specs.QuotientLaws.{combination-origin, combination-plus}
+use Rattle.plane_lattice.specs.QuotientLaws.{along_a, along_b, combination-origin, combination-plus}
 use Rattle.plane_lattice.proofs.Cramer.{combination_once}
 
 multiple-zero : (v : Vector) → multiple (pos 0) v ≡ origin
@@ -67,14 +66,6 @@ module _ (g : Listing) (r : Vector) (f : Basis) where
       let (d, e') = made v by in
       (minus c d, combination-minus f c d ∙ (λ i. minus (e i) (e' i)))
 
-  along_a : combination f (record { x = pos 1; y = pos 0; z = pos 0 }) ≡ f.a
-  unfolding plus multiple
-  along_a = vector_path (omega (arith, ints)) (omega (arith, ints)) (omega (arith, ints))
-
-  along_b : combination f (record { x = pos 0; y = pos 1; z = pos 0 }) ≡ f.b
-  unfolding plus multiple
-  along_b = vector_path (omega (arith, ints)) (omega (arith, ints)) (omega (arith, ints))
-
   along_tau : combination f (record { x = pos 0; y = pos 0; z = pos 1 }) ≡ f.tau
   unfolding plus multiple
   along_tau = vector_path (omega (arith, ints)) (omega (arith, ints)) (omega (arith, ints))
@@ -93,8 +84,8 @@ module _ (g : Listing) (r : Vector) (f : Basis) where
 
   pub frame_passes_tests : IsFrame g r f → PassesFrameTests g r f
   frame_passes_tests k = record {
-    a_in = subst (IsInLattice g) along_a (k.inside (record { x = pos 1; y = pos 0; z = pos 0 }));
-    b_in = subst (IsInLattice g) along_b (k.inside (record { x = pos 0; y = pos 1; z = pos 0 }));
+    a_in = subst (IsInLattice g) (along_a f) (k.inside (record { x = pos 1; y = pos 0; z = pos 0 }));
+    b_in = subst (IsInLattice g) (along_b f) (k.inside (record { x = pos 0; y = pos 1; z = pos 0 }));
     tau_in = subst (IsInLattice g) along_tau (k.inside (record { x = pos 0; y = pos 0; z = pos 1 }));
     a_in_plane = k.a_in_plane;
     b_in_plane = k.b_in_plane;

@@ -1,20 +1,18 @@
 -- A basis that spans the cell edges and the residues of a lattice spans the lattice.
-use Rattle.std.proofs.Common.{◌≡◌, ℕ, ◌<◌, ◌^◌, ◌≤ℤ◌, ◌<ℤ◌, ℤ, pos, ◌*ℤ◌, List, [], ◌∷◌, length, map, get_or, inl, inr, refl, sym, ap, subst, ◌∙◌, arith, lit<}
-use Rattle.std.specs.Prelude.{Contains, unsigned_abs}
+use Rattle.std.proofs.Common.{◌≡◌, ℕ, ◌<◌, ℤ, ◌*ℤ◌, List, [], length, map, get_or, inl, inr, refl, sym, subst, ◌∙◌, arith, lit<}
+use Rattle.std.specs.Prelude.{Contains}
 use Rattle.std.specs.List.{All}
 use Rattle.std.proofs.lemmas.Int.{ints}
 use Rattle.std.proofs.lemmas.List.{get_or-map, length-map}
-use Rattle.integers.specs.Size.{IsWithin, Divides}
 use Rattle.fractions.specs.declared.part.Part.{Part}
 use Rattle.fractions.specs.declared.part.TheConstants.{UNIT}
-use Rattle.symmetry.specs.Vectors.{Vector, plus, minus, multiple}
-use Rattle.symmetry.specs.Groups.{Listing, IsInLattice, Generates}
+use Rattle.symmetry.specs.Vectors.{Vector, minus, multiple}
+use Rattle.symmetry.specs.Groups.{Listing, IsInLattice}
 use Rattle.symmetry.specs.Frames.{Basis}
-use Rattle.symmetry.specs.Sizes.{IsVectorWithin}
 use Rattle.symmetry.proofs.LatticeLaws.{lattice-made}
-use Rattle.symmetry.proofs.VectorLaws.{vector_path, minus-plus, plus_comm}
+use Rattle.symmetry.proofs.VectorLaws.{vector_path, minus-plus}
 use Rattle.motions.specs.Views.{parts}
-use Rattle.closure.specs.Residues.{residue, IsWhole, IsResidue}
+use Rattle.closure.specs.Residues.{residue, IsWhole}
 use Rattle.closure.specs.ResidueLaws.{whole-minus_residue}
 use Rattle.plane_lattice.specs.Coordinates.{IsCombination, HoldsEdges}
 use Rattle.plane_lattice.proofs.Edges.{combination-sum, whole_edges}

@@ -1,8 +1,8 @@
 -- Facts of each operation of a list.
-use Rattle.std.proofs.Common.{ℕ, ◌<◌, ◌≡◌, List, [], length, map, get_or, sym, ap, subst, ◌∙◌, arith}
+use Rattle.std.proofs.Common.{ℕ, ◌<◌, List, [], length, map, get_or, sym, subst, ◌∙◌}
 use Rattle.std.specs.Prelude.{Contains}
 use Rattle.std.specs.List.{All}
-use Rattle.std.proofs.lemmas.List.{get_or_default, get_or-map, length-map}
+use Rattle.std.proofs.lemmas.List.{get_or-map, length-map}
 use Rattle.symmetry.specs.Motions.{Motion}
 use Rattle.symmetry.specs.Vectors.{Vector}
 use Rattle.symmetry.specs.Frames.{Basis}

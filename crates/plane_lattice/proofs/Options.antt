@@ -1,5 +1,5 @@
 -- Whether there is an answer.
-use Rattle.std.proofs.Common.{◌≡◌, ◌↔◌, Bool, true, false, IsTrue}
+use Rattle.std.proofs.Common.{◌≡◌, ◌↔◌, Bool, true, IsTrue}
 use Rattle.std.specs.Prelude.{Option, Some, None, MatchOption, is_some}
 
 -- the test tells the fact, where Some comes with it and None without it

@@ -1,5 +1,5 @@
 -- In planes of coprime indices, right-handed vectors are told by the volume.
-use Rattle.std.proofs.Common.{◌≡◌, ◌↔◌, ℤ, pos, negsuc, ◌+ℤ◌, ◌*ℤ◌, ◌≤ℤ◌, ◌<ℤ◌, zero, suc, List, [], ◌∷◌, ap, subst, ◌∙◌, arith}
+use Rattle.std.proofs.Common.{◌≡◌, ◌↔◌, ℤ, pos, negsuc, ◌*ℤ◌, ◌<ℤ◌, zero, suc, List, [], ◌∷◌, ap, subst, ◌∙◌, arith}
 use Rattle.std.proofs.lemmas.Int.{ints}
 use Rattle.integers.proofs.Solver.{Expr, Expr.{var, num, neg, ◌⊗◌}, linear, given}
 use Rattle.symmetry.specs.Vectors.{Vector, multiple, dot, cross}

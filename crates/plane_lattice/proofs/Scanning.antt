@@ -1,13 +1,12 @@
 -- The scanning operations of a list, one operation after the other.
-use Rattle.std.proofs.Common.{◌≡◌, ◌⊎◌, inl, inr, ℕ, suc, ◌+◌, ◌<◌, ◌≤◌, ℤ, pos, negsuc, ◌*ℤ◌, Bool, true, false, ◌||◌, cond, List, [], ◌∷◌, ◌++◌, length, map, take, get_or, refl, sym, ap, subst, ◌∙◌, arith, add-one, ◌*◌, lit≤}
-use Rattle.std.specs.List.{filter}
+use Rattle.std.proofs.Common.{◌≡◌, inl, inr, ℕ, ◌+◌, ◌<◌, pos, negsuc, Bool, true, false, ◌||◌, cond, List, [], ◌∷◌, ◌++◌, length, map, take, get_or, refl, sym, ap, subst, ◌∙◌, arith, add-one, ◌*◌, lit≤}
 use Rattle.std.proofs.Math.Seq.{take-suc}
 use Rattle.std.proofs.lemmas.List.{append-nil, length-append, map-append}
 use Rattle.std.proofs.lemmas.List.Elements.{filter-append}
 use Rattle.integers.specs.Size.{IsWithin}
 use Rattle.integers.proofs.Ring.{IsWithin-add, IsWithin-mul}
 use Rattle.symmetry.specs.Sizes.{IsVectorWithin}
-use Rattle.symmetry.specs.Vectors.{Vector, origin, plus, minus, multiple, opposite, image, row_times}
+use Rattle.symmetry.specs.Vectors.{Vector, plus, minus, multiple, opposite, image, row_times}
 use Rattle.symmetry.specs.Motions.{Motion}
 use Rattle.symmetry.specs.Frames.{same_vector, sign_at, total_up, KeepsOrientation}
 use Rattle.symmetry.proofs.VectorLaws.{plus_assoc, plus-origin, origin-plus, multiple-one}

@@ -6,9 +6,9 @@ use Rattle.std.proofs.lemmas.List.Kept.{AllPairs-filter}
 use Rattle.std.proofs.lemmas.List.{get_or_default}
 use Rattle.symmetry.specs.Vectors.{Vector, row_times}
 use Rattle.symmetry.specs.Motions.{Motion, identity}
-use Rattle.symmetry.specs.Groups.{Listing, IsGroup, IsMember, SameModulo}
+use Rattle.symmetry.specs.Groups.{Listing, IsGroup, SameModulo}
 use Rattle.symmetry.specs.Frames.{KeepsOrientation}
-use Rattle.symmetry.specs.Lists.{motion_at, ExactlyOne, AreScanning}
+use Rattle.symmetry.specs.Lists.{motion_at, AreScanning}
 use Rattle.symmetry.proofs.LatticeLaws.{listed_member, same_sym, same_trans}
 use Rattle.symmetry.proofs.MatrixLaws.{row_times-unit}
 use Rattle.plane_lattice.specs.Scanning.{keeps_orientation, scanning_ops}
@@ -97,5 +97,5 @@ pub some_scanning : (g : Listing) (r : Vector) → IsGroup g → 0 < length (sca
 some_scanning g r group =
     let one = group.has_identity in
     let (j, within, is) = has-filter (keeps_orientation r) g.ops one.of one.listed
-        (keeps_true r one.of (inl (ap (row_times r) (sym one.same.matrix) ∙ row_times-unit r))) in
+    (keeps_true r one.of (inl (ap (row_times r) (sym one.same.matrix) ∙ row_times-unit r))) in
     omega arith

@@ -1,11 +1,11 @@
 -- What 128-bit code computes at numbers of bounded size.
-use Rattle.std.proofs.Common.{◌≡◌, ℕ, ◌+◌, ◌*◌, ◌^◌, ◌<◌, ℤ, ◌+ℤ◌, ◌-ℤ◌, ◌*ℤ◌, ◌<ℤ◌, pos, ◌↔◌, Bool, true, false, IsTrue, FitsSigned, to_z, of_z, ap, refl, sym, subst, ◌∙◌, arith}
+use Rattle.std.proofs.Common.{◌≡◌, ℕ, ◌+◌, ◌^◌, ◌<◌, ℤ, ◌+ℤ◌, ◌<ℤ◌, pos, ◌↔◌, Bool, true, false, IsTrue, FitsSigned, to_z, of_z, ap, refl, sym, subst, ◌∙◌, arith}
 use Rattle.std.specs.Prelude.{int_lt, int_le}
 use Rattle.std.specs.Int.{w128}
 use Rattle.std.proofs.lemmas.Int.{ints, to_z-of_z, fits_signed_from_abs}
 use native.Mathlib.Nat.{lt_of_le_of_lt}
 use Rattle.integers.specs.Size.{IsWithin}
-use Rattle.integers.proofs.Ring.{IsWithin-add, IsWithin-sub, IsWithin-mul}
+use Rattle.integers.proofs.Ring.{IsWithin-add}
 
 -- a number that went to bits, read again
 abbrev pub wide : ℤ → ℤ
@@ -17,16 +17,10 @@ wide_fits n z k h = fits_signed_from_abs w128 z (lt_of_le_of_lt h.most k)
 pub wide_is : (n : ℕ) (z : ℤ) → n < 2 ^ 127 → IsWithin n z → wide z ≡ z
 wide_is n z k h = to_z-of_z w128 z (wide_fits n z k h)
 
--- the number that the code computes for a sum, a difference or a product of two numbers
+-- the sum of two numbers
 module _ (m n : ℕ) (x y : ℤ) (below : m < 2 ^ 127) (below' : n < 2 ^ 127) (h : IsWithin m x) (k : IsWithin n y) where
   pub wide-add : wide x +ℤ wide y ≡ x +ℤ y
   wide-add = λ i. wide_is m x below h i +ℤ wide_is n y below' k i
-
-  pub wide-sub : wide x -ℤ wide y ≡ x -ℤ y
-  wide-sub = λ i. wide_is m x below h i -ℤ wide_is n y below' k i
-
-  pub wide-mul : wide x *ℤ wide y ≡ x *ℤ y
-  wide-mul = λ i. wide_is m x below h i *ℤ wide_is n y below' k i
 
 -- the sum of three numbers
 module _ (n : ℕ) (x y z : ℤ) (below : n + n + n < 2 ^ 127) (h : IsWithin n x) (k : IsWithin n y) (l : IsWithin n z) where

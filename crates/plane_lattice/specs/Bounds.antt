@@ -1,6 +1,7 @@
 -- How large the numbers become that coordinates in a basis are made of.
 use Rattle.std.specs.Prelude.{ℕ, ◌+◌, ◌*◌, ◌^◌, unsigned_abs}
 use Rattle.fractions.specs.declared.part.TheConstants.{UNIT}
+use Rattle.closure.specs.declared.limits.TheConstants.{MAX_OPERATIONS}
 use Rattle.motions.specs.declared.index.TheConstants.{INDEX}
 
 -- an entry of a vector of a basis
@@ -23,9 +24,9 @@ largest_combined = 3 * (largest_scaled * largest_entry)
 abbrev pub largest_turned : ℕ
 largest_turned = 500 * largest_entry + 500 * largest_entry + 500 * largest_entry
 
--- an entry of the sum of a thousand such images
+-- an entry of the sum of such images, one for each operation of a group
 abbrev pub largest_total : ℕ
-largest_total = 1000 * largest_turned
+largest_total = MAX_OPERATIONS * largest_turned
 
 -- (hkl).tau
 abbrev pub largest_period : ℕ

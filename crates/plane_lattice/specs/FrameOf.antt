@@ -1,6 +1,5 @@
 -- What Frame::make gives.
 use Rattle.std.specs.Prelude.{◌≡◌}
-use Rattle.symmetry.specs.Vectors.{dot}
 use Rattle.symmetry.specs.Frames.{IsFrame, IsPeriod, IsSkewed, mean_of}
 use Rattle.symmetry.specs.Lists.{AreScanning}
 use Rattle.motions.specs.BasisView.{basis_of}

@@ -1,8 +1,8 @@
 -- Motions modulo the whole combinations of a and b, and the motion at home.
-use Rattle.std.specs.Prelude.{◌≡◌, ℤ, pos, List, [], ◌∷◌}
+use Rattle.std.specs.Prelude.{◌≡◌, List, [], ◌∷◌}
 use Rattle.fractions.specs.declared.part.Part.{Part}
 use Rattle.motions.specs.declared.motion.Motion3.{Motion3}
-use Rattle.motions.specs.Views.{motion_of, parts}
+use Rattle.motions.specs.Views.{parts}
 use Rattle.symmetry.specs.Vectors.{Vector, minus, unit_matrix}
 use Rattle.symmetry.specs.Motions.{Motion}
 use Rattle.symmetry.specs.Frames.{Basis, combination}

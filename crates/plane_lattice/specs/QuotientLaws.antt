@@ -1,22 +1,22 @@
 -- Proofs that the whole combinations of a and b meet the laws of `Quotient`. They stand here since an `impl` cites them.
-use Rattle.std.proofs.Common.{◌≡◌, ◌↔◌, ℤ, zero, suc, pos, negsuc, ◌+ℤ◌, ◌-ℤ◌, ◌*ℤ◌, ◌≤ℤ◌, ◌<ℤ◌, ◌/◌, neg_ℤ, List, [], ◌∷◌, refl, sym, ap, subst, ◌∙◌, arith}
+use Rattle.std.proofs.Common.{◌≡◌, ◌↔◌, ℤ, zero, suc, pos, negsuc, ◌+ℤ◌, ◌-ℤ◌, ◌*ℤ◌, ◌≤ℤ◌, ◌<ℤ◌, neg_ℤ, [], ◌∷◌, refl, sym, ap, subst, ◌∙◌, arith}
 use Rattle.std.specs.Int.{int_div_euclid}
 use Rattle.std.proofs.lemmas.Int.{ints}
 use Rattle.integers.proofs.Order.{small_multiple}
 use Rattle.integers.proofs.Ring.{mul_add, mul_neg, mul_zero}
 use Rattle.integers.proofs.Spread.{spread}
-use Rattle.quotient.specs.Kind.{Kind, kind_of, IsSame, Keeps, IsInverse, AreShiftsGroup}
+use Rattle.quotient.specs.Kind.{Kind, kind_of, IsSame, Keeps, AreShiftsGroup}
 use Rattle.symmetry.specs.Vectors.{Vector, Matrix, origin, plus, minus, multiple, opposite, dot, cross, image, product, unit_matrix}
 use Rattle.symmetry.specs.Motions.{Motion, followed_by, identity}
 use Rattle.symmetry.specs.Frames.{Basis, combination}
-use Rattle.symmetry.proofs.VectorLaws.{vector_path, dot-plus, dot-multiple, plus_comm, plus_assoc, plus-origin, minus-same, minus-plus, opposite-plus_same}
+use Rattle.symmetry.proofs.VectorLaws.{vector_path, dot-plus, plus_comm, minus-same, opposite-plus_same}
 use Rattle.symmetry.proofs.MatrixLaws.{image-plus, image-multiple, image-unit, product-unit_left, product-unit_right}
 use Rattle.symmetry.proofs.MotionLaws.{motion_path}
-use Rattle.symmetry.proofs.FrameLaws.{combination-minus, combination-multiple, cramer}
+use Rattle.symmetry.proofs.FrameLaws.{combination-multiple}
 use Rattle.motions.specs.declared.motion.Motion3.{Motion3}
-use Rattle.motions.specs.Views.{motion_of, matrix_of, parts}
+use Rattle.motions.specs.Views.{motion_of, parts}
 use Rattle.plane_lattice.specs.Coordinates.{volume, scaled, IsPlaneCombination}
-use Rattle.plane_lattice.specs.PlaneLattice.{IsPlaneShift, whole_part, home_shift, home_motion, of_vector, home_of_motion}
+use Rattle.plane_lattice.specs.PlaneLattice.{IsPlaneShift, whole_part, home_shift, of_vector, home_of_motion}
 
 -- ---- coordinates
 
@@ -212,11 +212,11 @@ plane_homes f spans m n = (to, from)
 
 -- ---- motions that carry shifts into shifts
 
-along_a : (f : Basis) → combination f (record { x = pos 1; y = pos 0; z = pos 0 }) ≡ f.a
+pub along_a : (f : Basis) → combination f (record { x = pos 1; y = pos 0; z = pos 0 }) ≡ f.a
 unfolding plus multiple
 along_a f = vector_path (omega (arith, ints)) (omega (arith, ints)) (omega (arith, ints))
 
-along_b : (f : Basis) → combination f (record { x = pos 0; y = pos 1; z = pos 0 }) ≡ f.b
+pub along_b : (f : Basis) → combination f (record { x = pos 0; y = pos 1; z = pos 0 }) ≡ f.b
 unfolding plus multiple
 along_b f = vector_path (omega (arith, ints)) (omega (arith, ints)) (omega (arith, ints))
 

@@ -1,5 +1,5 @@
 -- The scanning operations of a list, and their mean.
-use Rattle.std.specs.Prelude.{◌≡◌, ℕ, ℤ, pos, Bool, ◌||◌, List, map, slice_index_or}
+use Rattle.std.specs.Prelude.{ℕ, pos, Bool, ◌||◌, List, map, slice_index_or}
 use Rattle.std.specs.List.{filter}
 use Rattle.fractions.specs.declared.ratio.Ratio.{Ratio}
 use Rattle.fractions.specs.Fraction.{Fraction, SameFraction}

@@ -1,15 +1,15 @@
 // A frame of an orientation of planes.
-ghost use Rattle.std.specs.Prelude.{◌≡◌, ◌*◌, ◌≤ℤ◌, pos, unsigned_abs};
+ghost use Rattle.std.specs.Prelude.{◌≡◌, ◌≤ℤ◌, pos};
 ghost use Rattle.fractions.specs.declared.part.TheConstants.{UNIT};
 ghost use Rattle.symmetry.specs.Sizes.{IsVectorWithin};
 ghost use Rattle.symmetry.specs.Vectors.{dot};
 ghost use Rattle.motions.specs.Views.{parts, row_of};
+ghost use Rattle.plane_lattice.specs.Bounds.{largest_entry};
 ghost use Rattle.plane_lattice.specs.Coordinates.{HoldsEdges, vectors, volume};
 
+use crate::coordinates::{edge_coordinate, scaled, volume};
 use fractions::{Part, Ratio};
 use motions::{Basis, Miller};
-
-use crate::coordinates::{edge_coordinate, scaled, volume};
 
 /// A frame of an orientation of planes: the vectors a and b span the planes, and tau leads from one to the next of
 /// the same kind. Together they are a right-handed basis of the translation lattice.
@@ -25,9 +25,9 @@ pub struct Frame {
     pub tau: [Part; 3],
     pub period: Part,
     pub c: [Ratio; 3],
-    pub ghost a_in_range: { IsVectorWithin (1000 * unsigned_abs UNIT) (parts a) },
-    pub ghost b_in_range: { IsVectorWithin (1000 * unsigned_abs UNIT) (parts b) },
-    pub ghost tau_in_range: { IsVectorWithin (1000 * unsigned_abs UNIT) (parts tau) },
+    pub ghost a_in_range: { IsVectorWithin largest_entry (parts a) },
+    pub ghost b_in_range: { IsVectorWithin largest_entry (parts b) },
+    pub ghost tau_in_range: { IsVectorWithin largest_entry (parts tau) },
     pub ghost a_in_plane: { dot (row_of plane) (parts a) ≡ pos 0 },
     pub ghost b_in_plane: { dot (row_of plane) (parts b) ≡ pos 0 },
     pub ghost tau_gives: { dot (row_of plane) (parts tau) ≡ period.0 },

@@ -9,10 +9,9 @@ ghost use Rattle.plane_lattice.specs.Bounds.{largest_entry, largest_period};
 ghost use Rattle.plane_lattice.specs.Coordinates.{HoldsEdges, IsCombination, volume};
 ghost use Rattle.plane_lattice.specs.FrameTests.{IsOriented};
 
+use crate::coordinates::{coordinates, row_by_column, volume};
 use fractions::{Part, UNIT};
 use motions::{Basis, Miller};
-
-use crate::coordinates::{coordinates, row_by_column, volume};
 
 /// Whether a and b lie in the planes, tau points above them, and a and b are right-handed seen from there.
 pub(crate) fn is_oriented(plane: &Miller, basis: &Basis) -> bool

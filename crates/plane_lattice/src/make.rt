@@ -8,14 +8,13 @@ ghost use Rattle.motions.specs.Views.{row_of};
 ghost use Rattle.closure.specs.Groups.{group_listing};
 ghost use Rattle.plane_lattice.specs.Coordinates.{IsCombination, volume};
 
-use closure::Group;
-use fractions::Part;
-use motions::{Basis, FrameFault, Miller};
-
 use crate::frame::Frame;
 use crate::frame_tests::{holds_all, holds_edges, is_oriented, level};
 use crate::means::mean;
 use crate::skews::is_skewed;
+use closure::Group;
+use fractions::Part;
+use motions::{Basis, FrameFault, Miller};
 
 impl Frame {
     ghost use Rattle.std.specs.Prelude.{◌≡◌, ◌↔◌, IfOk};

@@ -10,11 +10,10 @@ ghost use Rattle.plane_lattice.specs.Bounds.{largest_entry};
 ghost use Rattle.plane_lattice.specs.Coordinates.{volume};
 ghost use Rattle.plane_lattice.specs.Skews.{IsFar, Skews};
 
-use fractions::Part;
-use motions::{Basis, Miller, Motion3, side};
-
 use crate::coordinates::coordinates;
 use crate::images::image;
+use fractions::Part;
+use motions::{Basis, Miller, Motion3, side};
 
 /// How large a matrix entry of a scanning operation may be, written in the basis.
 const MAX_COEFFICIENT: u128 = 500;

@@ -10,12 +10,11 @@ ghost use Rattle.plane_lattice.specs.FrameView.{basis_of_frame};
 ghost use Rattle.plane_lattice.specs.PlaneLattice.{IsPlaneShift, home_of_motion};
 ghost use Rattle.plane_lattice.specs.QuotientLaws.{plane_by_meaning, plane_shifts, plane_home_is_same, plane_homes};
 
-use motions::{Basis, Motion3};
-use quotient::Quotient;
-
 use crate::coordinates::{is_in_plane, scaled, volume, whole_part, without};
 use crate::frame::Frame;
 use crate::images::{image, is_translation};
+use motions::{Basis, Motion3};
+use quotient::Quotient;
 
 impl Quotient for Frame {
     type M = Motion3;

@@ -145,9 +145,28 @@ fn a_frame_is_skewed_above_a_matrix_entry_of_500(rt: HostRuntime) -> Result<(), 
     let Basis { a, tau, .. } = cell_edges();
     let at_the_limit = [Part(250 * UNIT), EDGE, NONE];
     let beyond_it = [Part(251 * UNIT), EDGE, NONE];
-    assert!(rt; Frame::make(&group, plane, Basis { a, b: at_the_limit, tau }).is_ok());
+    assert!(rt;
+        Frame::make(
+            &group,
+            plane,
+            Basis {
+                a,
+                b: at_the_limit,
+                tau
+            }
+        )
+        .is_ok()
+    );
     assert_eq!(rt;
-        Frame::make(&group, plane, Basis { a, b: beyond_it, tau }),
+        Frame::make(
+            &group,
+            plane,
+            Basis {
+                a,
+                b: beyond_it,
+                tau
+            }
+        ),
         Err(FrameFault::Skewed)
     );
     Ok(())

@@ -6,7 +6,7 @@ use Rattle.quotient.specs.declared.check.GroupFault.TheVariants.{NoIdentity, Shi
 use Rattle.quotient.specs.Kind.{Kind, Keeps}
 use Rattle.quotient.specs.Groups.{IsClosed, IsFault, IsFirstOpen, IsFirstWithout, IsGroup, IsPosition, HasInverse, motion_at}
 
-same_number : (i j : ℕ) → ¬ (i < j) → ¬ (j < i) → i ≡ j
+pub same_number : (i j : ℕ) → ¬ (i < j) → ¬ (j < i) → i ≡ j
 same_number i j a b = omega arith
 
 abbrev pub acceptance : Result (Unit {0}) GroupFault
@@ -19,10 +19,10 @@ module _ (K : Kind) (list : List K.Motion) where
   stands : (i : ℕ) → IsPosition K list i → Contains list (motion_at K list i)
   stands i p = Contains-get_or list (i - 1) K.one (omega arith)
 
-  one_first : (Has : K.Motion → Type 0) (i j : ℕ) → IsFirstWithout K Has list i → IsFirstWithout K Has list j → i ≡ j
+  pub one_first : (Has : K.Motion → Type 0) (i j : ℕ) → IsFirstWithout K Has list i → IsFirstWithout K Has list j → i ≡ j
   one_first Has i j a b = same_number i j (λ h. a.lacks (b.before i a.position h)) (λ h. b.lacks (a.before j b.position h))
 
-  none_first : (Has : K.Motion → Type 0) (i : ℕ) → ((m : K.Motion) → Contains list m → Has m) → ¬ IsFirstWithout K Has list i
+  pub none_first : (Has : K.Motion → Type 0) (i : ℕ) → ((m : K.Motion) → Contains list m → Has m) → ¬ IsFirstWithout K Has list i
   none_first Has i all a = a.lacks (all (motion_at K list i) (stands i a.position))
 
   one_open : (i j k l : ℕ) → IsFirstOpen K list i j → IsFirstOpen K list k l → NotClosed i j ≡ NotClosed k l

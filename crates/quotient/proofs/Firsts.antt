@@ -1,6 +1,6 @@
 -- The items of a list that are the same as no earlier one: each item is the same as exactly one of them.
-use Rattle.std.proofs.Common.{ℕ, ◌<◌, List, [], ◌∷◌, ◌++◌, length, get_or, map, Any, AllPairs, Contains, arith, inl, inr, refl, subst, sym, ◌∙◌}
-use Rattle.std.proofs.lemmas.List.{get_or_append_left, get_or_push, length-append, map-append}
+use Rattle.std.proofs.Common.{◌≡◌, ◌⊎◌, ℕ, ◌<◌, List, [], ◌∷◌, ◌++◌, length, get_or, map, Any, AllPairs, Contains, ap, arith, inl, inr, refl, subst, sym, ◌∙◌}
+use Rattle.std.proofs.lemmas.List.{get_or_append_left, get_or_push, length-append, map-append, same_from_push}
 use Rattle.std.proofs.lemmas.List.Elements.{Contains-append_left, Contains-get_or, Contains-push, Contains-push_cases}
 use Rattle.std.proofs.lemmas.List.Quantifiers.{Any-push, all_pairs_push}
 use Rattle.quotient.specs.Kind.{IsEquivalence}
@@ -23,6 +23,11 @@ last list y = simp length-append (omega arith)
 
 earlier : (q p n : ℕ) → q < p → p < n → q < n
 earlier q p n h k = omega arith
+
+-- the first items of a list without its last, and whether the last is one more of them
+abbrev WithoutLast : {A : Type 0} → (A → A → Type 0) → List A → A → List A → Type 0
+WithoutLast Same list x firsts = (before : List _) × AreFirst Same list before
+    × ((¬ Any (Same x) list × (firsts ≡ before ++ x ∷ [])) ⊎ (Any (Same x) list × (firsts ≡ before)))
 
 module _ {A : Type 0} {Same : A → A → Type 0} where
   -- each of them stands in the list
@@ -129,6 +134,42 @@ module _ {A : Type 0} {Same : A → A → Type 0} where
       })
   firsts_in_order _ _ (left_out list firsts y f old) =
       λ i j d below within. KeepsOrder-append list (get_or firsts i d) (get_or firsts j d) y (firsts_in_order list firsts f i j d below within)
+
+  no_item : (list firsts : List A) → AreFirst Same list firsts → list ≡ [] → firsts ≡ []
+  no_item _ _ none e = refl
+  no_item _ _ (kept list firsts x f new) e = absurd (omega (arith, ap length e, last list x))
+  no_item _ _ (left_out list firsts x f old) e = absurd (omega (arith, ap length e, last list x))
+
+  without_last : (list firsts : List A) → AreFirst Same list firsts → (front : List A) (x : A) → list ≡ front ++ x ∷ [] → WithoutLast Same front x firsts
+  without_last _ _ none front x e = absurd (omega (arith, ap length e, last front x))
+  without_last _ _ (kept list firsts y f new) front x e =
+      let (p, q) = same_from_push list front y x e in (
+        firsts,
+        subst (λ l. AreFirst Same l firsts) p f,
+        inl (subst (λ l. ¬ Any (Same x) l) p (subst (λ z. ¬ Any (Same z) list) q new), ap (λ z. firsts ++ z ∷ []) q),
+      )
+  without_last _ _ (left_out list firsts y f old) front x e =
+      let (p, q) = same_from_push list front y x e in (
+        firsts,
+        subst (λ l. AreFirst Same l firsts) p f,
+        inr (subst (Any (Same x)) p (subst (λ z. Any (Same z) list) q old), refl),
+      )
+
+  -- a list has one list of them
+  pub one_list : (list firsts others : List A) → AreFirst Same list firsts → AreFirst Same list others → firsts ≡ others
+  one_list _ _ others none h = sym (no_item [] others h refl)
+  one_list _ _ others (kept list firsts x f new) h =
+      let (before, b, cases) = without_last (list ++ x ∷ []) others h list x refl in
+      elim cases [
+        | inl p ↦ ap (λ l. l ++ x ∷ []) (one_list list firsts before f b) ∙ sym p.1
+        | inr p ↦ absurd (new p.0)
+      ]
+  one_list _ _ others (left_out list firsts x f old) h =
+      let (before, b, cases) = without_last (list ++ x ∷ []) others h list x refl in
+      elim cases [
+        | inl p ↦ absurd (p.0 old)
+        | inr p ↦ one_list list firsts before f b ∙ sym p.1
+      ]
 
 module _ {A B : Type 0} (f : A → B) {Same : B → B → Type 0} where
   -- the same of what the items stand for

@@ -21,6 +21,7 @@ pub mod LinePlaces
 pub mod TextEnds
 pub mod TextShown
 pub mod Answered
+pub mod OneFault
 mod Terms
 mod NumberTrees
 mod TermTrees

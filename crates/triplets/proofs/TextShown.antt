@@ -33,7 +33,8 @@ shown_more : (r : Result Kept Fault) (n : ℕ) (l : List ℕ) (lines : List (Lis
 shown_more (Ok k) n l lines g t = not_more l lines g t
 shown_more (Err f) n l lines g t = (t.0 + 1, t.1, omega (arith, t.2), t.3, rw add-one (g, t.4))
 
-shorter : (l : List ℕ) (m : ℕ) → IsPrefixOfGoodLine l → IsPrefixOfGoodLine (take m l)
+-- so is each shorter one
+pub shorter : (l : List ℕ) (m : ℕ) → IsPrefixOfGoodLine l → IsPrefixOfGoodLine (take m l)
 shorter l m h =
     good_line_prefix (take m l) (drop m l ++ h.0) (subst IsGoodLine (ap (λ (x : List ℕ). x ++ h.0) (sym (take-append-drop m l)) ∙ append_assoc (take m l) (drop m l) h.0) h.1)
 

@@ -2,14 +2,15 @@
 // the writer of the one written form.
 //
 // Promises to the crates above: exactly the triplets and the texts of the grammar are read, each with its value;
-// of any other the first bad line, the column at which no good line goes on, and what is wrong there. A text may
-// come in pieces, cut anywhere. A motion has one written form, and where the grammar can say the motion, that form
-// is read as the motion again.
+// of any other the first bad line, the column at which no good line goes on, and what is wrong there. A text says one
+// thing: it has one listing, or one fault and no listing. It may come in pieces, cut anywhere. A motion has one written
+// form, and where the grammar can say the motion, that form is read as the motion again.
 #![tactic(auto)]
 
 mod denominator;
 mod fault;
 mod group;
+mod laws;
 mod line;
 mod marks;
 mod part;
@@ -19,6 +20,7 @@ mod write;
 
 pub use fault::{TextFault, TextKind, TripletFault};
 pub use group::read_group;
+pub use laws::{no_listing_and_fault, one_fault, one_listing};
 pub use text::LineReader;
 pub use triplet::read_triplet;
 pub use write::{NoMemory, write_triplet};

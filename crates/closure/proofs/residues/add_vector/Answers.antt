@@ -1,4 +1,4 @@
-use Rattle.std.proofs.Common.{◌≡◌, ◌+◌, arith, map, sym, ap, ◌∙◌, length}
+use Rattle.std.proofs.Common.{arith, map, sym, ap, ◌∙◌}
 use Rattle.motions.specs.Views.{parts}
 use Rattle.closure.specs.Residues.{has_residue}
 use Rattle.closure.proofs.Growth.{cosets_begin, cosets_turn, cosets_overflow, cosets_end, length-turn}

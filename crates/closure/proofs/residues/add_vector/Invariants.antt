@@ -1,4 +1,4 @@
-use Rattle.std.proofs.Common.{◌≡◌, ℕ, ◌-◌, ◌+◌, ◌<◌, ◌≤◌, All, length, map, vec_len}
+use Rattle.std.proofs.Common.{◌-◌, ◌<◌, ◌≤◌, All, map, vec_len}
 use Rattle.symmetry.specs.Groups.{Listing}
 use Rattle.motions.specs.Views.{parts}
 use Rattle.closure.specs.declared.limits.TheConstants.{MAX_RESIDUES}

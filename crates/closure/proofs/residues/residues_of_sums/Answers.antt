@@ -1,9 +1,6 @@
-use Rattle.std.proofs.Common.{◌≡◌, ℕ, zero, suc, ◌+◌, ◌<◌, ◌≤◌, arith, refl, sym, ap, subst, ◌∙◌, map, take, get_or, [], ◌∷◌, List, All}
+use Rattle.std.proofs.Common.{◌+◌, ◌<◌, arith, subst, map}
 use Rattle.std.proofs.lemmas.Result.{err_from_is_err_and}
-use Rattle.std.proofs.lemmas.List.Elements.{All-push, All-nil}
 use Rattle.motions.specs.Views.{parts}
-use Rattle.closure.specs.Fineness.{centrings_alone}
-use Rattle.closure.specs.Residues.{IsResidue}
 use Rattle.closure.specs.Spans.{AreResiduesOf}
 use Rattle.closure.specs.Faults.{IsLatticeFault}
 use Rattle.closure.proofs.Made.{zero_alone, centrings-more, fault-first}

@@ -1,4 +1,4 @@
-use Rattle.std.proofs.Common.{ℕ, ◌<◌, ◌≤◌, All, map, take, vec_len}
+use Rattle.std.proofs.Common.{◌<◌, ◌≤◌, All, map, take, vec_len}
 use Rattle.motions.specs.Views.{parts}
 use Rattle.closure.specs.declared.limits.TheConstants.{MAX_RESIDUES}
 use Rattle.closure.specs.Residues.{IsResidue}

@@ -1,4 +1,4 @@
-use Rattle.std.proofs.Common.{◌≡◌, sym, ap, subst, ◌∙◌, arith}
+use Rattle.std.proofs.Common.{sym, ap, subst, ◌∙◌, arith}
 use Rattle.motions.specs.Views.{parts}
 use Rattle.closure.specs.Residues.{IsResidue}
 use Rattle.closure.proofs.Homes.{first_takes, first_keeps}

@@ -1,16 +1,13 @@
-use Rattle.std.proofs.Common.{◌≡◌, ℕ, ◌+◌, ◌<◌, ◌≤◌, ◌^◌, true, false, All, sym, ap, subst, ◌∙◌, arith, map, take, length, get_or, [], ◌∷◌, ◌++◌, List}
+use Rattle.std.proofs.Common.{◌≡◌, ◌+◌, ◌<◌, ◌≤◌, ◌^◌, All, sym, ap, subst, ◌∙◌, arith, map, take, length, get_or, [], ◌∷◌, ◌++◌, List}
+use Rattle.std.proofs.lemmas.Bool.{true≢false}
 use Rattle.std.proofs.lemmas.List.{get_or_default, take_all}
 use Rattle.std.proofs.lemmas.List.Elements.{All-push}
-use Rattle.fractions.specs.declared.part.Part.{Part}
 use Rattle.symmetry.specs.Sizes.{IsVectorWithin}
 use Rattle.motions.specs.declared.motion.Motion3.{Motion3}
 use Rattle.motions.specs.Views.{parts, motion_of, listing_of}
 use Rattle.closure.proofs.Generators.{CollectsTranslations, collects_turn, collects_pass, collects_generators}
 use Rattle.closure.proofs.translations.lattice_vectors.Goals as goal
 use Rattle.closure.proofs.translations.lattice_vectors.Goals.{then-is_translation+in_ok-push, else-is_translation}
-
-differ : true ≡ false → ⊥
-differ e = cc
 
 pub loop-m-preserved : goal.loop-m-preserved
 loop-m-preserved c =
@@ -38,7 +35,7 @@ loop-m-preserved c =
             small = subst (All (λ v. IsVectorWithin (2 ^ 40) (parts v))) (sym same) kept.small;
             collected = subst (λ vs. CollectsTranslations (map parts c.args.listed.now.centrings.items) (map motion_of (take (i + 1) ops)) (map parts vs)) (sym same)
                 (collects_pass (map parts c.args.listed.now.centrings.items) ops i m c.loop-m.vectors.items within at kept.collected
-                (λ e. differ (sym (c.is_translation.ensures.1 e) ∙ w.if-is_translation.false)));
+                (λ e. true≢false (sym (c.is_translation.ensures.1 e) ∙ w.if-is_translation.false)));
           }
     ]
 

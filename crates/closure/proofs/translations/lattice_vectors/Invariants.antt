@@ -1,4 +1,4 @@
-use Rattle.std.proofs.Common.{ℕ, ◌^◌, All, map, take}
+use Rattle.std.proofs.Common.{◌^◌, All, map, take}
 use Rattle.symmetry.specs.Sizes.{IsVectorWithin}
 use Rattle.motions.specs.Views.{motion_of, parts}
 use Rattle.closure.proofs.Generators.{CollectsTranslations}

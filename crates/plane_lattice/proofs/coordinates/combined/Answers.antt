@@ -21,7 +21,7 @@ overflow_add-result-2 c =
 pub returns : goal.returns
 returns c =
     let sum = wide_sum_is most c.wide_multiple.result c.wide_multiple-2.result c.wide_multiple-3.result (lit< tt)
-        c.wide_multiple.ensures.small c.wide_multiple-2.ensures.small c.wide_multiple-3.ensures.small in
+    c.wide_multiple.ensures.small c.wide_multiple-2.ensures.small c.wide_multiple-3.ensures.small in
     let P : ℤ → Type 0 = IsWithin largest_combined in
     record {
       is = sum

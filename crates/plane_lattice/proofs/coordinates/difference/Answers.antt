@@ -1,5 +1,5 @@
 -- The difference fits where it is as small as required.
-use Rattle.std.proofs.Common.{◌≡◌, ◌^◌, ◌+◌, ℤ, ◌-ℤ◌, ◌∙◌, ap, lit<, lit≤, sym, subst, FitsSigned}
+use Rattle.std.proofs.Common.{◌≡◌, ◌^◌, ◌+◌, ℤ, ◌-ℤ◌, ◌∙◌, ap, lit<, sym, subst, FitsSigned}
 use Rattle.std.specs.Int.{w64, w128}
 use Rattle.integers.specs.Size.{IsWithin}
 use Rattle.integers.proofs.Coded.{again, again_is, fits_within}

@@ -13,7 +13,7 @@ returns c =
     let d = c.args.d in
     let small = IsWithin-div_euclid largest_scaled x d c.requires.positive c.requires.x in
     let is = c.div_euclid.ensures
-        ∙ (λ i. int_div_euclid (wide_is largest_scaled x (lit< tt) c.requires.x i) (wide_is largest_scaled d (lit< tt) c.requires.d i)) in
+    ∙ (λ i. int_div_euclid (wide_is largest_scaled x (lit< tt) c.requires.x i) (wide_is largest_scaled d (lit< tt) c.requires.d i)) in
     let read = ap wide is ∙ wide_is largest_scaled (int_div_euclid x d) (lit< tt) small in
     let P : ℤ → Type 0 = IsWithin largest_scaled in
     record { is = read; small = subst P (sym read) small }

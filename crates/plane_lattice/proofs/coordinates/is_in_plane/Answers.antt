@@ -1,5 +1,5 @@
 -- The whole coordinates are the only ones.
-use Rattle.std.proofs.Common.{rules, ◌≡◌, ℤ, pos, FitsSigned}
+use Rattle.std.proofs.Common.{rules, FitsSigned}
 use Rattle.std.specs.Int.{w128}
 use Rattle.motions.specs.BasisView.{basis_of}
 use Rattle.motions.specs.Views.{parts, vector_of}

@@ -2,7 +2,6 @@
 use Rattle.std.proofs.Common.{◌≡◌, ℤ, ◌+ℤ◌, ◌-ℤ◌, ◌*ℤ◌, negsuc, ◌∙◌, ap, lit<, sym, subst}
 use Rattle.integers.specs.Size.{IsWithin}
 use Rattle.integers.proofs.Ring.{neg_as_mul}
-use Rattle.symmetry.specs.Frames.{combination}
 use Rattle.symmetry.specs.Vectors.{plus, multiple}
 use Rattle.symmetry.proofs.VectorLaws.{vector_path}
 use Rattle.plane_lattice.specs.Bounds.{largest_combined, largest_home}

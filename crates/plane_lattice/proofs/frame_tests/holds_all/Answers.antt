@@ -1,5 +1,5 @@
 -- One vector more.
-use Rattle.std.proofs.Common.{ℕ, ◌<◌, ◌≡◌, sym, ap, subst, below_more, List, get_or, refl}
+use Rattle.std.proofs.Common.{ℕ, subst, below_more, List, get_or}
 use Rattle.std.proofs.lemmas.List.{get_or_default}
 use Rattle.fractions.specs.declared.part.Part.{Part}
 use Rattle.motions.specs.BasisView.{basis_of}

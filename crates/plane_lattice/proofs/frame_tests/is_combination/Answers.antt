@@ -1,7 +1,6 @@
 -- There are whole coordinates exactly where the vector is a whole combination.
 use Rattle.motions.specs.BasisView.{basis_of}
 use Rattle.motions.specs.Views.{parts, vector_of}
-use Rattle.symmetry.specs.Frames.{combination}
 use Rattle.plane_lattice.specs.Coordinates.{IsCombination}
 use Rattle.plane_lattice.proofs.Options.{some_tells}
 use Rattle.plane_lattice.proofs.frame_tests.is_combination.Goals as goal

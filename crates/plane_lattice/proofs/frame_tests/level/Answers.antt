@@ -1,9 +1,9 @@
 -- The indices are at most INDEX in size.
-use Rattle.std.proofs.Common.{◌≡◌, ℤ, ◌∙◌, ap, lit<, sym, subst}
+use Rattle.std.proofs.Common.{◌≡◌, ℤ, ◌∙◌, lit<, sym, subst}
 use Rattle.std.specs.Prelude.{unsigned_abs}
 use Rattle.integers.specs.Size.{IsWithin}
 use Rattle.integers.proofs.Coded.{again_is}
-use Rattle.symmetry.specs.Vectors.{Vector, dot}
+use Rattle.symmetry.specs.Vectors.{dot}
 use Rattle.motions.specs.Views.{parts, row_of}
 use Rattle.motions.specs.declared.index.TheConstants.{INDEX}
 use Rattle.plane_lattice.specs.Bounds.{largest_period, largest_scaled}

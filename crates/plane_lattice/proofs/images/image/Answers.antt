@@ -1,8 +1,8 @@
 -- First the translation by the vector, and then the motion without its translation.
 use Rattle.std.proofs.Common.{◌≡◌, ◌^◌, ◌∙◌, ap, sym, subst, lit≤}
-use Rattle.symmetry.specs.Motions.{Motion, followed_by, translation}
+use Rattle.symmetry.specs.Motions.{Motion, followed_by}
 use Rattle.symmetry.specs.Sizes.{IsVectorWithin}
-use Rattle.symmetry.specs.Vectors.{Vector, image, origin}
+use Rattle.symmetry.specs.Vectors.{image}
 use Rattle.symmetry.proofs.VectorLaws.{plus-origin}
 use Rattle.motions.specs.MotionLaws.{IsVectorWithin-more}
 use Rattle.motions.specs.Views.{motion_of, parts}

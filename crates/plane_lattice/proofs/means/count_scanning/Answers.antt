@@ -1,5 +1,5 @@
 -- One operation more.
-use Rattle.std.proofs.Common.{◌≡◌, ◌+◌, ◌∙◌, List, length, sym, ap, subst, true, false, cond, arith, map, take}
+use Rattle.std.proofs.Common.{◌+◌, ◌∙◌, List, length, sym, ap, cond, arith, map, take}
 use Rattle.symmetry.specs.Frames.{KeepsOrientation}
 use Rattle.symmetry.specs.Motions.{Motion}
 use Rattle.symmetry.specs.Sizes.{IsSmall}

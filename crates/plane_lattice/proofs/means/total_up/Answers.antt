@@ -24,7 +24,7 @@ loop-m-preserved c =
     let m = motion_of (operation_at ops i) in
     let small : IsSmall m = all_at motion_of IsSmall ops c.requires.operations i _ c.loop-m-test.true in
     let within = total_within (i * largest_turned) largest_turned r m (parts c.loop-m.total) (image m.matrix tau) (parts c.with_operation-total.result)
-        c.loop-m.invariant.small (image_within small.matrix c.requires.tau) c.with_operation-total.ensures in
+    c.loop-m.invariant.small (image_within small.matrix c.requires.tau) c.with_operation-total.ensures in
     let size : i * largest_turned + 1 * largest_turned ≡ (i + 1) * largest_turned = omega arith in
     record {
       is = total_more r tau (parts c.loop-m.total) (parts c.with_operation-total.result) (map motion_of (take i ops)) m c.loop-m.invariant.is c.with_operation-total.ensures

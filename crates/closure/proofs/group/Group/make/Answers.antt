@@ -1,5 +1,6 @@
-use Rattle.std.proofs.Common.{◌≡◌, ◌≤◌, ◌<◌, true, false, arith, refl, sym, ap, subst, ◌∙◌, length, map, unsigned_abs, All, List, vec_len}
+use Rattle.std.proofs.Common.{◌≤◌, arith, refl, sym, subst, length, map, unsigned_abs, All, List, vec_len}
 use Rattle.std.proofs.lemmas.Result.{err_from_is_err_and}
+use Rattle.std.proofs.lemmas.Bool.{true≢false}
 use Rattle.std.proofs.lemmas.List.{length-map}
 use Rattle.std.proofs.lemmas.List.Elements.{All-weaker}
 use Rattle.symmetry.specs.Sizes.{IsSmall}
@@ -8,11 +9,8 @@ use Rattle.motions.specs.ListedSizes.{IsSmallWithin}
 use Rattle.motions.specs.Views.{motion_of, listing_of}
 use Rattle.closure.specs.declared.limits.TheConstants.{MAX_ENTRY, MAX_OPERATIONS}
 use Rattle.closure.specs.GroupErrors.{IsWithinLimits}
-use Rattle.closure.proofs.GroupMade.{lattice_refused, lattice_accepted, kept_apart, kept_translations, accepted_group, kept_is_group, refused_fault, refused_group, kept_members, kept_order}
+use Rattle.closure.proofs.GroupMade.{lattice_refused, lattice_accepted, kept_apart, kept_translations, accepted_group, kept_is_group, refused_fault, refused_group, kept_vectors, kept_members, kept_order}
 use Rattle.closure.proofs.group.Group.make.Goals as goal
-
-differ : false ≡ true → ⊥
-differ e = cc
 
 pub returns-in_err-lattice-clause-accepted : goal.returns-in_err-lattice-clause-accepted
 returns-in_err-lattice-clause-accepted c limits group =
@@ -35,7 +33,7 @@ returns-in_err-check_group-clause-accepted c limits group =
     let lattice = c.in_ok-lattice in
     let ops = c.in_ok-ops in
     let group_there = refused_group (listing_of c.args.listed) lattice.lattice lattice.ensures.lattice ops.ops.items ops.ensures.first c.deref.result.now c.deref.ensures.value group in
-    absurd (differ (c.in_err-check_group.ensures.accepted.1 group_there))
+    absurd (true≢false (sym (c.in_err-check_group.ensures.accepted.1 group_there)))
 
 pub returns-in_err-check_group-clause-refused : goal.returns-in_err-check_group-clause-refused
 returns-in_err-check_group-clause-refused c =
@@ -73,6 +71,10 @@ returns-clause-group c =
     let ops = c.in_ok-ops in
     accepted_group (listing_of c.args.listed) lattice.lattice lattice.ensures.lattice ops.ops.items ops.ensures.first c.deref.result.now c.deref.ensures.value
     (c.in_ok-check_group.ensures.accepted.0 refl)
+
+pub returns-clause-vectors : goal.returns-clause-vectors
+returns-clause-vectors c =
+    kept_vectors (listing_of c.args.listed) c.in_ok-lattice.lattice c.in_ok-lattice.ensures.lattice c.in_ok-ops.ops.items c.in_ok-ops.ensures.first
 
 pub returns-clause-members : goal.returns-clause-members
 returns-clause-members c =

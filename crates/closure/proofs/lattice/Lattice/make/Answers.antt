@@ -4,8 +4,6 @@ use Rattle.std.proofs.lemmas.List.Sorted.{All-permutation, IsPermutation-map}
 use Rattle.motions.specs.Views.{parts}
 use Rattle.closure.specs.declared.limits.TheConstants.{MAX_RESIDUES}
 use Rattle.closure.specs.Residues.{IsResidue}
-use Rattle.closure.specs.Spans.{AreResiduesOf}
-use Rattle.closure.specs.Fineness.{centrings_alone}
 use Rattle.closure.proofs.Sorting.{residues-permuted, residue_group, in_order}
 use Rattle.closure.proofs.Counting.{not_too_fine}
 use Rattle.closure.proofs.lattice.Lattice.make.Goals as goal

@@ -1,14 +1,14 @@
 -- A frame that is not skewed is given, with its period and its mean.
-use Rattle.std.proofs.Common.{◌≡◌, ◌≤ℤ◌, ◌<ℤ◌, ◌<◌, ℤ, pos, List, length, map, ◌∙◌, ap, sym, subst, refl, arith, lit<}
+use Rattle.std.proofs.Common.{◌≡◌, ◌≤ℤ◌, ◌<ℤ◌, ◌<◌, ℤ, pos, List, length, ◌∙◌, ap, sym, subst, refl, arith, lit<}
 use Rattle.std.proofs.lemmas.Int.{ints}
 use Rattle.integers.specs.Size.{IsWithin}
 use Rattle.integers.proofs.Coded.{again, again_is}
-use Rattle.symmetry.specs.Frames.{Basis, IsFrame, IsPeriod, mean_of}
+use Rattle.symmetry.specs.Frames.{Basis, IsPeriod, mean_of}
 use Rattle.symmetry.specs.Motions.{Motion}
 use Rattle.symmetry.specs.Vectors.{Vector, cross, dot, multiple}
 use Rattle.symmetry.proofs.FrameLaws.{frame_period}
 use Rattle.motions.specs.BasisView.{basis_of}
-use Rattle.motions.specs.Views.{motion_of, parts, row_of}
+use Rattle.motions.specs.Views.{row_of}
 use Rattle.motions.specs.declared.frame_fault.FrameFault.TheVariants.{NotFrame, Skewed}
 use Rattle.closure.specs.Groups.{group_listing}
 use Rattle.plane_lattice.specs.Bounds.{largest_period}

@@ -2,7 +2,6 @@
 use Rattle.std.proofs.Common.{◌≡◌, ◌^◌, ◌≤ℤ◌, ℤ, pos, ◌∙◌, ap, lit<, lit≤, sym, subst, refl}
 use Rattle.integers.specs.Size.{IsWithin}
 use Rattle.symmetry.specs.Frames.{Basis, combination, IsAtHome}
-use Rattle.symmetry.specs.Motions.{Motion}
 use Rattle.symmetry.specs.Sizes.{IsVectorWithin}
 use Rattle.symmetry.specs.Vectors.{Vector, dot, minus}
 use Rattle.symmetry.proofs.MotionLaws.{motion_path}
@@ -12,7 +11,7 @@ use Rattle.motions.specs.Views.{motion_of, parts, row_of, vector_of}
 use Rattle.plane_lattice.specs.Bounds.{largest_home, largest_scaled}
 use Rattle.plane_lattice.specs.Coordinates.{volume, scaled, floors, IsPlaneCombination}
 use Rattle.plane_lattice.specs.FrameView.{basis_of_frame}
-use Rattle.plane_lattice.specs.PlaneLattice.{whole_part, home_shift, home_motion}
+use Rattle.plane_lattice.specs.PlaneLattice.{home_shift, home_motion}
 use Rattle.plane_lattice.specs.declared.frame.Frame.{Frame}
 use Rattle.plane_lattice.proofs.Homes.{home_at_home, home_differs, home_level, home_within}
 use Rattle.plane_lattice.proofs.Wide.{wide, wide_is}
@@ -45,8 +44,8 @@ returns c =
     let f = basis_of_frame q in
     let m = motion_of c.args.m.now in
     let shift : parts c.without.result ≡ home_shift f m.shift = c.without.ensures
-        ∙ without_whole f (basis_of c.basis-basis.result) m.shift c.volume-volume.result (vector_of c.scaled.result) (vector_of c.whole_part-whole.result)
-        c.basis-basis.ensures c.volume-volume.ensures.small c.volume-volume.ensures.is c.scaled.ensures.is c.whole_part-whole.ensures.is in
+    ∙ without_whole f (basis_of c.basis-basis.result) m.shift c.volume-volume.result (vector_of c.scaled.result) (vector_of c.whole_part-whole.result)
+    c.basis-basis.ensures c.volume-volume.ensures.small c.volume-volume.ensures.is c.scaled.ensures.is c.whole_part-whole.ensures.is in
     let motion : motion_of (record { w = c.args.m.now.w; t = c.without.result }) ≡ home_motion f m = motion_path refl shift in
     let small : IsVectorWithin (2 ^ 44) (home_shift f m.shift) = IsVectorWithin-more (within q m.shift c.requires) (lit≤ tt) in
     record {

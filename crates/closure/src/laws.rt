@@ -1,0 +1,18 @@
+// Why what is listed is no group has one answer. A call does nothing: its contract is the law.
+ghost use Rattle.std.specs.Prelude.{◌≡◌, ◌≢◌};
+ghost use Rattle.symmetry.specs.Groups.{IsGroup, Listing};
+ghost use Rattle.closure.specs.declared.group_error.GroupError.{GroupError};
+ghost use Rattle.closure.specs.declared.group_error.GroupError.TheVariants.{NoMemory};
+ghost use Rattle.closure.specs.GroupErrors.{IsGroupError, IsWithinLimits};
+
+/// What is listed has one error at most, but for want of memory, which has no cause.
+pub fn one_group_error()
+    ensures { (g : Listing) (error error' : GroupError) → error ≢ NoMemory → error' ≢ NoMemory →
+        IsGroupError g error → IsGroupError g error' → error ≡ error' }
+{}
+
+/// A group within the limits has no error but want of memory.
+pub fn no_group_and_error()
+    ensures { (g : Listing) (error : GroupError) → IsWithinLimits g → IsGroup g → IsGroupError g error →
+        error ≡ NoMemory }
+{}

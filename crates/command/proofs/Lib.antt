@@ -1,0 +1,14 @@
+pub mod Indices
+pub mod VectorFacts
+pub mod WordLists
+pub mod EntrySizes
+pub mod TextLines
+pub mod LimitFacts
+pub mod OneReading
+pub mod OneRequest
+pub mod RunFacts
+pub mod Alike
+pub mod OneAnswer
+pub mod Responding
+pub mod GroupCauses
+pub mod FrameCauses

@@ -1,0 +1,16 @@
+pub mod Words
+pub mod VectorWords
+pub mod KindNames
+pub mod Refusals
+pub mod Outcomes
+pub mod Limits
+pub mod Requests
+pub mod RequestView
+pub mod Texts
+pub mod Contents
+pub mod Answers
+pub mod Runs
+pub mod Obstacles
+pub mod Responses
+pub mod Alike
+pub mod Causes

@@ -1,0 +1,36 @@
+// The program.
+#![tactic(auto)]
+
+mod at_text;
+mod limits;
+mod obstacle;
+mod outcome;
+mod read_words;
+mod refusal;
+mod request;
+mod respond;
+mod run;
+mod words;
+
+use std::process::ExitCode;
+use std::{env, io};
+
+use devices::{RealSink, RealSource};
+use outcome::Outcome;
+
+fn main(rt: HostRuntime) -> ExitCode {
+    let words = match env::args(&rt) {
+        Ok(args) => args.skip(1).collect(rt.alloc()),
+        Err(error) if error.kind() == io::ErrorKind::OutOfMemory => return ExitCode::from(Outcome::NoMemory.code()),
+        // Words that are no text are no request.
+        Err(_) => Ok(Vec::new(rt.alloc())),
+    };
+    let Ok(words) = words else {
+        return ExitCode::from(Outcome::NoMemory.code());
+    };
+    let mut source = RealSource::make(rt.stdin());
+    let mut out = RealSink::make(rt.stdout());
+    let mut complaints = RealSink::make(rt.stderr());
+    let outcome = run::run(rt.alloc(), &words, &mut source, &mut out, &mut complaints);
+    ExitCode::from(outcome.code())
+}

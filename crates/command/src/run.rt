@@ -1,0 +1,93 @@
+// The top call.
+ghost use Rattle.std.specs.Prelude.{◌≡◌, ◌≢◌, ℕ, ◌+◌, List, Option, Some, map, string_bytes, Err, IfOk, IfErr, OnOk};
+ghost use Rattle.std.specs.Io.KnownBytes.{IsAtEnd};
+ghost use Rattle.devices.specs.Transfers.{ReadsWithin};
+ghost use Rattle.command.specs.declared.limits.TheConstants.{MOST_BYTES};
+ghost use Rattle.command.specs.declared.refusal.Refusal.{Refusal};
+ghost use Rattle.command.specs.Requests.{IsRequest, IsWordsRefusal, PlaneAt};
+ghost use Rattle.command.specs.Answers.{IsInputRefusal, IsOutput};
+ghost use Rattle.command.specs.Responses.{AnswersInput, HasAnswer, IsObstacle, RefusesBy, RefusesInput};
+ghost use Rattle.command.specs.Runs.{Answers, Complains, HasCause, IsCause, LeavesOut, Refuses};
+
+use devices::{Input, Sink, Source, put_all, read_all};
+use std::alloc::Global;
+
+use crate::limits::MOST_BYTES;
+use crate::obstacle::Obstacle;
+use crate::outcome::Outcome;
+use crate::read_words::read_words;
+use crate::refusal::Refusal;
+use crate::respond::respond;
+
+/// Runs the program: reads the words, and for a request that asks for it the source to its end, and writes the whole
+/// answer to `out`, or the line of a refusal to `complaints`.
+///
+/// The words are those behind the program's name. The whole output is made before its first byte is written.
+pub fn run<S: Source, K: Sink, E: Sink>(
+    alloc: Global,
+    words: &[String],
+    source: &mut S,
+    out: &mut K,
+    complaints: &mut E,
+) -> Outcome
+    ensures out { LeavesOut result (map string_bytes words.now) (S.left source.old) (K.held out.old) (K.held out.new) }
+    ensures cause { HasCause result (map string_bytes words.now) (S.left source.old)
+        (S.faults source.old) (S.faults source.new) (K.faults out.old) (K.faults out.new) }
+    ensures complaint { Complains result (E.held complaints.old) (E.held complaints.new)
+        (E.faults complaints.old) (E.faults complaints.new) }
+    ensures whole { result ≡ Outcome.Done → IsAtEnd (S.left source.new) }
+    ensures refuses_words { (refusal : Refusal) → IsWordsRefusal (map string_bytes words.now) refusal →
+        Refuses refusal result × (S.left source.new ≡ S.left source.old) × (result ≢ Outcome.ReadFault) }
+    ensures refuses_input { (at : PlaneAt) (input : List ℕ) (refusal : Refusal) →
+        IsRequest (map string_bytes words.now) at → S.left source.old ≡ Some input → IsInputRefusal at input refusal →
+        Refuses refusal result }
+    ensures answers { (at : PlaneAt) (input : List ℕ) (text : List ℕ) →
+        IsRequest (map string_bytes words.now) at → S.left source.old ≡ Some input → IsOutput at input text →
+        Answers result }
+    ensures within { ReadsWithin (S.left source.old) (S.left source.new) (MOST_BYTES + 1) }
+{
+    match answer(alloc, words, source) {
+        Ok(text) => match put_all(out, &text) {
+            Ok(()) => Outcome::Done,
+            Err(_) => Outcome::WriteFault,
+        },
+        Err(Obstacle::Refused(refusal)) => refuse(alloc, refusal, complaints),
+        Err(Obstacle::ReadFault) => Outcome::ReadFault,
+        Err(Obstacle::NoMemory) => Outcome::NoMemory,
+    }
+}
+
+/// Reads the words and the source, and makes the whole answer.
+fn answer<S: Source>(alloc: Global, words: &[String], source: &mut S) -> Result<Vec<u8>, Obstacle>
+    ensures text { IfOk result (λ text. HasAnswer (map string_bytes words.now) (S.left source.old) text.items) }
+    ensures whole { OnOk result (IsAtEnd (S.left source.new)) }
+    ensures obstacle { IfErr result (IsObstacle (map string_bytes words.now) (S.left source.old) (S.faults source.old) (S.faults source.new)) }
+    ensures refuses_words { (refusal : Refusal) → IsWordsRefusal (map string_bytes words.now) refusal →
+        (result ≡ Err (Obstacle.Refused refusal)) × (S.left source.new ≡ S.left source.old) }
+    ensures refuses_input { (at : PlaneAt) (input : List ℕ) (refusal : Refusal) →
+        IsRequest (map string_bytes words.now) at → S.left source.old ≡ Some input → IsInputRefusal at input refusal →
+        RefusesInput refusal result }
+    ensures answers { (at : PlaneAt) (input : List ℕ) (text : List ℕ) →
+        IsRequest (map string_bytes words.now) at → S.left source.old ≡ Some input → IsOutput at input text →
+        AnswersInput result }
+    ensures within { ReadsWithin (S.left source.old) (S.left source.new) (MOST_BYTES + 1) }
+{
+    let request = read_words(words)?;
+    match read_all(alloc, source, MOST_BYTES)? {
+        Input::Whole(input) => respond(alloc, &request, &input),
+        Input::TooLong => Err(Obstacle::Refused(Refusal::TooLong)),
+    }
+}
+
+/// Writes the line of a refusal to the complaints. It is refused whether that sink takes the line or not.
+fn refuse<E: Sink>(alloc: Global, refusal: Refusal, complaints: &mut E) -> Outcome
+    ensures { RefusesBy refusal result (E.held complaints.old) (E.held complaints.new) (E.faults complaints.old) (E.faults complaints.new) }
+{
+    match format!(in alloc; "{refusal}\n") {
+        Ok(line) => {
+            let _ = put_all(complaints, line.as_bytes());
+            Outcome::Refused(refusal)
+        }
+        Err(_) => Outcome::NoMemory,
+    }
+}

@@ -1,0 +1,179 @@
+// The words of a request, before any limit.
+ghost use Rattle.std.specs.Prelude.{◌≡◌, ◌≢◌, ◌≤◌, ℕ, ℤ, Option, MatchOption, IsTrue, ◌↔◌, map, slice_index, length, string_bytes};
+ghost use Rattle.std.specs.Option.{option_map};
+ghost use Rattle.std.specs.Str.Parse.{without_leading_sign};
+ghost use Rattle.fractions.specs.Fraction.{Fraction};
+ghost use Rattle.fractions.specs.FractionOf.{fraction_of};
+ghost use Rattle.symmetry.specs.Vectors.{Vector};
+ghost use Rattle.command.specs.VectorWords.{asked, fractions_of, frame_of, plane_row};
+ghost use Rattle.command.specs.Words.{ArePlaneAndFrame, AreVectorWords, AtWords, Fractions, FrameWords, IsAtWords, IsFrameWords, IsIndex, IsPlaneWords, IsRatio, IsRatioAt, IsVectorWord, BeforeComma};
+
+use fractions::{Ratio, read_ratio};
+
+/// The most digits that an index has.
+const MOST_INDEX_DIGITS: usize = 9;
+
+/// Whether a word has no plus sign first, and at most nine bytes behind a hyphen.
+fn is_short(word: &[u8]) -> bool
+    ensures { IsTrue result ↔ ((slice_index word.now 0 ≢ 43) × (length (without_leading_sign word.now) ≤ 9)) }
+{
+    match word {
+        [b'+', ..] => false,
+        [b'-', digits @ ..] => digits.len() <= MOST_INDEX_DIGITS,
+        _ => word.len() <= MOST_INDEX_DIGITS,
+    }
+}
+
+/// The index that a word is: an optional hyphen, and one to nine digits.
+pub fn read_index(word: &str) -> Option<i64>
+    ensures { MatchOption result ((z : ℤ) → ¬ (IsIndex word.now z)) (IsIndex word.now) }
+{
+    if is_short(word.as_bytes()) {
+        word.parse().ok()
+    } else {
+        None
+    }
+}
+
+/// The ratio that a word is from its beginning to its end.
+pub fn read_whole_ratio(word: &[u8]) -> Option<Ratio>
+    ensures { MatchOption result ((q : Fraction) → ¬ (IsRatio word.now q)) (λ r. IsRatio word.now (fraction_of r)) }
+{
+    read_to_end(word, 0)
+}
+
+/// The ratio that stands at an index with a comma behind it, and the index behind the comma.
+fn read_before_comma(word: &[u8], at: usize) -> Option<(Ratio, usize)>
+    requires { at ≤ length word.now }
+    ensures { MatchOption result
+        ((behind : ℕ) (q : Fraction) → ¬ (BeforeComma word.now at behind q))
+        (λ read. BeforeComma word.now at read.1 (fraction_of read.0)) }
+{
+    match read_ratio(word, at) {
+        Ok((ratio, end)) if word.get(end) == Some(&b',') => Some((ratio, end + 1)),
+        _ => None,
+    }
+}
+
+/// The ratio that stands from an index to the end of a word.
+fn read_to_end(word: &[u8], at: usize) -> Option<Ratio>
+    requires { at ≤ length word.now }
+    ensures { MatchOption result
+        ((q : Fraction) → ¬ (IsRatioAt word.now at (length word.now) q))
+        (λ r. IsRatioAt word.now at (length word.now) (fraction_of r)) }
+{
+    match read_ratio(word, at) {
+        Ok((ratio, end)) if end == word.len() => Some(ratio),
+        _ => None,
+    }
+}
+
+/// Three ratios, as the entries of a vector.
+#[derive(Clone, Copy, Debug)]
+pub struct VectorWord {
+    pub x: Ratio,
+    pub y: Ratio,
+    pub z: Ratio,
+}
+
+/// The vector that a word is: three ratios joined by commas.
+pub fn read_vector(word: &[u8]) -> Option<VectorWord>
+    ensures { MatchOption result
+        ((v : Fractions) → ¬ (IsVectorWord word.now v))
+        (λ v. IsVectorWord word.now (fractions_of v)) }
+{
+    let (x, second) = read_before_comma(word, 0)?;
+    let (y, third) = read_before_comma(word, second)?;
+    let z = read_to_end(word, third)?;
+    Some(VectorWord { x, y, z })
+}
+
+/// The vectors a, b and tau of a frame.
+#[derive(Clone, Copy, Debug)]
+pub struct FrameWord {
+    pub a: VectorWord,
+    pub b: VectorWord,
+    pub tau: VectorWord,
+}
+
+/// Three indices and a height.
+#[derive(Clone, Copy, Debug)]
+pub struct PlaneWord {
+    pub h: i64,
+    pub k: i64,
+    pub l: i64,
+    pub s: Ratio,
+}
+
+/// What the words of `at` ask for, before any limit.
+#[derive(Clone, Copy, Debug)]
+pub struct RawAt {
+    pub plane: PlaneWord,
+    pub frame: Option<FrameWord>,
+}
+
+/// The indices and the height that four words are.
+fn read_plane(h: &str, k: &str, l: &str, s: &str) -> Option<PlaneWord>
+    ensures { MatchOption result
+        ((row : Vector) (height : Fraction) → ¬ (IsPlaneWords h.now k.now l.now s.now row height))
+        (λ p. IsPlaneWords h.now k.now l.now s.now (plane_row p) (fraction_of p.s)) }
+{
+    let h = read_index(h)?;
+    let k = read_index(k)?;
+    let l = read_index(l)?;
+    let s = read_whole_ratio(s.as_bytes())?;
+    Some(PlaneWord { h, k, l, s })
+}
+
+/// The vectors that three words are.
+fn read_vectors(a: &[u8], b: &[u8], t: &[u8]) -> Option<FrameWord>
+    ensures { MatchOption result
+        ((f : FrameWords) → ¬ (AreVectorWords a.now b.now t.now f))
+        (λ f. AreVectorWords a.now b.now t.now (frame_of f)) }
+{
+    let a = read_vector(a)?;
+    let b = read_vector(b)?;
+    let tau = read_vector(t)?;
+    Some(FrameWord { a, b, tau })
+}
+
+/// The frame that the words behind a height give: none, or `--frame a b t`.
+fn read_frame(words: &[String]) -> Option<Option<FrameWord>>
+    ensures { MatchOption result
+        ((f : Option FrameWords) → ¬ (IsFrameWords (map string_bytes words.now) f))
+        (λ f. IsFrameWords (map string_bytes words.now) (option_map frame_of f)) }
+{
+    match words {
+        [] => Some(None),
+        [option, a, b, t] if option.as_str() == "--frame" => {
+            let frame = read_vectors(a.as_bytes(), b.as_bytes(), t.as_bytes())?;
+            Some(Some(frame))
+        }
+        _ => None,
+    }
+}
+
+/// What the words behind `at` ask for.
+fn read_plane_and_frame(h: &str, k: &str, l: &str, s: &str, others: &[String]) -> Option<RawAt>
+    ensures { MatchOption result
+        ((w : AtWords) → ¬ (ArePlaneAndFrame h.now k.now l.now s.now (map string_bytes others.now) w))
+        (λ raw. ArePlaneAndFrame h.now k.now l.now s.now (map string_bytes others.now) (asked raw)) }
+{
+    let plane = read_plane(h, k, l, s)?;
+    let frame = read_frame(others)?;
+    Some(RawAt { plane, frame })
+}
+
+/// What the words `at h k l s` ask for, with or without a frame behind them.
+pub fn read_at(words: &[String]) -> Option<RawAt>
+    ensures { MatchOption result
+        ((w : AtWords) → ¬ (IsAtWords (map string_bytes words.now) w))
+        (λ raw. IsAtWords (map string_bytes words.now) (asked raw)) }
+{
+    match words {
+        [command, h, k, l, s, others @ ..] if command.as_str() == "at" => {
+            read_plane_and_frame(h.as_str(), k.as_str(), l.as_str(), s.as_str(), others)
+        }
+        _ => None,
+    }
+}

@@ -1,0 +1,75 @@
+-- A text lists one thing or has one fault.
+use Rattle.std.proofs.Common.{◌≡◌, ℕ, zero, suc, ◌+◌, ◌<◌, List, [], ◌∷◌, take, Option, Some, None, Result, Ok, refl, sym, ◌∙◌, ap, subst, arith, inl, inr}
+use Rattle.std.specs.Prelude.{slice_get}
+use Rattle.std.proofs.lemmas.List.{take-take}
+use Rattle.symmetry.specs.Groups.{Listing}
+use Rattle.triplets.specs.declared.fault.TextKind.{TextKind}
+use Rattle.triplets.specs.Faults.{TableRow}
+use Rattle.triplets.specs.LineFaults.{IsPrefixOfGoodLine, IsLinePlace, HasLineKind, HasLineKindAt, IsLineFault}
+use Rattle.triplets.specs.Texts.{lines_of, IsGroupText, IsFirstBad, Fault, IsTextFault}
+use Rattle.triplets.proofs.TextShown.{shorter}
+use Rattle.triplets.proofs.Answered.{only_group, bad_lines}
+
+abbrev given : Listing → Result Listing Fault
+given g = Ok g
+
+pub one_listing : (text : List ℕ) (g g' : Listing) → IsGroupText text g → IsGroupText text g' → g ≡ g'
+one_listing text g g' h h' = let e : given g ≡ given g' = sym (only_group text g h) ∙ only_group text g' h' in cc
+
+-- ---- the place
+
+-- the beginning of a good line stops before the place of its fault
+not_behind : (l : List ℕ) (m n : ℕ) → IsLinePlace l m → IsLinePlace l n → m < n → ⊥
+not_behind l m n h h' lt =
+    h.here (omega (arith, h'.within)) (subst IsPrefixOfGoodLine (take-take (m + 1) n l (omega arith)) (shorter (take n l) (m + 1) h'.prefix))
+
+one_place : (l : List ℕ) (m n : ℕ) → IsLinePlace l m → IsLinePlace l n → m ≡ n
+one_place l m n h h' =
+    let a : m < n → ⊥ = not_behind l m n h h' in
+    let b : n < m → ⊥ = not_behind l n m h' h in
+    omega arith
+
+-- ---- the kind
+
+-- a row gives one kind, where the rows below it do
+row_one : {P Q Q' : Type 0} {named k k' : TextKind} → (Q → Q' → k ≡ k') → TableRow P named k Q → TableRow P named k' Q' → k ≡ k'
+row_one below (inl h) (inl h') = h.1 ∙ sym h'.1
+row_one below (inl h) (inr h') = absurd (h'.0 h.0)
+row_one below (inr h) (inl h') = absurd (h.0 h'.0)
+row_one below (inr h) (inr h') = below h.1 h'.1
+
+one_line_kind : (before : List ℕ) (b : ℕ) (k k' : TextKind) → HasLineKind before b k → HasLineKind before b k' → k ≡ k'
+one_line_kind before b k k' = row_one (row_one (row_one (row_one (row_one (row_one (row_one (row_one (λ e e'. e ∙ sym e'))))))))
+
+one_kind_at : (before : List ℕ) (at : Option ℕ) (k k' : TextKind) → HasLineKindAt before at k → HasLineKindAt before at k' → k ≡ k'
+one_kind_at before None k k' e e' = e ∙ sym e'
+one_kind_at before (Some b) k k' h h' = one_line_kind before b k k' h h'
+
+-- ---- the first bad line
+
+one_line_fault : (l : List ℕ) (m n : ℕ) (k k' : TextKind) → IsLineFault l m k → IsLineFault l n k' → (m ≡ n) × (k ≡ k')
+one_line_fault l m n k k' h h' =
+    let e = one_place l m n h.place h'.place in
+    (e, one_kind_at (take m l) (slice_get l m) k k' h.kind_is (subst (λ i. HasLineKindAt (take i l) (slice_get l i) k') (sym e) h'.kind_is))
+
+one_bad : (ls : List (List ℕ)) (i j m n : ℕ) (k k' : TextKind) → IsFirstBad ls i m k → IsFirstBad ls j n k' → (i ≡ j) × ((m ≡ n) × (k ≡ k'))
+one_bad [] i j m n k k' h h' = absurd h
+one_bad (l ∷ ls) zero zero m n k k' h h' = (refl, one_line_fault l m n k k' h h')
+one_bad (l ∷ ls) zero (suc j) m n k k' h h' = absurd (h.place.good h'.0)
+one_bad (l ∷ ls) (suc i) zero m n k k' h h' = absurd (h'.place.good h.0)
+one_bad (l ∷ ls) (suc i) (suc j) m n k k' h h' = let e = one_bad ls i j m n k k' h.1 h'.1 in (ap suc e.0, e.1)
+
+abbrev fault_with : ℕ → ℕ → TextKind → Fault
+fault_with line column kind = record { line = line; column = column; kind = kind }
+
+pub one_fault : (text : List ℕ) (f f' : Fault) → IsTextFault text f → IsTextFault text f' → f ≡ f'
+one_fault text f f' h h' =
+    let e = one_bad (lines_of text) h.0 h'.0 h.1 h'.1 f.kind f'.kind h.4 h'.4 in
+    let line : f.line ≡ f'.line = cc in
+    let column : f.column ≡ f'.column = cc in
+    let kind : f.kind ≡ f'.kind = e.1.1 in
+    let same : fault_with f.line f.column f.kind ≡ fault_with f'.line f'.column f'.kind = cc in
+    same
+
+pub no_listing_and_fault : (text : List ℕ) (g : Listing) (f : Fault) → IsTextFault text f → IsGroupText text g → ⊥
+no_listing_and_fault text g f h h' = bad_lines (lines_of text) h.0 h.1 f.kind g h.4 h'

@@ -1,0 +1,19 @@
+// What a text says is one thing. A call does nothing: its contract is the law, for a text of any length.
+ghost use Rattle.std.specs.Prelude.{◌≡◌, ℕ, List};
+ghost use Rattle.symmetry.specs.Groups.{Listing};
+ghost use Rattle.triplets.specs.Texts.{Fault, IsGroupText, IsTextFault};
+
+/// A text lists one thing.
+pub fn one_listing()
+    ensures { (text : List ℕ) (g g' : Listing) → IsGroupText text g → IsGroupText text g' → g ≡ g' }
+{}
+
+/// A text has one fault: the first bad line, the column at which no good line goes on, and the kind by the table.
+pub fn one_fault()
+    ensures { (text : List ℕ) (f f' : Fault) → IsTextFault text f → IsTextFault text f' → f ≡ f' }
+{}
+
+/// A text with a fault lists nothing.
+pub fn no_listing_and_fault()
+    ensures { (text : List ℕ) (g : Listing) (f : Fault) → IsTextFault text f → IsGroupText text g → ⊥ }
+{}
