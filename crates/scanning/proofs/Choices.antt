@@ -1,10 +1,9 @@
 -- What the stabiliser of a plane has at home of the coset of one operation.
-use Rattle.std.proofs.Common.{◌≡◌, ℤ, pos, negsuc, ◌+ℤ◌, ◌-ℤ◌, ◌*ℤ◌, ◌<ℤ◌, ◌⊎◌, inl, inr, None, Some, refl, sym, ◌∙◌, ap, subst, arith}
-use Rattle.std.specs.Prelude.{◌↔◌}
+use Rattle.std.proofs.Common.{◌≡◌, ℤ, pos, negsuc, ◌+ℤ◌, ◌-ℤ◌, ◌*ℤ◌, inl, inr, None, Some, sym, ◌∙◌, ap, arith}
 use Rattle.std.proofs.lemmas.Int.{ints}
 use Rattle.symmetry.specs.Vectors.{Vector, plus, minus, opposite, multiple, dot, row_times}
 use Rattle.symmetry.specs.Motions.{Motion}
-use Rattle.symmetry.specs.Planes.{Height, IsHeight, KeepsRow, TurnsRow}
+use Rattle.symmetry.specs.Planes.{Height, IsHeight}
 use Rattle.symmetry.specs.Groups.{Listing, IsMember, SameModulo, InRowStabiliser}
 use Rattle.symmetry.specs.Frames.{Basis, combination, IsFrame, IsAtHome, DiffersInPlane, KeepsOrientation}
 use Rattle.symmetry.specs.Lists.{IsChoice}

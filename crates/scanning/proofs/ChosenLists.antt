@@ -9,7 +9,7 @@ use Rattle.symmetry.specs.Motions.{Motion, identity}
 use Rattle.symmetry.specs.Planes.{Height, IsCoprime, IsHeight}
 use Rattle.symmetry.specs.Groups.{Listing, IsGroup, InRowStabiliser, InStabiliser, IsMember, SameModulo}
 use Rattle.symmetry.specs.Frames.{Basis, IsAtHome}
-use Rattle.symmetry.specs.Lists.{motion_at, AreChosen, no_more, passed, taken, AreCovered, IsChoice, IsListOf, IsSameness}
+use Rattle.symmetry.specs.Lists.{AreChosen, no_more, passed, taken, AreCovered, IsChoice, IsListOf}
 use Rattle.symmetry.specs.Sizes.{IsSmall}
 use Rattle.symmetry.proofs.LatticeLaws.{listed_member, same_sym, same_trans}
 use Rattle.symmetry.proofs.ListFacts.{chosen_is_list}

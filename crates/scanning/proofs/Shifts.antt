@@ -1,8 +1,8 @@
 -- How far a vector leads across the planes, and what the code computes of it.
-use Rattle.std.proofs.Common.{◌≡◌, ℕ, ◌*◌, ◌≤◌, ℤ, ◌-ℤ◌, ◌*ℤ◌, unsigned_abs, Option, Some, None, MatchOption, IfSome, FitsSigned, w64, [], ◌∷◌, ◌∙◌, ap, sym, subst, lit<, lit≤, arith}
+use Rattle.std.proofs.Common.{◌≡◌, ℕ, ◌≤◌, ℤ, ◌-ℤ◌, ◌*ℤ◌, unsigned_abs, Option, Some, None, MatchOption, IfSome, FitsSigned, w64, [], ◌∷◌, ◌∙◌, ap, sym, subst, arith}
 use Rattle.fractions.specs.declared.part.TheConstants.{UNIT}
 use Rattle.integers.specs.Size.{IsWithin}
-use Rattle.integers.proofs.Coded.{again, again_is, code_fits, code_is}
+use Rattle.integers.proofs.Coded.{again, code_fits, code_is}
 use Rattle.integers.proofs.Ring.{IsWithin-add, IsWithin-mul, IsWithin-sub}
 use Rattle.integers.proofs.Solver.{Expr.{var, ◌⊝◌}}
 use Rattle.symmetry.specs.Sizes.{IsVectorWithin}

@@ -1,5 +1,5 @@
 -- The difference is exact, so its quotient is that of the definition.
-use Rattle.std.proofs.Common.{◌≡◌, ◌*◌, ℤ, unsigned_abs, sym, subst, lit<}
+use Rattle.std.proofs.Common.{◌≡◌, ◌*◌, ℤ, unsigned_abs, subst, lit<}
 use Rattle.fractions.specs.declared.part.TheConstants.{UNIT}
 use Rattle.integers.specs.Size.{IsWithin}
 use Rattle.integers.proofs.Coded.{again, again_is}

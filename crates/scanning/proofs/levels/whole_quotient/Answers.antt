@@ -1,5 +1,5 @@
 -- A remainder other than 0 leaves no whole quotient.
-use Rattle.std.proofs.Common.{◌≡◌, pos, sym, ap, ◌∙◌, of_z, w64}
+use Rattle.std.proofs.Common.{sym, ap, ◌∙◌, of_z, w64}
 use Rattle.std.specs.Prelude.{int_rem}
 use Rattle.std.proofs.lemmas.Int.{to_z-of_z}
 use Rattle.scanning.proofs.Remainders.{rem-multiple}

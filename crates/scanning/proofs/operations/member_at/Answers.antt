@@ -5,7 +5,6 @@ use Rattle.fractions.specs.FractionOf.{fraction_of}
 use Rattle.fractions.specs.declared.ratio.Ratio.{Ratio}
 use Rattle.integers.specs.Size.{IsWithin}
 use Rattle.integers.proofs.Coded.{again, again_is}
-use Rattle.symmetry.specs.Groups.{SameModulo}
 use Rattle.symmetry.specs.Motions.{Motion}
 use Rattle.symmetry.specs.Vectors.{dot}
 use Rattle.motions.specs.Views.{motion_of, row_of}
