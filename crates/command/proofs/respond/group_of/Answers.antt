@@ -1,6 +1,5 @@
 use Rattle.std.proofs.lemmas.Result.{err_from_is_err_and}
 use Rattle.motions.specs.Views.{listing_of}
-use Rattle.closure.proofs.OwnLattice.{own_lattice}
 use Rattle.command.proofs.GroupCauses.{group_obstacle}
 use Rattle.command.proofs.respond.group_of.Goals as goal
 
@@ -18,7 +17,7 @@ returns-clause-group c = record {
     is_group = c.in_ok-make.ensures.group;
   };
   alike = record {
-    lattice = λ t. (λ i. (own_lattice c.in_ok-make.field-0 t).0 ((c.in_ok-make.ensures.lattice t).1 i), λ i. (c.in_ok-make.ensures.lattice t).0 ((own_lattice c.in_ok-make.field-0 t).1 i));
+    lattice = c.in_ok-make.ensures.vectors;
     members = c.in_ok-make.ensures.members;
     order = c.in_ok-make.ensures.order;
   };
