@@ -10,6 +10,8 @@ mod refusal;
 mod request;
 mod respond;
 mod run;
+#[cfg(test)]
+mod tests;
 mod words;
 
 use devices::{RealSink, RealSource};
