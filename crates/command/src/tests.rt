@@ -120,7 +120,10 @@ fn an_input_one_byte_too_long_is_refused(rt: HostRuntime) -> Result<(), Fail> {
     assert_eq!(rt; ran.outcome, Outcome::Refused(Refusal::TooLong));
     assert_eq!(rt; ran.outcome.code(), 1);
     assert_eq!(rt; ran.out.held(), b"".as_slice());
-    assert_eq!(rt; ran.complaints.held(), b"refused: input too long\n".as_slice());
+    assert_eq!(rt;
+        ran.complaints.held(),
+        b"refused: input too long\n".as_slice()
+    );
     Ok(())
 }
 
