@@ -1,4 +1,6 @@
-// The program.
+// The program: words and a group text in, the answer or the line of one refusal out.
+//
+// Promises to its user: the contract of `run`, over the words, the standard streams and the status of the process.
 #![tactic(auto)]
 
 mod at_text;
