@@ -1,3 +1,4 @@
 pub mod Bounds
 pub mod Levels
 pub mod Members
+pub mod ScanView

@@ -3,10 +3,14 @@
 // Promises to the crates above: `operations_at` gives the list of the stabiliser of a plane.
 #![tactic(auto)]
 
+mod height;
 mod levels;
 mod operations;
 mod raised;
+mod scan;
 #[cfg(test)]
 mod tests;
 
+pub use height::Height;
 pub use operations::{NoMemory, operations_at};
+pub use scan::Scan;

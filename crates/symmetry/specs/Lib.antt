@@ -5,3 +5,5 @@ pub mod Groups
 pub mod Sizes
 pub mod Frames
 pub mod Lists
+pub mod Scans
+pub mod Orbits
