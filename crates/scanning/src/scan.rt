@@ -1,4 +1,8 @@
 // The planes of an orientation, height by height.
+ghost use Rattle.std.specs.Prelude.{All, AllPairs};
+ghost use Rattle.symmetry.specs.Scans.{IsInPeriod, IsLower};
+ghost use Rattle.scanning.specs.HeightView.{IsInHalves, levels_of};
+
 use crate::height::Height;
 use motions::Motion3;
 use plane_lattice::Frame;
@@ -13,4 +17,7 @@ pub struct Scan {
     pub general: Vec<Motion3>,
     pub special: Vec<Height>,
     pub frame: Frame,
+    pub ghost in_period: { All (IsInPeriod frame.period.0) (levels_of special.items) },
+    pub ghost rising: { AllPairs IsLower (levels_of special.items) },
+    pub ghost halves: { All IsInHalves (levels_of special.items) },
 }
