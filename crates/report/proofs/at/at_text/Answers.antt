@@ -1,12 +1,12 @@
 use Rattle.std.proofs.Common.{◌∙◌, arith}
-use Rattle.command.proofs.TextLines.{one_line_more}
+use Rattle.report.proofs.TextLines.{one_line_more}
 use Rattle.motions.specs.Views.{motion_of}
 use Rattle.std.proofs.Common.{◌++◌}
 use Rattle.std.specs.Prelude.{codes}
 use Rattle.fractions.specs.FractionOf.{fraction_of}
 use Rattle.fractions.specs.RatioText.{ratio_text}
-use Rattle.command.specs.Texts.{operation_line}
-use Rattle.command.proofs.at_text.at_text.Goals as goal
+use Rattle.report.specs.Texts.{operation_line}
+use Rattle.report.proofs.at.at_text.Goals as goal
 
 pub loop-m-preserved : goal.loop-m-preserved
 loop-m-preserved c =

@@ -3,8 +3,8 @@ use Rattle.std.specs.Prelude.{codes, flat_map}
 use Rattle.fractions.specs.FractionOf.{fraction_of}
 use Rattle.fractions.specs.RatioText.{ratio_text}
 use Rattle.motions.specs.Views.{motion_of}
-use Rattle.command.specs.Texts.{operation_line}
-use Rattle.command.proofs.at_text.at_text.Given as goal
+use Rattle.report.specs.Texts.{operation_line}
+use Rattle.report.proofs.at.at_text.Given as goal
 
 abbrev pub invariant-loop-m : goal.invariant-loop-m
 invariant-loop-m l =

@@ -2,12 +2,15 @@
 ghost use Rattle.std.specs.Prelude.{◌≡◌, ◌++◌, IfOk, OnOk, map};
 ghost use Rattle.fractions.specs.FractionOf.{fraction_of};
 ghost use Rattle.motions.specs.Views.{motion_of};
-ghost use Rattle.command.specs.Texts.{at_text, operation_line};
+ghost use Rattle.report.specs.Texts.{at_text, operation_line};
 
-use fractions::{NoMemory, Ratio, write_ratio};
+use fractions::{Ratio, write_ratio};
 use motions::Motion3;
-use std::alloc::Global;
+use std::alloc::{AllocError, Global};
 use triplets::write_triplet;
+
+/// Memory ran out.
+pub type NoMemory = AllocError;
 
 /// The text of a height and of the operations at it: `height s`, a line `op` for each, and `end`.
 pub fn at_text(alloc: Global, s: Ratio, ops: &[Motion3]) -> Result<Vec<u8>, NoMemory>
