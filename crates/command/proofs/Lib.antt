@@ -1,6 +1,7 @@
 pub mod Indices
 pub mod VectorFacts
 pub mod WordLists
+pub mod Arguments
 pub mod EntrySizes
 pub mod TextLines
 pub mod LimitFacts

@@ -1,4 +1,4 @@
--- Words ask for one plane at the most, or are refused.
+-- Words ask for one thing at the most, or are refused.
 use Rattle.std.proofs.Common.{◌≡◌, ℕ, ◌*◌, ℤ, pos, ◌*ℤ◌, List, Option, Some, None, sym, ap, ◌∙◌, subst, arith}
 use Rattle.std.specs.Prelude.{unsigned_abs}
 use Rattle.integers.proofs.Ring.{mul_right_cancel}
@@ -9,11 +9,11 @@ use Rattle.symmetry.specs.Frames.{Basis}
 use Rattle.symmetry.proofs.VectorLaws.{vector_path}
 use Rattle.motions.specs.declared.plane_fault.PlaneFault.TheVariants as planes
 use Rattle.command.specs.declared.refusal.Refusal.{Refusal}
-use Rattle.command.specs.declared.refusal.Refusal.TheVariants.{Usage, OutOfRange, AllZero, NotCoprime, FrameLimit, HeightLimit, TooLong, Text, TooMany, TooFine, NoIdentity, ShiftMoved, NotClosed, NoInverse, NotFrame, SkewFrame}
-use Rattle.command.specs.Words.{AtWords, Fractions, FrameWords}
+use Rattle.command.specs.declared.refusal.Refusal.TheVariants.{Usage, OutOfRange, AllZero, NotCoprime, FrameLimit, HeightLimit}
+use Rattle.command.specs.Words.{Command, Fractions, FrameWords, at_words, layers_words, images_words, types_words}
 use Rattle.command.specs.Limits.{IsFrameEntry, AreFrameEntries, IsFrameInRange, IsInParts, IsBasisOf}
-use Rattle.command.specs.Requests.{PlaneAt, Asks, PassesLimit, IsRequest, IsWordsRefusal}
-use Rattle.command.proofs.OneReading.{at_words_once}
+use Rattle.command.specs.Requests.{Asked, at_height, all_heights, image_rows, type_table, AreInRange, Asks, AsksPlane, PassesLimit, PassesPlaneLimit, PlaneWords, IsRequest, IsWordsRefusal, height_words, frame_words, row_words}
+use Rattle.command.proofs.OneReading.{command_once}
 
 -- a denominator that divides the unit is not 0
 den_not_zero : (q : Fraction) → IsFrameEntry q → q.den ≡ pos 0 → ⊥
@@ -37,36 +37,71 @@ one_basis (Some frame) b c range e f = λ i. record {
   tau = one_vector frame.tau b.tau c.tau range.tau e.tau f.tau i;
 }
 
-one_asked : (w : AtWords) (at at' : PlaneAt) → Asks w at → Asks w at' → at ≡ at'
-one_asked w at at' p q =
-    let basis : at.basis ≡ at'.basis = one_basis w.frame at.basis at'.basis p.frame_in_range p.basis q.basis in
-    λ i. record { row = (p.row ∙ sym q.row) i; basis = basis i; height = (p.height ∙ sym q.height) i }
+-- ---- one request
 
-pub one_request : (words : List (List ℕ)) (at at' : PlaneAt) → IsRequest words at → IsRequest words at' → at ≡ at'
-one_request words at at' p q =
-    one_asked p.words_of at at' p.asks
-    (subst (λ (w : AtWords). Asks w at') (at_words_once words q.words_of p.words_of q.are_words p.are_words) q.asks)
+one_row : (w : PlaneWords) (r r' : Vector) (b b' : Basis) → AsksPlane w r b → AsksPlane w r' b' → r ≡ r'
+one_row w r r' b b' p q = p.row_is ∙ sym q.row_is
 
--- words that ask for a plane in range are refused for nothing
-asked_in_range : (w : AtWords) (at : PlaneAt) (refusal : Refusal) → Asks w at → PassesLimit w refusal → ⊥
-asked_in_range w at OutOfRange p h = p.plane_in_range planes.OutOfRange h
-asked_in_range w at AllZero p h = p.plane_in_range planes.AllZero h
-asked_in_range w at (NotCoprime g) p h = p.plane_in_range (planes.NotCoprime g) h
-asked_in_range w at FrameLimit p h = h.1 p.frame_in_range
-asked_in_range w at HeightLimit p h = h.2 p.height_in_range
-asked_in_range w at Usage p h = h
-asked_in_range w at TooLong p h = h
-asked_in_range w at (Text line column kind) p h = h
-asked_in_range w at (TooMany n) p h = h
-asked_in_range w at TooFine p h = h
-asked_in_range w at NoIdentity p h = h
-asked_in_range w at (ShiftMoved i) p h = h
-asked_in_range w at (NotClosed i j) p h = h
-asked_in_range w at (NoInverse i) p h = h
-asked_in_range w at NotFrame p h = h
-asked_in_range w at SkewFrame p h = h
+one_basis_of : (w : PlaneWords) (r r' : Vector) (b b' : Basis) → AsksPlane w r b → AsksPlane w r' b' → b ≡ b'
+one_basis_of w r r' b b' p q = one_basis w.frame b b' p.in_range.frame p.basis_is q.basis_is
 
-pub not_refused : (words : List (List ℕ)) (at : PlaneAt) (refusal : Refusal) → IsRequest words at → IsWordsRefusal words refusal → ⊥
-not_refused words at Usage p h = h p.words_of p.are_words
-not_refused words at refusal p h =
-    asked_in_range p.words_of at refusal p.asks (subst (λ (w : AtWords). PassesLimit w refusal) (at_words_once words h.0 p.words_of h.1 p.are_words) h.2)
+one_asked : (c : Command) (a a' : Asked) → Asks c a → Asks c a' → a ≡ a'
+one_asked (at_words row frame s) (at_height r b t) (at_height r' b' t') p q =
+    let w = height_words row frame s in
+    λ i. at_height (one_row w r r' b b' p.0 q.0 i) (one_basis_of w r r' b b' p.0 q.0 i) ((p.1 ∙ sym q.1) i)
+one_asked (layers_words row frame) (all_heights r b) (all_heights r' b') p q =
+    let w = frame_words row frame in
+    λ i. all_heights (one_row w r r' b b' p q i) (one_basis_of w r r' b b' p q i)
+one_asked (images_words row) (image_rows r) (image_rows r') p q = ap image_rows (p.0 ∙ sym q.0)
+one_asked (types_words kind n) (type_table k m) (type_table k' m') p q = λ i. type_table ((p.0 ∙ sym q.0) i) ((p.1 ∙ sym q.1) i)
+one_asked (at_words row frame s) (at_height r b t) (all_heights r' b') p q = absurd q
+one_asked (at_words row frame s) (at_height r b t) (image_rows r') p q = absurd q
+one_asked (at_words row frame s) (at_height r b t) (type_table k m) p q = absurd q
+one_asked (layers_words row frame) (all_heights r b) (at_height r' b' t) p q = absurd q
+one_asked (layers_words row frame) (all_heights r b) (image_rows r') p q = absurd q
+one_asked (layers_words row frame) (all_heights r b) (type_table k m) p q = absurd q
+one_asked (images_words row) (image_rows r) (at_height r' b' t) p q = absurd q
+one_asked (images_words row) (image_rows r) (all_heights r' b') p q = absurd q
+one_asked (images_words row) (image_rows r) (type_table k m) p q = absurd q
+one_asked (types_words kind n) (type_table k m) (at_height r' b' t) p q = absurd q
+one_asked (types_words kind n) (type_table k m) (all_heights r' b') p q = absurd q
+one_asked (types_words kind n) (type_table k m) (image_rows r') p q = absurd q
+one_asked (at_words row frame s) (all_heights r b) a' p q = absurd p
+one_asked (at_words row frame s) (image_rows r) a' p q = absurd p
+one_asked (at_words row frame s) (type_table k m) a' p q = absurd p
+one_asked (layers_words row frame) (at_height r b t) a' p q = absurd p
+one_asked (layers_words row frame) (image_rows r) a' p q = absurd p
+one_asked (layers_words row frame) (type_table k m) a' p q = absurd p
+one_asked (images_words row) (at_height r b t) a' p q = absurd p
+one_asked (images_words row) (all_heights r b) a' p q = absurd p
+one_asked (images_words row) (type_table k m) a' p q = absurd p
+one_asked (types_words kind n) (at_height r b t) a' p q = absurd p
+one_asked (types_words kind n) (all_heights r b) a' p q = absurd p
+one_asked (types_words kind n) (image_rows r) a' p q = absurd p
+
+pub one_request : (words : List (List ℕ)) (a a' : Asked) → IsRequest words a → IsRequest words a' → a ≡ a'
+one_request words a a' p q =
+    one_asked p.command a a' p.asks (subst (λ (c : Command). Asks c a') (command_once words q.command p.command q.is_command p.is_command) q.asks)
+
+-- ---- words that ask for something in range are refused for nothing
+
+plane_in_range : (w : PlaneWords) (refusal : Refusal) → AreInRange w → PassesPlaneLimit w refusal → ⊥
+plane_in_range w OutOfRange p h = p.plane planes.OutOfRange h
+plane_in_range w AllZero p h = p.plane planes.AllZero h
+plane_in_range w (NotCoprime g) p h = p.plane (planes.NotCoprime g) h
+plane_in_range w FrameLimit p h = h.1 p.frame
+plane_in_range w HeightLimit p h = h.2 p.height
+plane_in_range w _ p h = absurd h
+
+asked_in_range : (c : Command) (a : Asked) (refusal : Refusal) → Asks c a → PassesLimit c refusal → ⊥
+asked_in_range (at_words row frame s) (at_height r b t) refusal p h = plane_in_range (height_words row frame s) refusal p.0.in_range h
+asked_in_range (layers_words row frame) (all_heights r b) refusal p h = plane_in_range (frame_words row frame) refusal p.in_range h
+asked_in_range (images_words row) (image_rows r) refusal p h = plane_in_range (row_words row) refusal p.1 h
+asked_in_range (types_words kind n) a refusal p h = h
+asked_in_range _ _ refusal p h = absurd p
+
+pub not_refused : (words : List (List ℕ)) (a : Asked) (refusal : Refusal) → IsRequest words a → IsWordsRefusal words refusal → ⊥
+not_refused words a Usage p h = h p.command p.is_command
+not_refused words a refusal p h =
+    asked_in_range p.command a refusal p.asks
+    (subst (λ (c : Command). PassesLimit c refusal) (command_once words h.0 p.command h.1 p.is_command) h.2)

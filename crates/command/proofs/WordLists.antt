@@ -1,10 +1,8 @@
 -- Words, taken from the list that has them.
 use Rattle.std.proofs.Common.{◌≡◌, ℕ, ◌<◌, ◌≤◌, List, [], ◌∷◌, length, map, take, drop, ◌-◌, get_or, Option, Some, None, sym, subst, arith}
 use Rattle.std.proofs.lemmas.List.{take_all}
-use Rattle.command.specs.Words.{AtWords, FrameWords, AreVectorWords, IsFrameWords, ArePlaneAndFrame, IsAtWords}
-use Rattle.std.specs.Prelude.{codes, MatchOption}
-use Rattle.command.specs.declared.words.RawAt.{RawAt}
-use Rattle.command.specs.VectorWords.{asked}
+use Rattle.command.specs.Words.{FrameWords, AreVectorWords, IsFrameWords}
+use Rattle.std.specs.Prelude.{codes}
 
 pub four : {A B : Type 0} (f : A → B) (xs : List A) (a b c d : A) → 4 ≤ length xs → length xs < 5
     → a ≡ get_or xs 0 a → b ≡ get_or xs 1 b → c ≡ get_or xs 2 c → d ≡ get_or xs 3 d → map f xs ≡ f a ∷ f b ∷ f c ∷ f d ∷ []
@@ -15,17 +13,48 @@ four f (x ∷ y ∷ z ∷ []) a b c d h l p q r s = absurd (omega arith)
 four f (x ∷ y ∷ z ∷ w ∷ []) a b c d h l p q r s = λ i. f (sym p i) ∷ f (sym q i) ∷ f (sym r i) ∷ f (sym s i) ∷ []
 four f (x ∷ y ∷ z ∷ w ∷ v ∷ vs) a b c d h l p q r s = absurd (omega arith)
 
-pub five : {A B : Type 0} (f : A → B) (xs : List A) (a b c d e : A) → 5 ≤ length xs
-    → a ≡ get_or xs 0 a → b ≡ get_or xs 1 b → c ≡ get_or xs 2 c → d ≡ get_or xs 3 d → e ≡ get_or xs 4 e
-    → map f xs ≡ f a ∷ f b ∷ f c ∷ f d ∷ f e ∷ map f (take (length xs - 5) (drop 5 xs))
-five f [] a b c d e h p q r s t = absurd (omega arith)
-five f (x ∷ []) a b c d e h p q r s t = absurd (omega arith)
-five f (x ∷ y ∷ []) a b c d e h p q r s t = absurd (omega arith)
-five f (x ∷ y ∷ z ∷ []) a b c d e h p q r s t = absurd (omega arith)
-five f (x ∷ y ∷ z ∷ w ∷ []) a b c d e h p q r s t = absurd (omega arith)
-five f (x ∷ y ∷ z ∷ w ∷ v ∷ vs) a b c d e h p q r s t =
-    let rest : take (length (x ∷ y ∷ z ∷ w ∷ v ∷ vs) - 5) vs ≡ vs = take_all _ vs (omega arith) in
-    λ i. f (sym p i) ∷ f (sym q i) ∷ f (sym r i) ∷ f (sym s i) ∷ f (sym t i) ∷ map f (sym rest i)
+-- the first words, and the others behind them
+pub one_and : {A B : Type 0} (f : A → B) (xs : List A) (a : A) → 1 ≤ length xs → a ≡ get_or xs 0 a
+    → map f xs ≡ f a ∷ map f (take (length xs - 1) (drop 1 xs))
+one_and f [] a h p = absurd (omega arith)
+one_and f (x ∷ xs) a h p =
+    let rest : take (length (x ∷ xs) - 1) xs ≡ xs = take_all _ xs (omega arith) in
+    λ i. f (sym p i) ∷ map f (sym rest i)
+
+pub three_and : {A B : Type 0} (f : A → B) (xs : List A) (a b c : A) → 3 ≤ length xs → a ≡ get_or xs 0 a → b ≡ get_or xs 1 b → c ≡ get_or xs 2 c
+    → map f xs ≡ f a ∷ f b ∷ f c ∷ map f (take (length xs - 3) (drop 3 xs))
+three_and f [] a b c h p q r = absurd (omega arith)
+three_and f (x ∷ []) a b c h p q r = absurd (omega arith)
+three_and f (x ∷ y ∷ []) a b c h p q r = absurd (omega arith)
+three_and f (x ∷ y ∷ z ∷ zs) a b c h p q r =
+    let rest : take (length (x ∷ y ∷ z ∷ zs) - 3) zs ≡ zs = take_all _ zs (omega arith) in
+    λ i. f (sym p i) ∷ f (sym q i) ∷ f (sym r i) ∷ map f (sym rest i)
+
+pub four_and : {A B : Type 0} (f : A → B) (xs : List A) (a b c d : A) → 4 ≤ length xs
+    → a ≡ get_or xs 0 a → b ≡ get_or xs 1 b → c ≡ get_or xs 2 c → d ≡ get_or xs 3 d
+    → map f xs ≡ f a ∷ f b ∷ f c ∷ f d ∷ map f (take (length xs - 4) (drop 4 xs))
+four_and f [] a b c d h p q r s = absurd (omega arith)
+four_and f (x ∷ []) a b c d h p q r s = absurd (omega arith)
+four_and f (x ∷ y ∷ []) a b c d h p q r s = absurd (omega arith)
+four_and f (x ∷ y ∷ z ∷ []) a b c d h p q r s = absurd (omega arith)
+four_and f (x ∷ y ∷ z ∷ w ∷ ws) a b c d h p q r s =
+    let rest : take (length (x ∷ y ∷ z ∷ w ∷ ws) - 4) ws ≡ ws = take_all _ ws (omega arith) in
+    λ i. f (sym p i) ∷ f (sym q i) ∷ f (sym r i) ∷ f (sym s i) ∷ map f (sym rest i)
+
+pub two : {A B : Type 0} (f : A → B) (xs : List A) (a b : A) → 2 ≤ length xs → length xs < 3 → a ≡ get_or xs 0 a → b ≡ get_or xs 1 b
+    → map f xs ≡ f a ∷ f b ∷ []
+two f [] a b h l p q = absurd (omega arith)
+two f (x ∷ []) a b h l p q = absurd (omega arith)
+two f (x ∷ y ∷ []) a b h l p q = λ i. f (sym p i) ∷ f (sym q i) ∷ []
+two f (x ∷ y ∷ z ∷ zs) a b h l p q = absurd (omega arith)
+
+pub three : {A B : Type 0} (f : A → B) (xs : List A) (a b c : A) → 3 ≤ length xs → length xs < 4 → a ≡ get_or xs 0 a → b ≡ get_or xs 1 b → c ≡ get_or xs 2 c
+    → map f xs ≡ f a ∷ f b ∷ f c ∷ []
+three f [] a b c h l p q r = absurd (omega arith)
+three f (x ∷ []) a b c h l p q r = absurd (omega arith)
+three f (x ∷ y ∷ []) a b c h l p q r = absurd (omega arith)
+three f (x ∷ y ∷ z ∷ []) a b c h l p q r = λ i. f (sym p i) ∷ f (sym q i) ∷ f (sym r i) ∷ []
+three f (x ∷ y ∷ z ∷ w ∷ ws) a b c h l p q r = absurd (omega arith)
 
 -- ---- a frame
 
@@ -56,26 +85,3 @@ not_more_words (a ∷ b ∷ c ∷ []) l f h = absurd (omega arith)
 not_more_words (a ∷ b ∷ c ∷ d ∷ []) l f h = absurd (omega arith)
 not_more_words (a ∷ b ∷ c ∷ d ∷ e ∷ es) l None h = h
 not_more_words (a ∷ b ∷ c ∷ d ∷ e ∷ es) l (Some f) h = h
-
--- ---- the words of `at`
-
-module _ (words : List (List ℕ)) (command h k l s : List ℕ) (others : List (List ℕ)) (is : words ≡ command ∷ h ∷ k ∷ l ∷ s ∷ others) where
-  pub no_at : ((w : AtWords) → ArePlaneAndFrame h k l s others w → ⊥) → (w : AtWords) → IsAtWords words w → ⊥
-  no_at none w at = none w (subst (λ (ws : List (List ℕ)). IsAtWords ws w) is at).1
-
-  pub one_at : command ≡ codes "at" → (w : AtWords) → ArePlaneAndFrame h k l s others w → IsAtWords words w
-  one_at name w at = subst (λ (ws : List (List ℕ)). IsAtWords ws w) (sym is) (name, at)
-
-pub not_few_words : (words : List (List ℕ)) → length words < 5 → (w : AtWords) → IsAtWords words w → ⊥
-not_few_words [] u w at = at
-not_few_words (a ∷ []) u w at = at
-not_few_words (a ∷ b ∷ []) u w at = at
-not_few_words (a ∷ b ∷ c ∷ []) u w at = at
-not_few_words (a ∷ b ∷ c ∷ d ∷ []) u w at = at
-not_few_words (a ∷ b ∷ c ∷ d ∷ e ∷ es) u w at = absurd (omega arith)
-
-pub at_answer : (words : List (List ℕ)) (command h k l s : List ℕ) (others : List (List ℕ)) → words ≡ command ∷ h ∷ k ∷ l ∷ s ∷ others → command ≡ codes "at"
-    → (r : Option RawAt) → MatchOption r ((w : AtWords) → ArePlaneAndFrame h k l s others w → ⊥) (λ raw. ArePlaneAndFrame h k l s others (asked raw))
-    → MatchOption r ((w : AtWords) → IsAtWords words w → ⊥) (λ raw. IsAtWords words (asked raw))
-at_answer words command h k l s others is name None none = no_at words command h k l s others is none
-at_answer words command h k l s others is name (Some raw) one = one_at words command h k l s others is name (asked raw) one

@@ -43,6 +43,11 @@ pub record IsHeightInRange (s : Fraction) : Type 0 where
   pub num : IsWithin 1000000000 s.num
   pub den : IsWithin 1000000000 s.den
 
+-- the same, where a height is given
+abbrev pub IsHeightLimit : Option Fraction → Type 0
+IsHeightLimit None = Unit {0}
+IsHeightLimit (Some s) = IsHeightInRange s
+
 -- three fractions, counted in parts
 pub record IsInParts (v : Fractions) (parts : Vector) : Type 0 where
   pub x : parts.x *ℤ v.x.den ≡ v.x.num *ℤ UNIT

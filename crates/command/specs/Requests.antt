@@ -1,30 +1,59 @@
 -- Requests, and why words are refused.
-use Rattle.std.specs.Prelude.{◌≡◌, ℕ, List}
+use Rattle.std.specs.Prelude.{◌≡◌, ℕ, List, Option, Some, None}
 use Rattle.fractions.specs.Fraction.{Fraction}
 use Rattle.symmetry.specs.Vectors.{Vector}
 use Rattle.symmetry.specs.Frames.{Basis}
 use Rattle.motions.specs.declared.plane_fault.PlaneFault.{PlaneFault}
 use Rattle.motions.specs.declared.plane_fault.PlaneFault.TheVariants as planes
 use Rattle.motions.specs.PlaneFaults.{IsPlaneFault}
+use Rattle.report.specs.declared.kind.Kind.{Kind}
 use Rattle.command.specs.declared.refusal.Refusal.{Refusal}
 use Rattle.command.specs.declared.refusal.Refusal.TheVariants.{Usage, OutOfRange, AllZero, NotCoprime, FrameLimit, HeightLimit}
-use Rattle.command.specs.Words.{AtWords, IsAtWords}
-use Rattle.command.specs.Limits.{IsPlane, IsFrameInRange, IsHeightInRange, IsBasisOf}
+use Rattle.command.specs.Words.{Command, at_words, layers_words, images_words, types_words, FrameWords, IsCommand}
+use Rattle.command.specs.Limits.{IsPlane, IsFrameInRange, IsHeightLimit, IsHeightInRange, IsBasisOf}
 
--- a plane by its row and its height, and the vectors of a frame in parts
-pub record PlaneAt : Type 0 where
+-- what is asked: the operations at one height, those at all heights, the images of an orientation, or the table of a type
+pub data Asked : Type 0 where
+  at_height : (row : Vector) (basis : Basis) (height : Fraction) → Asked
+  all_heights : (row : Vector) (basis : Basis) → Asked
+  image_rows : (row : Vector) → Asked
+  type_table : (kind : Kind) (n : ℕ) → Asked
+
+-- what words say of a plane: its indices, the vectors of a frame and a height, where they have them
+pub record PlaneWords : Type 0 where
   pub row : Vector
-  pub basis : Basis
-  pub height : Fraction
+  pub frame : Option FrameWords
+  pub height : Option Fraction
 
--- the plane and the frame are what the words ask for, and within the limits
-pub record Asks (w : AtWords) (at : PlaneAt) : Type 0 where
-  pub row : at.row ≡ w.row
-  pub basis : IsBasisOf w.frame at.basis
-  pub height : at.height ≡ w.height
-  pub plane_in_range : IsPlane w.row
-  pub frame_in_range : IsFrameInRange w.frame
-  pub height_in_range : IsHeightInRange w.height
+-- the words are within the limits
+pub record AreInRange (w : PlaneWords) : Type 0 where
+  pub plane : IsPlane w.row
+  pub frame : IsFrameInRange w.frame
+  pub height : IsHeightLimit w.height
+
+-- the row is that of the words and the vectors are those of the frame, within the limits
+pub record AsksPlane (w : PlaneWords) (row : Vector) (basis : Basis) : Type 0 where
+  pub row_is : row ≡ w.row
+  pub basis_is : IsBasisOf w.frame basis
+  pub in_range : AreInRange w
+
+-- what words of `at` say of a plane, and those of `layers` and of `images`
+abbrev pub height_words : Vector → Option FrameWords → Fraction → PlaneWords
+height_words row frame height = record { row = row; frame = frame; height = Some height }
+
+abbrev pub frame_words : Vector → Option FrameWords → PlaneWords
+frame_words row frame = record { row = row; frame = frame; height = None }
+
+abbrev pub row_words : Vector → PlaneWords
+row_words row = record { row = row; frame = None; height = None }
+
+-- the command asks for this, within the limits
+abbrev pub Asks : Command → Asked → Type 0
+Asks (at_words row frame height) (at_height r basis s) = AsksPlane (height_words row frame height) r basis × (s ≡ height)
+Asks (layers_words row frame) (all_heights r basis) = AsksPlane (frame_words row frame) r basis
+Asks (images_words row) (image_rows r) = (r ≡ row) × AreInRange (row_words row)
+Asks (types_words kind n) (type_table k m) = (k ≡ kind) × (m ≡ n)
+Asks _ _ = ⊥
 
 -- the refusal of indices that are no Miller indices
 abbrev pub plane_refusal : PlaneFault → Refusal
@@ -32,22 +61,29 @@ plane_refusal planes.OutOfRange = OutOfRange
 plane_refusal planes.AllZero = AllZero
 plane_refusal (planes.NotCoprime g) = NotCoprime g
 
--- the first limit that the words pass
-abbrev pub PassesLimit : AtWords → Refusal → Type 0
-PassesLimit w OutOfRange = IsPlaneFault w.row planes.OutOfRange
-PassesLimit w AllZero = IsPlaneFault w.row planes.AllZero
-PassesLimit w (NotCoprime g) = IsPlaneFault w.row (planes.NotCoprime g)
-PassesLimit w FrameLimit = IsPlane w.row × ¬ IsFrameInRange w.frame
-PassesLimit w HeightLimit = IsPlane w.row × IsFrameInRange w.frame × ¬ IsHeightInRange w.height
-PassesLimit w _ = ⊥
+-- the first limit that words of a plane pass
+abbrev pub PassesPlaneLimit : PlaneWords → Refusal → Type 0
+PassesPlaneLimit w OutOfRange = IsPlaneFault w.row planes.OutOfRange
+PassesPlaneLimit w AllZero = IsPlaneFault w.row planes.AllZero
+PassesPlaneLimit w (NotCoprime g) = IsPlaneFault w.row (planes.NotCoprime g)
+PassesPlaneLimit w FrameLimit = IsPlane w.row × ¬ IsFrameInRange w.frame
+PassesPlaneLimit w HeightLimit = IsPlane w.row × IsFrameInRange w.frame × ¬ IsHeightLimit w.height
+PassesPlaneLimit w _ = ⊥
 
--- the words ask for this plane, in range
-pub record IsRequest (words : List (List ℕ)) (at : PlaneAt) : Type 0 where
-  pub words_of : AtWords
-  pub are_words : IsAtWords words words_of
-  pub asks : Asks words_of at
+-- the first limit that a command passes
+abbrev pub PassesLimit : Command → Refusal → Type 0
+PassesLimit (at_words row frame height) refusal = PassesPlaneLimit (height_words row frame height) refusal
+PassesLimit (layers_words row frame) refusal = PassesPlaneLimit (frame_words row frame) refusal
+PassesLimit (images_words row) refusal = PassesPlaneLimit (row_words row) refusal
+PassesLimit (types_words kind n) refusal = ⊥
+
+-- the words ask for this, in range
+pub record IsRequest (words : List (List ℕ)) (asked : Asked) : Type 0 where
+  pub command : Command
+  pub is_command : IsCommand words command
+  pub asks : Asks command asked
 
 -- why the words are no request in range
 abbrev pub IsWordsRefusal : List (List ℕ) → Refusal → Type 0
-IsWordsRefusal words Usage = (w : AtWords) → ¬ IsAtWords words w
-IsWordsRefusal words refusal = (w : AtWords) × IsAtWords words w × PassesLimit w refusal
+IsWordsRefusal words Usage = (command : Command) → ¬ IsCommand words command
+IsWordsRefusal words refusal = (command : Command) × IsCommand words command × PassesLimit command refusal

@@ -3,18 +3,18 @@ use Rattle.std.specs.Prelude.{◌≡◌, ◌⊎◌, ℕ, List, Option, Some, Res
 use Rattle.command.specs.declared.refusal.Refusal.{Refusal}
 use Rattle.command.specs.declared.obstacle.Obstacle.{Obstacle}
 use Rattle.command.specs.declared.obstacle.Obstacle.TheVariants as obstacles
-use Rattle.command.specs.Requests.{PlaneAt, IsRequest}
-use Rattle.command.specs.Answers.{IsInputRefusal, IsOutput}
+use Rattle.command.specs.Requests.{Asked, IsRequest}
+use Rattle.command.specs.Answers.{IsInput, IsInputRefusal, IsOutput}
 use Rattle.devices.specs.Calls.{Rose}
 use Rattle.command.specs.declared.outcome.Outcome.{Outcome}
 use Rattle.command.specs.declared.outcome.Outcome.TheVariants.{Refused, NoMemory}
 use Rattle.command.specs.Runs.{Complains, IsCause}
 
 -- what keeps a request over an input from an answer
-abbrev pub IsInputObstacle : PlaneAt → List ℕ → Obstacle → Type 0
-IsInputObstacle at input (obstacles.Refused refusal) = IsInputRefusal at input refusal
-IsInputObstacle at input obstacles.ReadFault = ⊥
-IsInputObstacle at input obstacles.NoMemory = Unit {0}
+abbrev pub IsInputObstacle : Asked → List ℕ → Obstacle → Type 0
+IsInputObstacle asked input (obstacles.Refused refusal) = IsInputRefusal asked input refusal
+IsInputObstacle asked input obstacles.ReadFault = ⊥
+IsInputObstacle asked input obstacles.NoMemory = Unit {0}
 
 -- this refusal, unless memory ran out
 abbrev pub RespondsRefusal : {A : Type 0} → Refusal → Result A Obstacle → Type 0
@@ -24,11 +24,11 @@ RespondsRefusal refusal result = (result ≡ Err (obstacles.Refused refusal)) �
 abbrev pub RespondsText : {A : Type 0} → Result A Obstacle → Type 0
 RespondsText result = IsOk result ⊎ (result ≡ Err obstacles.NoMemory)
 
--- the words are a request, and where the source tells its bytes, the text is the answer over them
+-- the words are a request, and the text is the answer over its input
 pub record HasAnswer (words : List (List ℕ)) (left : Option (List ℕ)) (text : List ℕ) : Type 0 where
-  pub at : PlaneAt
-  pub asks : IsRequest words at
-  pub answers : (input : List ℕ) → left ≡ Some input → IsOutput at input text
+  pub asked : Asked
+  pub asks : IsRequest words asked
+  pub answers : (input : List ℕ) → IsInput asked left input → IsOutput asked input text
 
 -- what keeps the words from an answer
 abbrev pub IsObstacle : List (List ℕ) → Option (List ℕ) → ℕ → ℕ → Obstacle → Type 0

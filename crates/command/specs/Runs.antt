@@ -6,8 +6,8 @@ use Rattle.devices.specs.Transfers.{HoldsFront}
 use Rattle.command.specs.declared.refusal.Refusal.{Refusal}
 use Rattle.command.specs.declared.outcome.Outcome.{Outcome}
 use Rattle.command.specs.declared.outcome.Outcome.TheVariants.{Done, Refused, ReadFault, WriteFault, NoMemory}
-use Rattle.command.specs.Requests.{PlaneAt, IsRequest, IsWordsRefusal}
-use Rattle.command.specs.Answers.{IsOutput, IsInputRefusal}
+use Rattle.command.specs.Requests.{Asked, IsRequest, IsWordsRefusal}
+use Rattle.command.specs.Answers.{IsInput, IsOutput, IsInputRefusal}
 use Rattle.command.specs.Refusals.{refusal_text}
 
 -- the line of a refusal, with its end
@@ -16,15 +16,15 @@ refusal_line refusal = refusal_text refusal ++ codes "\n"
 
 -- the sink holds the whole answer more
 pub record WritesAnswer (words : List (List ℕ)) (left held held' : Option (List ℕ)) : Type 0 where
-  pub at : PlaneAt
-  pub asks : IsRequest words at
-  pub writes : (input : List ℕ) → left ≡ Some input → (text : List ℕ) × IsOutput at input text × (held' ≡ append_known held text)
+  pub asked : Asked
+  pub asks : IsRequest words asked
+  pub writes : (input : List ℕ) → IsInput asked left input → (text : List ℕ) × IsOutput asked input text × (held' ≡ append_known held text)
 
 -- the sink holds a front of the answer more
 pub record WritesFront (words : List (List ℕ)) (left held held' : Option (List ℕ)) : Type 0 where
-  pub at : PlaneAt
-  pub asks : IsRequest words at
-  pub writes : (input : List ℕ) → left ≡ Some input → (text : List ℕ) × IsOutput at input text × HoldsFront held held' text
+  pub asked : Asked
+  pub asks : IsRequest words asked
+  pub writes : (input : List ℕ) → IsInput asked left input → (text : List ℕ) × IsOutput asked input text × HoldsFront held held' text
 
 -- what a run leaves in its sink: the answer where it is done, a front of it where the sink failed, else what it held
 abbrev pub LeavesOut : Outcome → List (List ℕ) → Option (List ℕ) → Option (List ℕ) → Option (List ℕ) → Type 0
@@ -38,7 +38,7 @@ LeavesOut NoMemory words left held held' = held' ≡ held
 abbrev pub IsCause : List (List ℕ) → Option (List ℕ) → Refusal → Type 0
 IsCause words left refusal =
     IsWordsRefusal words refusal
-    ⊎ ((at : PlaneAt) × IsRequest words at × ((input : List ℕ) → left ≡ Some input → IsInputRefusal at input refusal))
+    ⊎ ((asked : Asked) × IsRequest words asked × ((input : List ℕ) → IsInput asked left input → IsInputRefusal asked input refusal))
 
 -- the answer of a run has its cause
 abbrev pub HasCause : Outcome → List (List ℕ) → Option (List ℕ) → ℕ → ℕ → ℕ → ℕ → Type 0

@@ -9,10 +9,10 @@ ghost use Rattle.motions.specs.Views.{parts, row_of};
 ghost use Rattle.motions.specs.PlaneFaults.{IsPlaneFault};
 ghost use Rattle.motions.specs.declared.plane_fault.PlaneFault.{PlaneFault};
 ghost use Rattle.motions.specs.BasisView.{basis_of};
-ghost use Rattle.command.specs.VectorWords.{fractions_of, frame_of, plane_row};
-ghost use Rattle.command.specs.Limits.{IsEntrySize, IsFrameEntry, AreFrameEntries, AreFrameVectors, IsFrameInRange, IsHeightInRange, IsInParts, IsFrameInParts, IsBasisOf, edges_basis};
+ghost use Rattle.command.specs.VectorWords.{fractions_of, frame_of, index_row};
+ghost use Rattle.command.specs.Limits.{IsEntrySize, IsFrameEntry, AreFrameEntries, AreFrameVectors, IsFrameInRange, IsHeightInRange, IsHeightLimit, IsInParts, IsFrameInParts, IsBasisOf, edges_basis};
 
-use crate::words::{FrameWord, PlaneWord, VectorWord};
+use crate::words::{FrameWord, IndexWords, VectorWord};
 use fractions::{Part, Ratio, UNIT};
 use motions::{Basis, Miller, PlaneFault};
 
@@ -26,9 +26,9 @@ const MOST_ENTRY: u128 = 1000;
 const MOST_HEIGHT: u128 = 1_000_000_000;
 
 /// The orientation that the indices give, or what is wrong with them.
-pub fn plane_of_words(words: PlaneWord) -> Result<Miller, PlaneFault>
-    ensures ok { IfOk result (λ plane. row_of plane ≡ plane_row words) }
-    ensures faults { (fault : PlaneFault) → (result ≡ Err fault) ↔ IsPlaneFault (plane_row words) fault }
+pub fn plane_of_words(words: IndexWords) -> Result<Miller, PlaneFault>
+    ensures ok { IfOk result (λ plane. row_of plane ≡ index_row words) }
+    ensures faults { (fault : PlaneFault) → (result ≡ Err fault) ↔ IsPlaneFault (index_row words) fault }
 {
     Miller::make(words.h, words.k, words.l)
 }
@@ -109,8 +109,18 @@ pub fn basis_of_words(frame: Option<FrameWord>) -> Option<Basis>
 }
 
 /// Whether numerator and denominator of a height are in range.
-pub fn is_height_in_range(s: Ratio) -> bool
+fn is_height_in_range(s: Ratio) -> bool
     ensures { IsTrue result ↔ IsHeightInRange (fraction_of s) }
 {
     s.num().unsigned_abs() <= MOST_HEIGHT && s.den().unsigned_abs() <= MOST_HEIGHT
+}
+
+/// Whether a height, where one is given, is in range.
+pub fn is_height_within(s: Option<Ratio>) -> bool
+    ensures { IsTrue result ↔ IsHeightLimit (option_map fraction_of s) }
+{
+    match s {
+        None => true,
+        Some(s) => is_height_in_range(s),
+    }
 }

@@ -3,7 +3,7 @@
 // Promises to its user: the contract of `run`, over the words, the standard streams and the status of the process.
 #![tactic(auto)]
 
-mod at_text;
+mod commands;
 mod limits;
 mod obstacle;
 mod outcome;

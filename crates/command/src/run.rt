@@ -4,8 +4,8 @@ ghost use Rattle.std.specs.Io.KnownBytes.{IsAtEnd};
 ghost use Rattle.devices.specs.Transfers.{ReadsWithin};
 ghost use Rattle.command.specs.declared.limits.TheConstants.{MOST_BYTES};
 ghost use Rattle.command.specs.declared.refusal.Refusal.{Refusal};
-ghost use Rattle.command.specs.Requests.{IsRequest, IsWordsRefusal, PlaneAt};
-ghost use Rattle.command.specs.Answers.{IsInputRefusal, IsOutput};
+ghost use Rattle.command.specs.Requests.{Asked, IsRequest, IsWordsRefusal};
+ghost use Rattle.command.specs.Answers.{IsInput, IsInputRefusal, IsOutput, ReadsInput};
 ghost use Rattle.command.specs.Responses.{AnswersInput, HasAnswer, IsObstacle, RefusesBy, RefusesInput};
 ghost use Rattle.command.specs.Runs.{Answers, Complains, HasCause, IsCause, LeavesOut, Refuses};
 
@@ -34,14 +34,17 @@ pub fn run<S: Source, K: Sink, E: Sink>(
         (S.faults source.old) (S.faults source.new) (K.faults out.old) (K.faults out.new) }
     ensures complaint { Complains result (E.held complaints.old) (E.held complaints.new)
         (E.faults complaints.old) (E.faults complaints.new) }
-    ensures whole { result ≡ Outcome.Done → IsAtEnd (S.left source.new) }
+    ensures whole { result ≡ Outcome.Done → (asked : Asked) → IsRequest (map string_bytes words.now) asked → ReadsInput asked →
+        IsAtEnd (S.left source.new) }
+    ensures untouched { (asked : Asked) → IsRequest (map string_bytes words.now) asked → ¬ ReadsInput asked →
+        (S.left source.new ≡ S.left source.old) × (result ≢ Outcome.ReadFault) }
     ensures refuses_words { (refusal : Refusal) → IsWordsRefusal (map string_bytes words.now) refusal →
         Refuses refusal result × (S.left source.new ≡ S.left source.old) × (result ≢ Outcome.ReadFault) }
-    ensures refuses_input { (at : PlaneAt) (input : List ℕ) (refusal : Refusal) →
-        IsRequest (map string_bytes words.now) at → S.left source.old ≡ Some input → IsInputRefusal at input refusal →
+    ensures refuses_input { (asked : Asked) (input : List ℕ) (refusal : Refusal) →
+        IsRequest (map string_bytes words.now) asked → IsInput asked (S.left source.old) input → IsInputRefusal asked input refusal →
         Refuses refusal result }
-    ensures answers { (at : PlaneAt) (input : List ℕ) (text : List ℕ) →
-        IsRequest (map string_bytes words.now) at → S.left source.old ≡ Some input → IsOutput at input text →
+    ensures answers { (asked : Asked) (input : List ℕ) (text : List ℕ) →
+        IsRequest (map string_bytes words.now) asked → IsInput asked (S.left source.old) input → IsOutput asked input text →
         Answers result }
     ensures within { ReadsWithin (S.left source.old) (S.left source.new) (MOST_BYTES + 1) }
 {
@@ -59,19 +62,25 @@ pub fn run<S: Source, K: Sink, E: Sink>(
 /// Reads the words and the source, and makes the whole answer.
 fn answer<S: Source>(alloc: Global, words: &[String], source: &mut S) -> Result<Vec<u8>, Obstacle>
     ensures text { IfOk result (λ text. HasAnswer (map string_bytes words.now) (S.left source.old) text.items) }
-    ensures whole { OnOk result (IsAtEnd (S.left source.new)) }
+    ensures whole { OnOk result ((asked : Asked) → IsRequest (map string_bytes words.now) asked → ReadsInput asked →
+        IsAtEnd (S.left source.new)) }
+    ensures untouched { (asked : Asked) → IsRequest (map string_bytes words.now) asked → ¬ ReadsInput asked →
+        (S.left source.new ≡ S.left source.old) × (result ≢ Err (Obstacle.ReadFault)) }
     ensures obstacle { IfErr result (IsObstacle (map string_bytes words.now) (S.left source.old) (S.faults source.old) (S.faults source.new)) }
     ensures refuses_words { (refusal : Refusal) → IsWordsRefusal (map string_bytes words.now) refusal →
         (result ≡ Err (Obstacle.Refused refusal)) × (S.left source.new ≡ S.left source.old) }
-    ensures refuses_input { (at : PlaneAt) (input : List ℕ) (refusal : Refusal) →
-        IsRequest (map string_bytes words.now) at → S.left source.old ≡ Some input → IsInputRefusal at input refusal →
+    ensures refuses_input { (asked : Asked) (input : List ℕ) (refusal : Refusal) →
+        IsRequest (map string_bytes words.now) asked → IsInput asked (S.left source.old) input → IsInputRefusal asked input refusal →
         RefusesInput refusal result }
-    ensures answers { (at : PlaneAt) (input : List ℕ) (text : List ℕ) →
-        IsRequest (map string_bytes words.now) at → S.left source.old ≡ Some input → IsOutput at input text →
+    ensures answers { (asked : Asked) (input : List ℕ) (text : List ℕ) →
+        IsRequest (map string_bytes words.now) asked → IsInput asked (S.left source.old) input → IsOutput asked input text →
         AnswersInput result }
     ensures within { ReadsWithin (S.left source.old) (S.left source.new) (MOST_BYTES + 1) }
 {
     let request = read_words(words)?;
+    if !request.reads_input() {
+        return respond(alloc, &request, &[]);
+    }
     match read_all(alloc, source, MOST_BYTES)? {
         Input::Whole(input) => respond(alloc, &request, &input),
         Input::TooLong => Err(Obstacle::Refused(Refusal::TooLong)),

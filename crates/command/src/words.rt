@@ -1,12 +1,12 @@
-// The words of a request, before any limit.
+// The words that a command is made of, before any limit.
 ghost use Rattle.std.specs.Prelude.{◌≡◌, ◌≢◌, ◌≤◌, ℕ, ℤ, Option, MatchOption, IsTrue, ◌↔◌, map, slice_index, length, string_bytes};
 ghost use Rattle.std.specs.Option.{option_map};
 ghost use Rattle.std.specs.Str.Parse.{without_leading_sign};
 ghost use Rattle.fractions.specs.Fraction.{Fraction};
 ghost use Rattle.fractions.specs.FractionOf.{fraction_of};
 ghost use Rattle.symmetry.specs.Vectors.{Vector};
-ghost use Rattle.command.specs.VectorWords.{asked, fractions_of, frame_of, plane_row};
-ghost use Rattle.command.specs.Words.{ArePlaneAndFrame, AreVectorWords, AtWords, Fractions, FrameWords, IsAtWords, IsFrameWords, IsIndex, IsPlaneWords, IsRatio, IsRatioAt, IsVectorWord, BeforeComma};
+ghost use Rattle.command.specs.VectorWords.{fractions_of, frame_of, index_row};
+ghost use Rattle.command.specs.Words.{AreIndices, AreVectorWords, Fractions, FrameWords, IsFrameWords, IsIndex, IsRatio, IsRatioAt, IsVectorWord, BeforeComma};
 
 use fractions::{Ratio, read_ratio};
 
@@ -96,33 +96,24 @@ pub struct FrameWord {
     pub tau: VectorWord,
 }
 
-/// Three indices and a height.
+/// Three indices.
 #[derive(Clone, Copy, Debug)]
-pub struct PlaneWord {
+pub struct IndexWords {
     pub h: i64,
     pub k: i64,
     pub l: i64,
-    pub s: Ratio,
 }
 
-/// What the words of `at` ask for, before any limit.
-#[derive(Clone, Copy, Debug)]
-pub struct RawAt {
-    pub plane: PlaneWord,
-    pub frame: Option<FrameWord>,
-}
-
-/// The indices and the height that four words are.
-fn read_plane(h: &str, k: &str, l: &str, s: &str) -> Option<PlaneWord>
+/// The indices that three words are.
+pub fn read_indices(h: &str, k: &str, l: &str) -> Option<IndexWords>
     ensures { MatchOption result
-        ((row : Vector) (height : Fraction) → ¬ (IsPlaneWords h.now k.now l.now s.now row height))
-        (λ p. IsPlaneWords h.now k.now l.now s.now (plane_row p) (fraction_of p.s)) }
+        ((row : Vector) → ¬ (AreIndices h.now k.now l.now row))
+        (λ p. AreIndices h.now k.now l.now (index_row p)) }
 {
     let h = read_index(h)?;
     let k = read_index(k)?;
     let l = read_index(l)?;
-    let s = read_whole_ratio(s.as_bytes())?;
-    Some(PlaneWord { h, k, l, s })
+    Some(IndexWords { h, k, l })
 }
 
 /// The vectors that three words are.
@@ -138,7 +129,7 @@ fn read_vectors(a: &[u8], b: &[u8], t: &[u8]) -> Option<FrameWord>
 }
 
 /// The frame that the words behind a height give: none, or `--frame a b t`.
-fn read_frame(words: &[String]) -> Option<Option<FrameWord>>
+pub fn read_frame(words: &[String]) -> Option<Option<FrameWord>>
     ensures { MatchOption result
         ((f : Option FrameWords) → ¬ (IsFrameWords (map string_bytes words.now) f))
         (λ f. IsFrameWords (map string_bytes words.now) (option_map frame_of f)) }
@@ -148,31 +139,6 @@ fn read_frame(words: &[String]) -> Option<Option<FrameWord>>
         [option, a, b, t] if option.as_str() == "--frame" => {
             let frame = read_vectors(a.as_bytes(), b.as_bytes(), t.as_bytes())?;
             Some(Some(frame))
-        }
-        _ => None,
-    }
-}
-
-/// What the words behind `at` ask for.
-fn read_plane_and_frame(h: &str, k: &str, l: &str, s: &str, others: &[String]) -> Option<RawAt>
-    ensures { MatchOption result
-        ((w : AtWords) → ¬ (ArePlaneAndFrame h.now k.now l.now s.now (map string_bytes others.now) w))
-        (λ raw. ArePlaneAndFrame h.now k.now l.now s.now (map string_bytes others.now) (asked raw)) }
-{
-    let plane = read_plane(h, k, l, s)?;
-    let frame = read_frame(others)?;
-    Some(RawAt { plane, frame })
-}
-
-/// What the words `at h k l s` ask for, with or without a frame behind them.
-pub fn read_at(words: &[String]) -> Option<RawAt>
-    ensures { MatchOption result
-        ((w : AtWords) → ¬ (IsAtWords (map string_bytes words.now) w))
-        (λ raw. IsAtWords (map string_bytes words.now) (asked raw)) }
-{
-    match words {
-        [command, h, k, l, s, others @ ..] if command.as_str() == "at" => {
-            read_plane_and_frame(h.as_str(), k.as_str(), l.as_str(), s.as_str(), others)
         }
         _ => None,
     }

@@ -1,2 +1,4 @@
 pub mod Texts
+pub mod TypeNumbers
+pub mod TypeTexts
 pub mod Reports

@@ -5,5 +5,7 @@
 #![tactic(auto)]
 
 mod at;
+mod kind;
 
 pub use at::{NoMemory, at_text};
+pub use kind::Kind;

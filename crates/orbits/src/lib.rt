@@ -1,0 +1,6 @@
+// Stub.
+#![tactic(auto)]
+
+mod limits;
+
+pub use limits::WIDE;
