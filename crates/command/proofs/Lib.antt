@@ -3,7 +3,6 @@ pub mod VectorFacts
 pub mod WordLists
 pub mod Arguments
 pub mod EntrySizes
-pub mod TextLines
 pub mod LimitFacts
 pub mod OneReading
 pub mod OneRequest
@@ -13,3 +12,5 @@ pub mod OneAnswer
 pub mod Responding
 pub mod GroupCauses
 pub mod FrameCauses
+pub mod AlikeReports
+pub mod GroupAnswers

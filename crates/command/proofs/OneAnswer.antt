@@ -2,7 +2,9 @@
 use Rattle.std.proofs.Common.{◌≡◌, ◌≢◌, ℕ, List, refl, sym, ap, ◌∙◌, subst, inl, inr}
 use Rattle.quotient.specs.declared.check.GroupFault.TheVariants as faults
 use Rattle.symmetry.specs.Groups.{Listing}
-use Rattle.symmetry.specs.Frames.{IsFrame, IsSkewed}
+use Rattle.symmetry.specs.Vectors.{Vector}
+use Rattle.symmetry.specs.Frames.{Basis, IsFrame, IsSkewed}
+use Rattle.orbits.specs.Orientations.{IsWide}
 use Rattle.motions.specs.declared.frame_fault.FrameFault.{FrameFault}
 use Rattle.motions.specs.declared.frame_fault.FrameFault.TheVariants as frames
 use Rattle.closure.specs.declared.group_error.GroupError.{GroupError}
@@ -12,9 +14,9 @@ use Rattle.closure.proofs.OneError.{one_group_error, no_group_and_error}
 use Rattle.triplets.specs.Texts.{Fault, IsTextFault}
 use Rattle.triplets.proofs.OneFault.{one_listing, one_fault, no_listing_and_fault}
 use Rattle.command.specs.declared.refusal.Refusal.{Refusal}
-use Rattle.command.specs.declared.refusal.Refusal.TheVariants.{Usage, Text, TooMany, TooFine, NoIdentity, ShiftMoved, NotClosed, NoInverse, NotFrame, SkewFrame}
-use Rattle.command.specs.Requests.{PlaneAt}
-use Rattle.command.specs.Contents.{ListsGroup, IsAnswer, IsGroupRefusal, RefusesGroup, RefusesFrame, IsRefusal}
+use Rattle.command.specs.declared.refusal.Refusal.TheVariants.{Usage, Text, TooMany, TooFine, NoIdentity, ShiftMoved, NotClosed, NoInverse, NotFrame, SkewFrame, Wide}
+use Rattle.command.specs.Requests.{Asked, at_height, all_heights, image_rows, type_table}
+use Rattle.command.specs.Contents.{Answers, AnswersInput, IsAnswer, IsFairFrame, IsGroupRefusal, IsRefusal, ListsGroup, RefusesAsked, RefusesContent, RefusesFrame, RefusesGroup, RefusesImages}
 use Rattle.command.specs.Obstacles.{refusal_of_fault, refusal_of_frame}
 
 -- what is wrong with an input that lists no group
@@ -67,41 +69,81 @@ no_group_and_cause input g (of_group e) lists (known, (g', is_text, error)) =
 no_group_and_refusal : (input : List ℕ) (g : Listing) (r : Refusal) → ListsGroup input g → RefusesGroup input r → ⊥
 no_group_and_refusal input g r lists p = let c = cause input r p in no_group_and_cause input g c.0 lists c.1
 
--- what is wrong with the vectors
-abbrev IsFrameCause : Listing → PlaneAt → FrameFault → Type 0
-IsFrameCause g at frames.NotFrame = ¬ IsFrame g at.row at.basis
-IsFrameCause g at frames.Skewed = IsFrame g at.row at.basis × IsSkewed g at.row at.basis
+-- ---- what is wrong with the vectors of a frame
 
-frame_cause : (g : Listing) (at : PlaneAt) (refusal : Refusal) → RefusesFrame g at refusal → (f : FrameFault) × IsFrameCause g at f × (refusal ≡ refusal_of_frame f)
-frame_cause g at NotFrame h = (frames.NotFrame, h, refl)
-frame_cause g at SkewFrame h = (frames.Skewed, h, refl)
-frame_cause g at _ h = absurd h
+abbrev IsFrameCause : Listing → Vector → Basis → FrameFault → Type 0
+IsFrameCause g row basis frames.NotFrame = ¬ IsFrame g row basis
+IsFrameCause g row basis frames.Skewed = IsFrame g row basis × IsSkewed g row basis
 
-one_frame_cause : (g : Listing) (at : PlaneAt) (f f' : FrameFault) → IsFrameCause g at f → IsFrameCause g at f' → f ≡ f'
-one_frame_cause g at frames.NotFrame frames.NotFrame p q = refl
-one_frame_cause g at frames.NotFrame frames.Skewed p q = absurd (p q.0)
-one_frame_cause g at frames.Skewed frames.NotFrame p q = absurd (q p.0)
-one_frame_cause g at frames.Skewed frames.Skewed p q = refl
+module _ (g : Listing) (row : Vector) (basis : Basis) where
+  frame_cause : (refusal : Refusal) → RefusesFrame g row basis refusal → (f : FrameFault) × IsFrameCause g row basis f × (refusal ≡ refusal_of_frame f)
+  frame_cause NotFrame h = (frames.NotFrame, h, refl)
+  frame_cause SkewFrame h = (frames.Skewed, h, refl)
+  frame_cause _ h = absurd h
 
-one_frame_refusal : (g : Listing) (at : PlaneAt) (r r' : Refusal) → RefusesFrame g at r → RefusesFrame g at r' → r ≡ r'
-one_frame_refusal g at r r' p q =
-    let c = frame_cause g at r p in
-    let d = frame_cause g at r' q in
-    c.2 ∙ ap refusal_of_frame (one_frame_cause g at c.0 d.0 c.1 d.1) ∙ sym d.2
+  one_frame_cause : (f f' : FrameFault) → IsFrameCause g row basis f → IsFrameCause g row basis f' → f ≡ f'
+  one_frame_cause frames.NotFrame frames.NotFrame p q = refl
+  one_frame_cause frames.NotFrame frames.Skewed p q = absurd (p q.0)
+  one_frame_cause frames.Skewed frames.NotFrame p q = absurd (q p.0)
+  one_frame_cause frames.Skewed frames.Skewed p q = refl
 
-pub one_refusal : (at : PlaneAt) (input : List ℕ) (r r' : Refusal) → IsRefusal at input r → IsRefusal at input r' → r ≡ r'
-one_refusal at input r r' (inl p) (inl q) = one_group_refusal input r r' p q
-one_refusal at input r r' (inl p) (inr (g, lists, q)) = absurd (no_group_and_refusal input g r lists p)
-one_refusal at input r r' (inr (g, lists, p)) (inl q) = absurd (no_group_and_refusal input g r' lists q)
-one_refusal at input r r' (inr (g, lists, p)) (inr (g', lists', q)) =
-    one_frame_refusal g at r r' p (subst (λ (l : Listing). RefusesFrame l at r') (one_listing input g' g lists'.is_text lists.is_text) q)
+  one_frame_refusal : (r r' : Refusal) → RefusesFrame g row basis r → RefusesFrame g row basis r' → r ≡ r'
+  one_frame_refusal r r' p q =
+      let c = frame_cause r p in
+      let d = frame_cause r' q in
+      c.2 ∙ ap refusal_of_frame (one_frame_cause c.0 d.0 c.1 d.1) ∙ sym d.2
 
-no_frame_and_refusal : (g : Listing) (at : PlaneAt) (r : Refusal) → IsFrame g at.row at.basis → ¬ IsSkewed g at.row at.basis → RefusesFrame g at r → ⊥
-no_frame_and_refusal g at NotFrame frame fair p = p frame
-no_frame_and_refusal g at SkewFrame frame fair p = fair p.1
-no_frame_and_refusal g at _ frame fair p = p
+  no_frame_and_refusal : (r : Refusal) → IsFairFrame g row basis → RefusesFrame g row basis r → ⊥
+  no_frame_and_refusal NotFrame fair p = p fair.is_frame
+  no_frame_and_refusal SkewFrame fair p = fair.not_skewed p.1
+  no_frame_and_refusal _ fair p = absurd p
 
-pub no_answer_and_refusal : (at : PlaneAt) (input text : List ℕ) (r : Refusal) → IsAnswer at input text → IsRefusal at input r → ⊥
-no_answer_and_refusal at input text r answer (inl p) = no_group_and_refusal input answer.group r answer.lists p
-no_answer_and_refusal at input text r answer (inr (g, lists, p)) =
-    no_frame_and_refusal answer.group at r answer.is_frame answer.not_skewed (subst (λ (l : Listing). RefusesFrame l at r) (one_listing input g answer.group lists.is_text answer.lists.is_text) p)
+-- ---- what is wrong with images
+
+module _ (g : Listing) (row : Vector) where
+  images_refusal : (r : Refusal) → RefusesImages g row r → r ≡ Wide
+  images_refusal Wide p = refl
+  images_refusal _ p = absurd p
+
+  no_images_and_refusal : (r : Refusal) → ¬ IsWide g row → RefusesImages g row r → ⊥
+  no_images_and_refusal Wide none p = none p
+  no_images_and_refusal _ none p = absurd p
+
+-- ---- what is asked of a group
+
+one_asked_refusal : (g : Listing) (asked : Asked) (r r' : Refusal) → RefusesAsked g asked r → RefusesAsked g asked r' → r ≡ r'
+one_asked_refusal g (at_height row basis s) r r' p q = one_frame_refusal g row basis r r' p q
+one_asked_refusal g (all_heights row basis) r r' p q = one_frame_refusal g row basis r r' p q
+one_asked_refusal g (image_rows row) r r' p q = images_refusal g row r p ∙ sym (images_refusal g row r' q)
+one_asked_refusal g (type_table kind n) r r' p q = absurd p
+
+no_answer_and_asked_refusal : (g : Listing) (asked : Asked) (text : List ℕ) (r : Refusal) → Answers g asked text → RefusesAsked g asked r → ⊥
+no_answer_and_asked_refusal g (at_height row basis s) text r answer p = no_frame_and_refusal g row basis r answer.frame p
+no_answer_and_asked_refusal g (all_heights row basis) text r answer p = no_frame_and_refusal g row basis r answer.frame p
+no_answer_and_asked_refusal g (image_rows row) text r answer p = no_images_and_refusal g row r answer.not_wide p
+no_answer_and_asked_refusal g (type_table kind n) text r answer p = p
+
+-- ---- what is asked over an input
+
+module _ (asked : Asked) (input : List ℕ) where
+  one_content_refusal : (r r' : Refusal) → RefusesContent asked input r → RefusesContent asked input r' → r ≡ r'
+  one_content_refusal r r' (inl p) (inl q) = one_group_refusal input r r' p q
+  one_content_refusal r r' (inl p) (inr (g, lists, q)) = absurd (no_group_and_refusal input g r lists p)
+  one_content_refusal r r' (inr (g, lists, p)) (inl q) = absurd (no_group_and_refusal input g r' lists q)
+  one_content_refusal r r' (inr (g, lists, p)) (inr (g', lists', q)) =
+      one_asked_refusal g asked r r' p (subst (λ (l : Listing). RefusesAsked l asked r') (one_listing input g' g lists'.is_text lists.is_text) q)
+
+  no_answer_and_content_refusal : (text : List ℕ) (r : Refusal) → AnswersInput asked input text → RefusesContent asked input r → ⊥
+  no_answer_and_content_refusal text r answer (inl p) = no_group_and_refusal input answer.group r answer.lists p
+  no_answer_and_content_refusal text r answer (inr (g, lists, p)) =
+      no_answer_and_asked_refusal answer.group asked text r answer.answers
+      (subst (λ (l : Listing). RefusesAsked l asked r) (one_listing input g answer.group lists.is_text answer.lists.is_text) p)
+
+pub one_refusal : (asked : Asked) (input : List ℕ) (r r' : Refusal) → IsRefusal asked input r → IsRefusal asked input r' → r ≡ r'
+one_refusal asked input r r' p q = one_content_refusal asked input r r' p.1 q.1
+
+pub no_answer_and_refusal : (asked : Asked) (input text : List ℕ) (r : Refusal) → IsAnswer asked input text → IsRefusal asked input r → ⊥
+no_answer_and_refusal (type_table kind n) input text r answer p = p.0
+no_answer_and_refusal (at_height row basis s) input text r answer p = no_answer_and_content_refusal (at_height row basis s) input text r answer p.1
+no_answer_and_refusal (all_heights row basis) input text r answer p = no_answer_and_content_refusal (all_heights row basis) input text r answer p.1
+no_answer_and_refusal (image_rows row) input text r answer p = no_answer_and_content_refusal (image_rows row) input text r answer p.1

@@ -5,8 +5,8 @@ use Rattle.devices.specs.declared.read.Input.TheVariants as inputs
 use Rattle.devices.specs.Input.{IfWhole}
 use Rattle.command.specs.declared.limits.TheConstants.{MOST_BYTES}
 use Rattle.command.specs.declared.refusal.Refusal.{Refusal}
-use Rattle.command.specs.declared.refusal.Refusal.TheVariants.{Usage, OutOfRange, AllZero, NotCoprime, FrameLimit, HeightLimit, TooLong, Text, TooMany, TooFine, NoIdentity, ShiftMoved, NotClosed, NoInverse, NotFrame, SkewFrame}
-use Rattle.command.specs.Requests.{PlaneAt}
+use Rattle.command.specs.declared.refusal.Refusal.TheVariants.{Usage, OutOfRange, AllZero, NotCoprime, FrameLimit, HeightLimit, TooLong, Text, TooMany, TooFine, NoIdentity, ShiftMoved, NotClosed, NoInverse, NotFrame, SkewFrame, Wide}
+use Rattle.command.specs.Requests.{Asked}
 use Rattle.command.specs.Answers.{IsInputRefusal}
 use Rattle.command.specs.declared.obstacle.Obstacle.{Obstacle}
 use Rattle.command.specs.declared.obstacle.Obstacle.TheVariants as obstacles
@@ -16,23 +16,24 @@ use Rattle.std.specs.Io.KnownBytes.{append_known}
 use Rattle.devices.specs.Transfers.{HoldsFront}
 
 -- an input that is too long is refused for that alone
-pub long_refusal : (at : PlaneAt) (input : List ℕ) (refusal : Refusal) → MOST_BYTES < length input → IsInputRefusal at input refusal → refusal ≡ TooLong
-long_refusal at input TooLong l h = refl
-long_refusal at input Usage l h = absurd (omega arith)
-long_refusal at input OutOfRange l h = absurd (omega arith)
-long_refusal at input AllZero l h = absurd (omega arith)
-long_refusal at input (NotCoprime g) l h = absurd (omega arith)
-long_refusal at input FrameLimit l h = absurd (omega arith)
-long_refusal at input HeightLimit l h = absurd (omega arith)
-long_refusal at input (Text line column kind) l h = absurd (omega arith)
-long_refusal at input (TooMany n) l h = absurd (omega arith)
-long_refusal at input TooFine l h = absurd (omega arith)
-long_refusal at input NoIdentity l h = absurd (omega arith)
-long_refusal at input (ShiftMoved i) l h = absurd (omega arith)
-long_refusal at input (NotClosed i j) l h = absurd (omega arith)
-long_refusal at input (NoInverse i) l h = absurd (omega arith)
-long_refusal at input NotFrame l h = absurd (omega arith)
-long_refusal at input SkewFrame l h = absurd (omega arith)
+pub long_refusal : (asked : Asked) (input : List ℕ) (refusal : Refusal) → MOST_BYTES < length input → IsInputRefusal asked input refusal → refusal ≡ TooLong
+long_refusal asked input TooLong l h = refl
+long_refusal asked input Usage l h = absurd (omega arith)
+long_refusal asked input OutOfRange l h = absurd (omega arith)
+long_refusal asked input AllZero l h = absurd (omega arith)
+long_refusal asked input (NotCoprime g) l h = absurd (omega arith)
+long_refusal asked input FrameLimit l h = absurd (omega arith)
+long_refusal asked input HeightLimit l h = absurd (omega arith)
+long_refusal asked input (Text line column kind) l h = absurd (omega arith)
+long_refusal asked input (TooMany n) l h = absurd (omega arith)
+long_refusal asked input TooFine l h = absurd (omega arith)
+long_refusal asked input NoIdentity l h = absurd (omega arith)
+long_refusal asked input (ShiftMoved i) l h = absurd (omega arith)
+long_refusal asked input (NotClosed i j) l h = absurd (omega arith)
+long_refusal asked input (NoInverse i) l h = absurd (omega arith)
+long_refusal asked input NotFrame l h = absurd (omega arith)
+long_refusal asked input SkewFrame l h = absurd (omega arith)
+long_refusal asked input Wide l h = absurd (omega arith)
 
 -- what is refused is not answered
 pub refused_without_answer : {A : Type 0} → (refusal : Refusal) (obstacle : Obstacle) → obstacle ≡ obstacles.Refused refusal → AnswersInput {A = A} (Err obstacle) → ⊥
@@ -57,7 +58,7 @@ whole_bytes {left = left} {input = input} read bytes is whole left_is = sym all
 pub written : (words : List (List ℕ)) (left held held' : Option (List ℕ)) (text bytes : List ℕ) → HasAnswer words left text → bytes ≡ text
     → held' ≡ append_known held bytes → WritesAnswer words left held held'
 written words left held held' text bytes made same is = record {
-  at = made.at;
+  asked = made.asked;
   asks = made.asks;
   writes = λ input all. (text, made.answers input all, is ∙ ap (append_known held) same);
 }
@@ -66,7 +67,7 @@ written words left held held' text bytes made same is = record {
 pub front_written : (words : List (List ℕ)) (left held held' : Option (List ℕ)) (text bytes : List ℕ) → HasAnswer words left text → bytes ≡ text
     → HoldsFront held held' bytes → WritesFront words left held held'
 front_written words left held held' text bytes made same front = record {
-  at = made.at;
+  asked = made.asked;
   asks = made.asks;
   writes = λ input all. (text, made.answers input all, subst (HoldsFront held held') same front);
 }

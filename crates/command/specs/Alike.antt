@@ -1,5 +1,6 @@
 -- Listings of one group, and the Group of an input.
 use Rattle.std.specs.Prelude.{ℕ, ◌↔◌, List}
+use Rattle.quotient.specs.Lists.{AreFirst}
 use Rattle.symmetry.specs.Vectors.{Vector}
 use Rattle.symmetry.specs.Motions.{Motion}
 use Rattle.symmetry.specs.Groups.{Listing, IsInLattice, IsMember, SameModulo}
@@ -19,3 +20,4 @@ pub record IsGroupOf (input : List ℕ) (group : Group) : Type 0 where
   pub listing : Listing
   pub lists : ListsGroup input listing
   pub alike : AreAlike listing (group_listing group)
+  pub firsts : AreFirst (SameModulo listing) listing.ops (group_listing group).ops

@@ -3,13 +3,8 @@ use Rattle.std.specs.Prelude.{◌≡◌, ℕ, ◌<◌, ◌≤◌, List, [], leng
 use Rattle.command.specs.declared.limits.TheConstants.{MOST_BYTES}
 use Rattle.command.specs.declared.refusal.Refusal.{Refusal}
 use Rattle.command.specs.declared.refusal.Refusal.TheVariants.{TooLong}
-use Rattle.command.specs.Requests.{Asked, at_height, all_heights, image_rows, type_table}
+use Rattle.command.specs.Requests.{Asked, type_table}
 use Rattle.command.specs.Contents.{IsAnswer, IsRefusal}
-
--- whether an input is read for what is asked: for all but the table of a type
-abbrev pub ReadsInput : Asked → Type 0
-ReadsInput (type_table kind n) = ⊥
-ReadsInput _ = Unit {0}
 
 -- the input over which it is answered: all that the source has left, where it tells that, or nothing
 abbrev pub IsInput : Asked → Option (List ℕ) → List ℕ → Type 0

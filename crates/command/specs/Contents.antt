@@ -19,7 +19,7 @@ use Rattle.report.specs.Texts.{Report, at_text, images_text, report_text}
 use Rattle.report.specs.TypeTexts.{IsTypeText}
 use Rattle.command.specs.declared.refusal.Refusal.{Refusal}
 use Rattle.command.specs.declared.refusal.Refusal.TheVariants.{Text, TooMany, TooFine, NoIdentity, ShiftMoved, NotClosed, NoInverse, NotFrame, SkewFrame, Wide}
-use Rattle.command.specs.Requests.{Asked, at_height, all_heights, image_rows, type_table}
+use Rattle.command.specs.Requests.{Asked, ReadsInput, at_height, all_heights, image_rows, type_table}
 
 -- the text lists a group within the limits
 pub record ListsGroup (input : List ℕ) (g : Listing) : Type 0 where
@@ -115,5 +115,4 @@ RefusesContent asked input refusal = RefusesGroup input refusal ⊎ ((g : Listin
 
 -- the same, where an input is read: the table of a type is never refused
 abbrev pub IsRefusal : Asked → List ℕ → Refusal → Type 0
-IsRefusal (type_table kind n) input refusal = ⊥
-IsRefusal asked input refusal = RefusesContent asked input refusal
+IsRefusal asked input refusal = ReadsInput asked × RefusesContent asked input refusal

@@ -19,6 +19,11 @@ pub data Asked : Type 0 where
   image_rows : (row : Vector) → Asked
   type_table : (kind : Kind) (n : ℕ) → Asked
 
+-- whether an input is read for what is asked: for all but the table of a type
+abbrev pub ReadsInput : Asked → Type 0
+ReadsInput (type_table kind n) = ⊥
+ReadsInput _ = Unit {0}
+
 -- what words say of a plane: its indices, the vectors of a frame and a height, where they have them
 pub record PlaneWords : Type 0 where
   pub row : Vector

@@ -22,7 +22,7 @@ pub enum Request {
 
 impl Request {
     ghost use Rattle.std.specs.Prelude.{◌↔◌, IsTrue};
-    ghost use Rattle.command.specs.Answers.{ReadsInput};
+    ghost use Rattle.command.specs.Requests.{ReadsInput};
     ghost use Rattle.command.specs.RequestView.{asked_of};
 
     /// Whether an input is read for it: for all but the table of a type.

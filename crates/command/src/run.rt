@@ -4,8 +4,8 @@ ghost use Rattle.std.specs.Io.KnownBytes.{IsAtEnd};
 ghost use Rattle.devices.specs.Transfers.{ReadsWithin};
 ghost use Rattle.command.specs.declared.limits.TheConstants.{MOST_BYTES};
 ghost use Rattle.command.specs.declared.refusal.Refusal.{Refusal};
-ghost use Rattle.command.specs.Requests.{Asked, IsRequest, IsWordsRefusal};
-ghost use Rattle.command.specs.Answers.{IsInput, IsInputRefusal, IsOutput, ReadsInput};
+ghost use Rattle.command.specs.Requests.{Asked, IsRequest, IsWordsRefusal, ReadsInput};
+ghost use Rattle.command.specs.Answers.{IsInput, IsInputRefusal, IsOutput};
 ghost use Rattle.command.specs.Responses.{AnswersInput, HasAnswer, IsObstacle, RefusesBy, RefusesInput};
 ghost use Rattle.command.specs.Runs.{Answers, Complains, HasCause, IsCause, LeavesOut, Refuses};
 

@@ -21,4 +21,5 @@ returns-clause-group c = record {
     members = c.in_ok-make.ensures.members;
     order = c.in_ok-make.ensures.order;
   };
+  firsts = c.in_ok-make.ensures.ops;
 }
