@@ -1,7 +1,7 @@
 -- Listings of one group have the same scans, orbits and reports.
 use Rattle.std.proofs.Common.{◌≡◌, ◌⊎◌, ◌↔◌, ℕ, ℤ, List, [], ◌∷◌, subst}
 use Rattle.std.specs.Prelude.{All}
-use Rattle.std.proofs.lemmas.List.Elements.{All-implies}
+use Rattle.std.proofs.lemmas.List.Elements.{All-weaker}
 use Rattle.symmetry.specs.Vectors.{Vector, Matrix, dot, minus, row_times, opposite}
 use Rattle.symmetry.specs.Motions.{Motion}
 use Rattle.symmetry.specs.Planes.{Height, IsHeight, MapsPlane}
@@ -50,7 +50,9 @@ module _ (g h : Listing) (alike : AreAlike g h) (r : Vector) where
     rising = is.rising;
     classes = λ s height. class_from (dot r f.tau) scan.special s (is.classes s height);
     general = all_from f scan.general is.general;
-    lists = All-implies (λ (b : SpecialHeight) list. list_from g h alike r f b.height b.ops list) scan.special is.lists;
+    lists = All-weaker (λ (b : SpecialHeight). IsListOf (SameModulo h) h.ops (IsAtHome f) (InStabiliser h r b.height) b.ops)
+    (λ (b : SpecialHeight). IsListOf (SameModulo g) g.ops (IsAtHome f) (InStabiliser g r b.height) b.ops)
+    (λ (b : SpecialHeight) list. list_from g h alike r f b.height b.ops list) scan.special is.lists;
   }
 
   -- ---- the period and the vector c'
@@ -97,7 +99,8 @@ module _ (g h : Listing) (alike : AreAlike g h) (r : Vector) where
 
   lists_orbit_from : (d : ℤ) (s : Height) (heights : List Height) → ListsOrbit h r d s heights → ListsOrbit g r d s heights
   lists_orbit_from d s heights are = record {
-    each = All-implies (λ t both. (both.0, orbit_from s t both.1)) heights are.each;
+    each = All-weaker (λ t. IsInPeriod d t × AreInOneOrbit h r s t) (λ t. IsInPeriod d t × AreInOneOrbit g r s t)
+    (λ t both. (both.0, orbit_from s t both.1)) heights are.each;
     apart = are.apart;
     whole = λ t within orbit. are.whole t within (orbit_to s t orbit);
   }

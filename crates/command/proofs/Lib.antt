@@ -14,3 +14,4 @@ pub mod GroupCauses
 pub mod FrameCauses
 pub mod AlikeReports
 pub mod GroupAnswers
+pub mod Reading

@@ -1,13 +1,13 @@
 -- Long inputs are refused as such, and a request is one.
-use Rattle.std.proofs.Common.{◌≡◌, ℕ, ◌<◌, List, length, refl, sym, ap, ◌∙◌, subst, arith, inl, inr, Err, Vec, Global, Some, IfSome, Option}
+use Rattle.std.proofs.Common.{◌≡◌, ℕ, ◌<◌, List, [], length, refl, sym, ap, ◌∙◌, subst, arith, inl, inr, Err, Vec, Global, Some, IfSome, Option}
 use Rattle.devices.specs.declared.read.Input.{Input}
 use Rattle.devices.specs.declared.read.Input.TheVariants as inputs
 use Rattle.devices.specs.Input.{IfWhole}
 use Rattle.command.specs.declared.limits.TheConstants.{MOST_BYTES}
 use Rattle.command.specs.declared.refusal.Refusal.{Refusal}
 use Rattle.command.specs.declared.refusal.Refusal.TheVariants.{Usage, OutOfRange, AllZero, NotCoprime, FrameLimit, HeightLimit, TooLong, Text, TooMany, TooFine, NoIdentity, ShiftMoved, NotClosed, NoInverse, NotFrame, SkewFrame, Wide}
-use Rattle.command.specs.Requests.{Asked}
-use Rattle.command.specs.Answers.{IsInputRefusal}
+use Rattle.command.specs.Requests.{Asked, ReadsInput, at_height, all_heights, image_rows, type_table}
+use Rattle.command.specs.Answers.{IsInput, IsInputRefusal}
 use Rattle.command.specs.declared.obstacle.Obstacle.{Obstacle}
 use Rattle.command.specs.declared.obstacle.Obstacle.TheVariants as obstacles
 use Rattle.command.specs.Responses.{AnswersInput, HasAnswer}
@@ -71,3 +71,17 @@ front_written words left held held' text bytes made same front = record {
   asks = made.asks;
   writes = λ input all. (text, made.answers input all, subst (HoldsFront held held') same front);
 }
+
+-- ---- the input of a request
+
+pub reads_left : (asked : Asked) (left : Option (List ℕ)) (input : List ℕ) → ReadsInput asked → IsInput asked left input → left ≡ Some input
+reads_left (at_height row basis s) left input reads is = is
+reads_left (all_heights row basis) left input reads is = is
+reads_left (image_rows row) left input reads is = is
+reads_left (type_table kind n) left input reads is = absurd reads
+
+pub reads_nothing : (asked : Asked) (left : Option (List ℕ)) (input : List ℕ) → ¬ ReadsInput asked → IsInput asked left input → input ≡ []
+reads_nothing (at_height row basis s) left input reads is = absurd (reads tt)
+reads_nothing (all_heights row basis) left input reads is = absurd (reads tt)
+reads_nothing (image_rows row) left input reads is = absurd (reads tt)
+reads_nothing (type_table kind n) left input reads is = is

@@ -16,6 +16,12 @@ IsInputObstacle asked input (obstacles.Refused refusal) = IsInputRefusal asked i
 IsInputObstacle asked input obstacles.ReadFault = ⊥
 IsInputObstacle asked input obstacles.NoMemory = Unit {0}
 
+-- what keeps a request over a source from an answer
+abbrev pub IsSourceObstacle : Asked → Option (List ℕ) → ℕ → ℕ → Obstacle → Type 0
+IsSourceObstacle asked left faults faults' (obstacles.Refused refusal) = (input : List ℕ) → left ≡ Some input → IsInputRefusal asked input refusal
+IsSourceObstacle asked left faults faults' obstacles.ReadFault = Rose faults faults'
+IsSourceObstacle asked left faults faults' obstacles.NoMemory = Unit {0}
+
 -- this refusal, unless memory ran out
 abbrev pub RespondsRefusal : {A : Type 0} → Refusal → Result A Obstacle → Type 0
 RespondsRefusal refusal result = (result ≡ Err (obstacles.Refused refusal)) ⊎ (result ≡ Err obstacles.NoMemory)

@@ -6,7 +6,8 @@ ghost use Rattle.command.specs.declared.limits.TheConstants.{MOST_BYTES};
 ghost use Rattle.command.specs.declared.refusal.Refusal.{Refusal};
 ghost use Rattle.command.specs.Requests.{Asked, IsRequest, IsWordsRefusal, ReadsInput};
 ghost use Rattle.command.specs.Answers.{IsInput, IsInputRefusal, IsOutput};
-ghost use Rattle.command.specs.Responses.{AnswersInput, HasAnswer, IsObstacle, RefusesBy, RefusesInput};
+ghost use Rattle.command.specs.RequestView.{asked_of, IsAskedInRange};
+ghost use Rattle.command.specs.Responses.{AnswersInput, HasAnswer, IsObstacle, IsSourceObstacle, RefusesBy, RefusesInput};
 ghost use Rattle.command.specs.Runs.{Answers, Complains, HasCause, IsCause, LeavesOut, Refuses};
 
 use crate::limits::MOST_BYTES;
@@ -14,6 +15,7 @@ use crate::obstacle::Obstacle;
 use crate::outcome::Outcome;
 use crate::read_words::read_words;
 use crate::refusal::Refusal;
+use crate::request::Request;
 use crate::respond::respond;
 use devices::{Input, Sink, Source, put_all, read_all};
 use std::alloc::Global;
@@ -78,11 +80,31 @@ fn answer<S: Source>(alloc: Global, words: &[String], source: &mut S) -> Result<
     ensures within { ReadsWithin (S.left source.old) (S.left source.new) (MOST_BYTES + 1) }
 {
     let request = read_words(words)?;
-    if !request.reads_input() {
-        return respond(alloc, &request, &[]);
+    if request.reads_input() {
+        respond_to_source(alloc, &request, source)
+    } else {
+        respond(alloc, &request, &[])
     }
+}
+
+/// Reads the source to its end, and makes the answer to a request over what it gives.
+fn respond_to_source<S: Source>(
+    alloc: Global,
+    request: &Request,
+    source: &mut S,
+) -> Result<Vec<u8>, Obstacle>
+    requires range { IsAskedInRange (asked_of request.now) }
+    ensures text { IfOk result (λ text. (input : List ℕ) → S.left source.old ≡ Some input → IsOutput (asked_of request.now) input text.items) }
+    ensures whole { OnOk result (IsAtEnd (S.left source.new)) }
+    ensures obstacle { IfErr result (IsSourceObstacle (asked_of request.now) (S.left source.old) (S.faults source.old) (S.faults source.new)) }
+    ensures refuses { (input : List ℕ) (refusal : Refusal) → S.left source.old ≡ Some input →
+        IsInputRefusal (asked_of request.now) input refusal → RefusesInput refusal result }
+    ensures answers { (input : List ℕ) (text : List ℕ) → S.left source.old ≡ Some input →
+        IsOutput (asked_of request.now) input text → AnswersInput result }
+    ensures within { ReadsWithin (S.left source.old) (S.left source.new) (MOST_BYTES + 1) }
+{
     match read_all(alloc, source, MOST_BYTES)? {
-        Input::Whole(input) => respond(alloc, &request, &input),
+        Input::Whole(input) => respond(alloc, request, &input),
         Input::TooLong => Err(Obstacle::Refused(Refusal::TooLong)),
     }
 }
