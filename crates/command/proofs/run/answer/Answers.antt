@@ -37,4 +37,4 @@ pub returns-else-reads_input-clause-refuses_input : goal.returns-else-reads_inpu
 returns-else-reads_input-clause-refuses_input g c =
     λ asked input refusal asks is cause.
     absurd (nothing_refused (map string_bytes c.args.words.now) (asked_of c.in_ok-request.request) c.in_ok-request.ensures.ok (g.S.Source.left c.args.source.now)
-    (c.if-reads_input.ensures) asked input refusal asks is cause)
+    (λ reads. let t = c.if-reads_input.ensures.1 reads in cc) asked input refusal asks is cause)
