@@ -1,4 +1,2 @@
 pub mod Texts
-pub mod TypeNumbers
-pub mod TypeTexts
 pub mod Reports

@@ -5,7 +5,5 @@
 #![tactic(auto)]
 
 mod at;
-mod kind;
 
 pub use at::{NoMemory, at_text};
-pub use kind::Kind;

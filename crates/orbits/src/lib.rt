@@ -1,6 +1,0 @@
-// Stub.
-#![tactic(auto)]
-
-mod limits;
-
-pub use limits::WIDE;
