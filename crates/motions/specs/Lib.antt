@@ -6,5 +6,8 @@ pub mod Inverses
 pub mod ListedSizes
 pub mod MotionLaws
 pub mod PlaneFaults
+pub mod PlaneMatrices
+pub mod PlaneMatrixLaws
+pub mod SignLaws
 pub mod Signs
 pub mod Views
