@@ -1,0 +1,3 @@
+pub mod Lattices
+pub mod LatticeLaws
+pub mod ShiftLaws
