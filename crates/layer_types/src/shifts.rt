@@ -13,7 +13,7 @@ use motions::LayerMotion;
 use quotient::{Motion, Quotient};
 
 /// How many half parts half a cell edge has.
-const HALF_EDGE: i64 = UNIT;
+pub(crate) const HALF_EDGE: i64 = UNIT;
 
 /// How many half parts a cell edge has.
 const EDGE: i64 = 2 * UNIT;
