@@ -1,5 +1,5 @@
 -- Tests of motions modulo the lattice that compute, and what they say.
-use Rattle.std.proofs.Common.{◌≡◌, ◌↔◌, Bool, true, false, IsTrue, ◌&&◌, not, sym, ap, subst, ◌∙◌, refl}
+use Rattle.std.proofs.Common.{◌≡◌, Bool, true, false, ◌&&◌, not, ap, subst, refl}
 use Rattle.std.proofs.lemmas.Bool.{and_parts}
 use Rattle.quotient.specs.Kind.{IsSame}
 use Rattle.quotient.specs.Check.{Tests}

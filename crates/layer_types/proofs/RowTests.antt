@@ -1,5 +1,5 @@
 -- A value that passes the test of a row is the layer type of its number, or the generators of that type.
-use Rattle.std.proofs.Common.{◌≡◌, ℕ, Bool, true, ◌&&◌, ◌^◌, ◌≤◌, not, List, [], ◌∷◌, length, All, map, leb, nat_eq, arith, lit≤, ℤ, pos, nat_abs}
+use Rattle.std.proofs.Common.{◌≡◌, ℕ, Bool, true, ◌&&◌, ◌^◌, not, List, [], ◌∷◌, length, All, map, leb, nat_eq, arith, lit≤, ℤ, pos, negsuc, nat_abs, inl, inr}
 use Rattle.std.specs.Prelude.{AllPairs, int_le, int_lt}
 use Rattle.std.specs.Borrow.{Bor}
 use Rattle.std.specs.Bool.{passes}
@@ -8,7 +8,9 @@ use Rattle.std.specs.Str.{bytes_eq}
 use Rattle.std.specs.Cmp.{booleans_Decides}
 use Rattle.std.specs.Cmp.Lexicographic.{pointwise, pointwise_decides}
 use Rattle.std.proofs.lemmas.Bool.{and_parts}
-use Rattle.std.proofs.lemmas.Bool.Decides.{Decides-eqb}
+use Rattle.std.specs.Ordering.{int_eq}
+use Rattle.std.specs.Int.{int_rem_euclid}
+use Rattle.std.proofs.lemmas.Bool.Decides.{Decides-eqb, Decides-int_eq}
 use Rattle.std.proofs.lemmas.Int.{ints}
 use Rattle.std.proofs.lemmas.List.Elements.{All-weaker}
 use Rattle.std.proofs.lemmas.List.Kept.{AllPairs-cons}
@@ -19,6 +21,7 @@ use lib.Signed.{le_z_yes, lt_z_yes}
 use mathlib.Core.Bool.{beq}
 use Rattle.integers.specs.Size.{IsWithin}
 use Rattle.integers.proofs.Ring.{IsWithin-more}
+use Rattle.quotient.specs.Kind.{Keeps}
 use Rattle.quotient.specs.Check.{meets}
 use Rattle.quotient.specs.Order.{in_order}
 use Rattle.quotient.proofs.CheckLemma.{meets_is}
@@ -26,13 +29,13 @@ use Rattle.quotient.proofs.OrderLemma.{in_order_is}
 use Rattle.motions.specs.declared.layer.LayerMotion.{LayerMotion}
 use Rattle.motions.specs.PlaneMatrices.{Matrix2, Pair}
 use Rattle.motions.specs.PlaneSizes.{IsMatrix2Within, IsPairWithin}
-use Rattle.motions.specs.Layers.{PlanarMotion, planar_of, same_planar}
+use Rattle.motions.specs.Layers.{HasHalfPart, IsOdd, IsPlanarSmall, PlanarMotion, planar_of, same_planar}
 use Rattle.motions.specs.LayerLaws.{planar_followed_by_laws, same_planar-is}
 use Rattle.layer_types.specs.declared.layer_type.LayerType.{LayerType}
 use Rattle.layer_types.specs.Lattices.{IsReduced, edge, keeps_lattice, layer_kind}
 use Rattle.layer_types.specs.ShiftLaws.{keeps_is, shifts_lem}
 use Rattle.layer_types.specs.Rows.{Row, layer_row}
-use Rattle.layer_types.specs.LayerTypes.{AreGenerators, HaveOneBlock, IsLayerType, IsTypeOperation, layer_form}
+use Rattle.layer_types.specs.LayerTypes.{AreGenerators, HaveOneBlock, IsLayerType, layer_form}
 use Rattle.layer_types.proofs.KindTests.{apart_lem, layer_form_laws, layer_form_tests, layer_tests, layer_tests_laws, same_block}
 
 -- ---- each operation
@@ -56,8 +59,8 @@ unit_entries m e =
 abbrev is_reduced : Pair → Bool
 is_reduced v = (int_le (pos 0) v.x && int_lt v.x edge) && (int_le (pos 0) v.y && int_lt v.y edge)
 
-reduced : (v : Pair) → is_reduced v ≡ true → IsReduced v
-reduced v e =
+is_reduced_lem : (v : Pair) → is_reduced v ≡ true → IsReduced v
+is_reduced_lem v e =
     let (x, y) = and_parts (int_le (pos 0) v.x && int_lt v.x edge) (int_le (pos 0) v.y && int_lt v.y edge) e in
     let (a, b) = and_parts (int_le (pos 0) v.x) (int_lt v.x edge) x in
     let (c, d) = and_parts (int_le (pos 0) v.y) (int_lt v.y edge) y in
@@ -80,20 +83,50 @@ reduced_within v h =
     let y' = h.y_below in
     record { x = record { most = omega (arith, ints) }; y = record { most = omega (arith, ints) } }
 
+abbrev is_even : ℤ → Bool
+is_even z = int_eq (int_rem_euclid z (pos 2)) (pos 0)
+
+not_odd : (z : ℤ) → int_rem_euclid z (pos 2) ≡ pos 0 → ¬ IsOdd z
+not_odd (pos n) e (k, odd) = absurd (omega (arith, ints))
+not_odd (negsuc n) e (k, odd) = absurd (omega (arith, ints))
+
+no_half_part : (m : PlanarMotion) → (is_even m.shift.x && is_even m.shift.y) ≡ true → ¬ HasHalfPart m
+no_half_part m e h =
+    let (x, y) = and_parts (is_even m.shift.x) (is_even m.shift.y) e in
+    elim h [
+      | inl odd ↦ not_odd m.shift.x ((Decides-int_eq (int_rem_euclid m.shift.x (pos 2)) (pos 0)).0 x) odd
+      | inr odd ↦ not_odd m.shift.y ((Decides-int_eq (int_rem_euclid m.shift.y (pos 2)) (pos 0)).0 y) odd
+    ]
+
+-- what each operation of a type is
+record IsTypeOperation (centred : Bool) (m : PlanarMotion) : Type 0 where
+  entries : IsMatrix2Within 1 m.matrix
+  reduced : IsReduced m.shift
+  parts : ¬ HasHalfPart m
+  keeps : Keeps (layer_kind centred) m
+
 abbrev is_type_operation : Bool → PlanarMotion → Bool
-is_type_operation centred m = has_unit_entries m.matrix && (is_reduced m.shift && keeps_lattice centred m.matrix)
+is_type_operation centred m =
+    has_unit_entries m.matrix && (is_reduced m.shift && ((is_even m.shift.x && is_even m.shift.y) && keeps_lattice centred m.matrix))
 
 type_operation : (centred : Bool) (m : PlanarMotion) → is_type_operation centred m ≡ true → IsTypeOperation centred m
 type_operation centred m e =
-    let (entries, rest) = and_parts (has_unit_entries m.matrix) (is_reduced m.shift && keeps_lattice centred m.matrix) e in
-    let (shift, keeps) = and_parts (is_reduced m.shift) (keeps_lattice centred m.matrix) rest in
-    let matrix = unit_entries m.matrix entries in
+    let even = is_even m.shift.x && is_even m.shift.y in
+    let (entries, e1) = and_parts (has_unit_entries m.matrix) (is_reduced m.shift && (even && keeps_lattice centred m.matrix)) e in
+    let (shift, e2) = and_parts (is_reduced m.shift) (even && keeps_lattice centred m.matrix) e1 in
+    let (parts, keeps) = and_parts even (keeps_lattice centred m.matrix) e2 in
     record {
-      small = record { matrix = record { first = pair_more m.matrix.first matrix.first; second = pair_more m.matrix.second matrix.second }; shift = reduced_within m.shift (reduced m.shift shift) };
-      matrix = matrix;
-      reduced = reduced m.shift shift;
+      entries = unit_entries m.matrix entries;
+      reduced = is_reduced_lem m.shift shift;
+      parts = no_half_part m parts;
       keeps = (keeps_is centred m).0 keeps;
     }
+
+operation_small : (centred : Bool) (m : PlanarMotion) → IsTypeOperation centred m → IsPlanarSmall m
+operation_small centred m h = record {
+  matrix = record { first = pair_more m.matrix.first h.entries.first; second = pair_more m.matrix.second h.entries.second };
+  shift = reduced_within m.shift h.reduced;
+}
 
 -- ---- no two with one matrix and one sign
 
@@ -143,13 +176,19 @@ layer_type n t e =
     (in_order (layer_kind r.centred) (layer_form_tests r.centred) ms && (list_all (is_type_operation r.centred) ms && are_apart ms)) met in
     let (ordered, e5) = and_parts (in_order (layer_kind r.centred) (layer_form_tests r.centred) ms) (list_all (is_type_operation r.centred) ms && are_apart ms) e4 in
     let (each, separate) = and_parts (list_all (is_type_operation r.centred) ms) (are_apart ms) e5 in
+    let operations : All (IsTypeOperation r.centred) ms =
+    All-weaker (λ m. is_type_operation r.centred m ≡ true) (IsTypeOperation r.centred) (type_operation r.centred) ms (AllPass-from_list_all (is_type_operation r.centred) ms each) in
     record {
       number = (Decides-eqb t.number n).0 number;
       symbol = (bytes_eq-Decides t.symbol.now r.symbol).0 symbol;
       centred = (booleans_Decides t.centred r.centred).0 centred;
       closure = meets_is (layer_kind r.centred) (layer_tests r.centred) (layer_tests_laws r.centred) r.generators planar_followed_by_laws (shifts_lem r.centred) rounds ms closed;
       order = in_order_is (layer_kind r.centred) (layer_form r.centred) (layer_form_tests r.centred) (layer_form_laws r.centred) ms ordered;
-      operations = All-weaker (λ m. is_type_operation r.centred m ≡ true) (IsTypeOperation r.centred) (type_operation r.centred) ms (AllPass-from_list_all (is_type_operation r.centred) ms each);
+      small = All-weaker (IsTypeOperation r.centred) IsPlanarSmall (operation_small r.centred) ms operations;
+      entries = All-weaker (IsTypeOperation r.centred) (λ m. IsMatrix2Within 1 m.matrix) (λ m h. h.entries) ms operations;
+      reduced = All-weaker (IsTypeOperation r.centred) (λ m. IsReduced m.shift) (λ m h. h.reduced) ms operations;
+      parts = All-weaker (IsTypeOperation r.centred) (λ m. ¬ HasHalfPart m) (λ m h. h.parts) ms operations;
+      keeps = All-weaker (IsTypeOperation r.centred) (Keeps (layer_kind r.centred)) (λ m h. h.keeps) ms operations;
       apart = apart ms separate;
       count = leb→le (length t.ops.now) 24 (passes (leb (length t.ops.now) 24) count);
     }

@@ -1,10 +1,9 @@
 -- The laws of the lattice of a layer type. They stand here since an `impl` cites them.
-use Rattle.std.proofs.Common.{◌≡◌, ◌↔◌, ◌⊎◌, ℕ, suc, ◌-◌, ◌/◌, ◌%◌, ◌<◌, Bool, true, false, IsTrue, cond, ◌&&◌, ◌||◌, not, inl, inr, arith, refl, sym, ap, subst, ◌∙◌, ℤ, pos, negsuc, ◌+ℤ◌, ◌-ℤ◌, ◌*ℤ◌, ◌≤ℤ◌, ◌<ℤ◌}
+use Rattle.std.proofs.Common.{◌≡◌, ◌/◌, Bool, true, false, IsTrue, cond, ◌&&◌, inl, inr, arith, refl, sym, subst, ◌∙◌, ℤ, pos, negsuc, ◌+ℤ◌, ◌-ℤ◌, ◌*ℤ◌, ◌≤ℤ◌, ◌<ℤ◌}
 use Rattle.std.specs.Prelude.{unsigned_abs, int_lt}
 use Rattle.std.specs.Ordering.{int_eq}
 use Rattle.std.specs.Bool.{Decides, fails, passes}
 use lib.Signed.{lt_z_yes, lt_z_no}
-use Rattle.std.specs.Int.{int_rem_euclid}
 use Rattle.std.proofs.lemmas.Int.{ints}
 use Rattle.std.proofs.lemmas.Bool.Decides.{Decides-int_eq, Decides-and, Decides-or, Decides-like}
 use Rattle.integers.proofs.Spread.{spread}
@@ -40,7 +39,6 @@ in_opposite c v (inl h) =
 in_opposite c v (inr (t, h)) =
     let p = h.x in let q = h.y in
     inr (t, record { a = negsuc 0 *ℤ h.a -ℤ pos 1; b = negsuc 0 *ℤ h.b -ℤ pos 1; x = omega (arith, ints); y = omega (arith, ints) })
-
 
 -- from u by way of v to w
 pub in_between : (c : Bool) (u v w : Pair) → InLattice c (minus2 u v) → InLattice c (minus2 v w) → InLattice c (minus2 u w)

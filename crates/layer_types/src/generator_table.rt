@@ -5,7 +5,7 @@ ghost use Rattle.motions.specs.Layers.{planar_of};
 ghost use Rattle.layer_types.specs.LayerTypes.{AreGenerators};
 ghost use Rattle.layer_types.specs.Rows.{layer_row};
 
-use crate::op::op;
+use crate::operation::op;
 use crate::shifts::HALF_EDGE;
 use motions::{LayerMotion, Sign};
 

@@ -3,7 +3,7 @@
 // Numbers and symbols are taken after International Tables, Volume E. The generators, and with them the origins, are
 // this project's choice (`generator_table.rt`). The operations are what the generators and the lattice make, in order.
 use crate::layer_type::LayerType;
-use crate::op::op;
+use crate::operation::op;
 use motions::{LayerMotion, Sign};
 
 pub(crate) const TYPE_65: LayerType = LayerType {

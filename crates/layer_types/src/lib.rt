@@ -10,7 +10,7 @@ mod generator_table;
 mod hexagonal;
 mod layer_type;
 mod oblique;
-mod op;
+mod operation;
 mod rectangular;
 mod rectangular_mmm;
 mod shifts;

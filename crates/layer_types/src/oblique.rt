@@ -3,7 +3,7 @@
 // Numbers and symbols are taken after International Tables, Volume E. The generators, and with them the origins, are
 // this project's choice (`generator_table.rt`). The operations are what the generators and the lattice make, in order.
 use crate::layer_type::LayerType;
-use crate::op::op;
+use crate::operation::op;
 use crate::shifts::HALF_EDGE;
 use motions::{LayerMotion, Sign};
 
@@ -11,9 +11,7 @@ pub(crate) const TYPE_1: LayerType = LayerType {
     number: 1,
     symbol: "p1",
     centred: false,
-    ops: &[
-        op!([1, 0], [0, 1], Plus, [0, 0]),
-    ],
+    ops: &[op!([1, 0], [0, 1], Plus, [0, 0])],
 };
 
 pub(crate) const TYPE_2: LayerType = LayerType {

@@ -1,6 +1,5 @@
 -- No step overflows.
 use Rattle.std.proofs.Common.{ℕ, ◌∷◌, List, []}
-use Rattle.std.specs.Prelude.{unsigned_abs}
 use Rattle.integers.proofs.Solver.{Expr, Expr.{var, num, ◌⊕◌, ◌⊗◌}}
 use Rattle.integers.proofs.Coded.{code_is}
 use Rattle.motions.specs.PlaneMatrixLaws.{pair_path}
