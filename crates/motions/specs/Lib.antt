@@ -3,8 +3,15 @@ pub mod Bounds
 pub mod Divisors
 pub mod Equality
 pub mod Inverses
+pub mod LayerLaws
+pub mod Layers
 pub mod ListedSizes
 pub mod MotionLaws
 pub mod PlaneFaults
+pub mod PlaneMatrices
+pub mod PlaneMatrixLaws
+pub mod PlaneSizes
+pub mod PlaneViews
+pub mod SignLaws
 pub mod Signs
 pub mod Views

@@ -1,8 +1,9 @@
-// Motions of space as coordinate triplets give them, the Miller indices of a plane, and what the one does to the
-// other.
+// Motions of space as coordinate triplets give them, motions of a layer, the Miller indices of a plane, and what motions
+// of space do to planes.
 //
-// Promises to the crates above: `Motion3` meets the laws of `Motion`, with product and inverse exact; `Miller::make`
-// gives the orientation or names what is wrong; `side` and `shift` say exactly what a motion does to the planes of an
+// Promises to the crates above: `Motion3` and `LayerMotion` meet the laws of `Motion`, with product and inverse exact;
+// `triple` gives the block form of a motion of a layer, exactly where it has one in whole parts; `Miller::make` gives
+// the orientation or names what is wrong; `side` and `shift` say exactly what a motion does to the planes of an
 // orientation.
 #![tactic(auto)]
 
@@ -12,10 +13,12 @@ mod equality;
 mod frame_fault;
 mod index;
 mod inverses;
+mod layer;
 mod listed;
 mod miller;
 mod motion;
 mod plane_fault;
+mod plane_matrices;
 mod products;
 mod rows;
 mod space;
@@ -25,6 +28,7 @@ mod tests;
 pub use basis::Basis;
 pub use frame_fault::FrameFault;
 pub use index::INDEX;
+pub use layer::{LayerMotion, product_of_block_forms};
 pub use listed::Listed;
 pub use miller::Miller;
 pub use motion::{Motion3, Sign};
