@@ -2,6 +2,8 @@ pub mod BasisView
 pub mod Bounds
 pub mod Divisors
 pub mod Equality
+pub mod FriezeLaws
+pub mod FriezeMotions
 pub mod Inverses
 pub mod ListedSizes
 pub mod MotionLaws

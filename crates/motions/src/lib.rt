@@ -10,6 +10,7 @@ mod basis;
 mod divisors;
 mod equality;
 mod frame_fault;
+mod frieze;
 mod index;
 mod inverses;
 mod listed;
@@ -18,12 +19,14 @@ mod motion;
 mod plane_fault;
 mod products;
 mod rows;
+mod sign;
 mod space;
 #[cfg(test)]
 mod tests;
 
 pub use basis::Basis;
 pub use frame_fault::FrameFault;
+pub use frieze::FriezeMotion;
 pub use index::INDEX;
 pub use listed::Listed;
 pub use miller::Miller;
