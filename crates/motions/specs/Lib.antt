@@ -5,6 +5,7 @@ pub mod Equality
 pub mod FriezeLaws
 pub mod FriezeMotions
 pub mod Inverses
+pub mod LineLaws
 pub mod ListedSizes
 pub mod MotionLaws
 pub mod PlaneFaults

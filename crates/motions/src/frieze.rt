@@ -4,7 +4,8 @@ ghost use Rattle.std.specs.Cmp.{on_equiv, partial_equiv_from_equiv};
 ghost use Rattle.integers.specs.Size.{IsWithin};
 ghost use Rattle.integers.proofs.Ring.{IsWithin-more};
 ghost use Rattle.motions.specs.FriezeMotions.{FriezeOperation, frieze_followed_by, frieze_identity, frieze_of, same_frieze};
-ghost use Rattle.motions.specs.FriezeLaws.{frieze_laws, frieze_within, nothing_within, same_frieze-is, same_frieze_laws};
+ghost use Rattle.motions.specs.FriezeLaws.{frieze_laws, same_frieze-is, same_frieze_laws};
+ghost use Rattle.motions.specs.LineLaws.{along_within, nothing_within};
 
 use crate::motion::Sign;
 use crate::sign::{shift_along, shift_back};
@@ -81,5 +82,5 @@ impl Motion for FriezeMotion {
 
     ghost small_within = { λ a h. h };
 
-    ghost product_within = { frieze_within };
+    ghost product_within = { λ m n h k. along_within n.along h k };
 }
