@@ -1,12 +1,12 @@
 -- The laws of vectors and matrices in a plane. They stand here since an `impl` cites them.
-use Rattle.std.proofs.Common.{◌≡◌, ◌↔◌, ◌&&◌, IsTrue, sym, ap, ◌∙◌, arith, ℤ, negsuc, ◌+ℤ◌, ◌*ℤ◌}
+use Rattle.std.proofs.Common.{◌≡◌, ◌↔◌, IsTrue, ap, arith, ℤ, negsuc, ◌+ℤ◌, ◌*ℤ◌}
 use Rattle.std.proofs.lemmas.Int.{ints}
 use Rattle.std.specs.Ordering.{int_eq}
 use Rattle.std.specs.Cmp.Derive.{both_true}
 use Rattle.std.specs.Cmp.{first_so, second_so}
 use Rattle.std.proofs.lemmas.Bool.Decides.{Decides-int_eq}
 use Rattle.integers.proofs.Spread.{spread}
-use Rattle.motions.specs.PlaneMatrices.{Pair, Matrix2, dot2, image2, minus2, opposite2, origin2, plus2, product2, row_times2, same_matrix2, same_pair, unit2}
+use Rattle.motions.specs.PlaneMatrices.{Pair, Matrix2, image2, minus2, opposite2, origin2, plus2, product2, row_times2, same_matrix2, same_pair, unit2}
 
 -- two vectors are equal when their entries are, and two matrices when their rows are
 pub pair_path : {v w : Pair} → v.x ≡ w.x → v.y ≡ w.y → v ≡ w

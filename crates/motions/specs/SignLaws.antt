@@ -1,8 +1,8 @@
 -- The laws of signs. They stand here since an `impl` cites them.
-use Rattle.std.proofs.Common.{◌≡◌, ◌↔◌, IsTrue, refl, ap, ◌*ℤ◌}
+use Rattle.std.proofs.Common.{◌≡◌, ◌↔◌, IsTrue, refl, ◌*ℤ◌}
 use Rattle.motions.specs.declared.motion.Sign.{Sign}
 use Rattle.motions.specs.declared.motion.Sign.TheVariants.{Plus, Minus}
-use Rattle.motions.specs.Signs.{opposite_sign, same_sign, sign_product, sign_value}
+use Rattle.motions.specs.Signs.{same_sign, sign_product, sign_value}
 
 pub sign_product_assoc : (d e f : Sign) → sign_product (sign_product d e) f ≡ sign_product d (sign_product e f)
 sign_product_assoc Plus e f = refl

@@ -7,8 +7,8 @@ ghost use Rattle.motions.specs.FriezeMotions.{FriezeOperation, frieze_followed_b
 ghost use Rattle.motions.specs.FriezeLaws.{frieze_laws, same_frieze-is, same_frieze_laws};
 ghost use Rattle.motions.specs.LineLaws.{along_within, nothing_within};
 
+use crate::line::{shift_along, shift_back};
 use crate::motion::Sign;
-use crate::sign::{shift_along, shift_back};
 use quotient::Motion;
 
 /// A motion of the plane that maps the axis x to itself: it takes (x, y) to (f x + t, e y).
@@ -27,7 +27,7 @@ impl PartialEq for FriezeMotion {
     ghost laws = { partial_equiv_from_equiv (on_equiv frieze_of same_frieze_laws) };
 
     fn eq(&self, other: &Self) -> bool {
-        self.f == other.f && self.e == other.e && self.t == other.t
+        self.f.is_same(other.f) && self.e.is_same(other.e) && self.t == other.t
     }
 }
 
@@ -83,4 +83,45 @@ impl Motion for FriezeMotion {
     ghost small_within = { λ a h. h };
 
     ghost product_within = { λ m n h k. along_within n.along h k };
+}
+
+#[cfg(test)]
+mod tests {
+    use super::*;
+    use fractions::UNIT;
+
+    // x+1/2,-y
+    const GLIDE: FriezeMotion = FriezeMotion {
+        f: Sign::Plus,
+        e: Sign::Minus,
+        t: UNIT / 2,
+    };
+
+    // -x,y
+    const MIRROR: FriezeMotion = FriezeMotion {
+        f: Sign::Minus,
+        e: Sign::Plus,
+        t: 0,
+    };
+
+    #[test]
+    fn a_glide_and_then_a_mirror_is_a_half_turn(rt: HostRuntime) {
+        let half_turn = FriezeMotion {
+            f: Sign::Minus,
+            e: Sign::Minus,
+            t: -UNIT / 2,
+        };
+        assert!(rt; GLIDE.then(&MIRROR) == half_turn);
+        assert!(rt; GLIDE.then(&FriezeMotion::identity()) == GLIDE);
+        assert!(rt; half_turn.back() == Some(half_turn));
+    }
+
+    #[test]
+    fn a_glide_is_undone_by_the_opposite_glide(rt: HostRuntime) {
+        let undone = FriezeMotion {
+            t: -UNIT / 2,
+            ..GLIDE
+        };
+        assert!(rt; GLIDE.back() == Some(undone));
+    }
 }
