@@ -1,13 +1,6 @@
-// A library with one function.
+// The types of rods and friezes.
 #![tactic(auto)]
 
-ghost use Rattle.std.specs.Prelude.{◌≡◌};
-ghost use Rattle.line_types.specs.Echo.{echo_of};
+mod friezes;
 
-// The `ensures` clause is the contract: what `echo` returns is `echo_of` of its argument, a definition
-// in `specs/Echo.antt`, which a caller's clause can cite too.
-pub fn echo(x: usize) -> usize
-    ensures { result ≡ echo_of x }
-{
-    x
-}
+pub use friezes::{FriezeType, frieze, frieze_generators};

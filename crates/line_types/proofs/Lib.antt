@@ -1,0 +1,2 @@
+pub mod FriezeTests
+pub mod LineTests
