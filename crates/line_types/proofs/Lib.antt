@@ -1,2 +1,3 @@
 pub mod FriezeTests
 pub mod LineTests
+pub mod RodTests

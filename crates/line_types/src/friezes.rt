@@ -4,6 +4,7 @@ ghost use Rattle.std.specs.Prelude.{◌≡◌, ◌<◌, ◌↔◌, ◌⊎◌, If
 ghost use Rattle.quotient.specs.Table.{IsTable};
 ghost use Rattle.line_types.specs.Friezes.{AreFriezeGenerators, IsFriezeType};
 
+use crate::motion::frieze_motion;
 use fractions::UNIT;
 use motions::{FriezeMotion, Sign};
 
@@ -53,32 +54,26 @@ fn generators() -> &'static [&'static [FriezeMotion]]
     &GENERATORS
 }
 
-macro_rules! frieze {
-    ($along:ident, $across:ident, $shift:expr) => {
-        FriezeMotion { f: Sign::$along, e: Sign::$across, t: $shift }
-    };
-}
-
-static GENERATORS: [&'static [FriezeMotion]; 7] = [
+static GENERATORS: [&[FriezeMotion]; 7] = [
     // 1 p1: none
     &[],
     // 2 p211: -x,-y
-    &[frieze!(Minus, Minus, 0)],
+    &[frieze_motion!(Minus, Minus, 0)],
     // 3 p1m1: -x,y
-    &[frieze!(Minus, Plus, 0)],
+    &[frieze_motion!(Minus, Plus, 0)],
     // 4 p11m: x,-y
-    &[frieze!(Plus, Minus, 0)],
+    &[frieze_motion!(Plus, Minus, 0)],
     // 5 p11g: x+1/2,-y
-    &[frieze!(Plus, Minus, UNIT / 2)],
+    &[frieze_motion!(Plus, Minus, UNIT / 2)],
     // 6 p2mm: -x,-y; x,-y
     &[
-        frieze!(Minus, Minus, 0),
-        frieze!(Plus, Minus, 0),
+        frieze_motion!(Minus, Minus, 0),
+        frieze_motion!(Plus, Minus, 0),
     ],
     // 7 p2mg: -x,-y; x+1/2,-y
     &[
-        frieze!(Minus, Minus, 0),
-        frieze!(Plus, Minus, UNIT / 2),
+        frieze_motion!(Minus, Minus, 0),
+        frieze_motion!(Plus, Minus, UNIT / 2),
     ],
 ];
 
@@ -86,58 +81,58 @@ static TYPES: [FriezeType; 7] = [
     FriezeType {
         number: 1,
         symbol: "p1",
-        ops: &[frieze!(Plus, Plus, 0)],
+        ops: &[frieze_motion!(Plus, Plus, 0)],
     },
     FriezeType {
         number: 2,
         symbol: "p211",
         ops: &[
-            frieze!(Plus, Plus, 0),
-            frieze!(Minus, Minus, 0),
+            frieze_motion!(Plus, Plus, 0),
+            frieze_motion!(Minus, Minus, 0),
         ],
     },
     FriezeType {
         number: 3,
         symbol: "p1m1",
         ops: &[
-            frieze!(Plus, Plus, 0),
-            frieze!(Minus, Plus, 0),
+            frieze_motion!(Plus, Plus, 0),
+            frieze_motion!(Minus, Plus, 0),
         ],
     },
     FriezeType {
         number: 4,
         symbol: "p11m",
         ops: &[
-            frieze!(Plus, Plus, 0),
-            frieze!(Plus, Minus, 0),
+            frieze_motion!(Plus, Plus, 0),
+            frieze_motion!(Plus, Minus, 0),
         ],
     },
     FriezeType {
         number: 5,
         symbol: "p11g",
         ops: &[
-            frieze!(Plus, Plus, 0),
-            frieze!(Plus, Minus, UNIT / 2),
+            frieze_motion!(Plus, Plus, 0),
+            frieze_motion!(Plus, Minus, UNIT / 2),
         ],
     },
     FriezeType {
         number: 6,
         symbol: "p2mm",
         ops: &[
-            frieze!(Plus, Plus, 0),
-            frieze!(Plus, Minus, 0),
-            frieze!(Minus, Plus, 0),
-            frieze!(Minus, Minus, 0),
+            frieze_motion!(Plus, Plus, 0),
+            frieze_motion!(Plus, Minus, 0),
+            frieze_motion!(Minus, Plus, 0),
+            frieze_motion!(Minus, Minus, 0),
         ],
     },
     FriezeType {
         number: 7,
         symbol: "p2mg",
         ops: &[
-            frieze!(Plus, Plus, 0),
-            frieze!(Plus, Minus, UNIT / 2),
-            frieze!(Minus, Plus, UNIT / 2),
-            frieze!(Minus, Minus, 0),
+            frieze_motion!(Plus, Plus, 0),
+            frieze_motion!(Plus, Minus, UNIT / 2),
+            frieze_motion!(Minus, Plus, UNIT / 2),
+            frieze_motion!(Minus, Minus, 0),
         ],
     },
 ];

@@ -2,5 +2,16 @@
 #![tactic(auto)]
 
 mod friezes;
+mod generators;
+mod hexagonal_high;
+mod hexagonal_low;
+mod monoclinic;
+mod motion;
+mod orthorhombic;
+mod rods;
+mod tetragonal;
+mod trigonal;
 
 pub use friezes::{FriezeType, frieze, frieze_generators};
+pub use generators::rod_generators;
+pub use rods::{RodType, rod};
