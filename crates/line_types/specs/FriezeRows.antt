@@ -30,7 +30,7 @@ row symbol generators = record { symbol = symbol; generators = generators }
 -- in the order of the numbers, from 1
 unfoldable pub frieze_rows : List (Row FriezeOperation)
 frieze_rows =
-    row (codes "p1") ([]) ∷  -- 1: none
+    row (codes "p1") [] ∷  -- 1: none
     row (codes "p211") (half_turn ∷ []) ∷  -- 2: -x,-y
     row (codes "p1m1") (mirror_across ∷ []) ∷  -- 3: -x,y
     row (codes "p11m") (mirror_along none ∷ []) ∷  -- 4: x,-y

@@ -106,7 +106,7 @@ row symbol generators = record { symbol = symbol; generators = generators }
 -- in the order of the numbers, from 1
 unfoldable pub rod_rows : List (Row RodOperation)
 rod_rows =
-    row (codes "p1") ([]) ∷  -- 1: none
+    row (codes "p1") [] ∷  -- 1: none
     row (codes "p-1") (inversion ∷ []) ∷  -- 2: -x,-y,-z
     row (codes "p211") (twofold_x none ∷ []) ∷  -- 3: x,-y,-z
     row (codes "pm11") (mirror_x none ∷ []) ∷  -- 4: -x,y,z

@@ -9,9 +9,11 @@ mod monoclinic;
 mod motion;
 mod orthorhombic;
 mod rods;
+mod shifts;
 mod tetragonal;
 mod trigonal;
 
 pub use friezes::{FriezeType, frieze, frieze_generators};
 pub use generators::rod_generators;
 pub use rods::{RodType, rod};
+pub use shifts::{FriezeShifts, RodShifts};
