@@ -1,6 +1,6 @@
 -- Tests of a type that compute, and what they say.
 use lib.Dec.{eqb, leb}
-use Rattle.std.proofs.Common.{◌≡◌, ℕ, zero, suc, ◌<◌, ◌^◌, Bool, true, false, ◌&&◌, List, [], ◌∷◌, length, get_or, All, AllPairs, subst, arith, ℤ, pos, ◌≤ℤ◌, ◌<ℤ◌, refl, lit≤}
+use Rattle.std.proofs.Common.{◌≡◌, ℕ, zero, suc, ◌^◌, Bool, true, ◌&&◌, List, [], ◌∷◌, length, get_or, All, AllPairs, subst, arith, ℤ, pos, ◌≤ℤ◌, ◌<ℤ◌, refl, lit≤}
 use Rattle.std.specs.Prelude.{nat_abs, not, unsigned_abs}
 use Rattle.std.specs.List.{list_all}
 use Rattle.std.specs.Ordering.{int_eq}
@@ -15,7 +15,7 @@ use Rattle.std.specs.Cmp.Lexicographic.{pointwise}
 use Rattle.integers.specs.Size.{IsWithin}
 use Rattle.integers.proofs.Ring.{IsWithin-more}
 use Rattle.fractions.specs.declared.part.TheConstants.{UNIT}
-use Rattle.fractions.specs.Parts.{reduced_parts, IsReduced}
+use Rattle.fractions.specs.Parts.{reduced_parts}
 use Rattle.fractions.proofs.Reduced.{IsReduced-reduced_parts}
 use Rattle.quotient.specs.Kind.{Kind}
 use Rattle.quotient.specs.Check.{Tests, each_once, meets}

@@ -1,5 +1,5 @@
 -- Proofs that frieze motions meet the laws of operations along a line. They stand here since an `impl` cites them.
-use Rattle.std.proofs.Common.{refl, pos, ◌+ℤ◌, ◌*ℤ◌, ap}
+use Rattle.std.proofs.Common.{refl, ◌+ℤ◌, ap}
 use Rattle.integers.proofs.Ring.{one_mul}
 use Rattle.motions.specs.SignLaws.{sign_product-plus}
 use Rattle.motions.specs.FriezeLaws.{frieze_laws, frieze_path, same_frieze-is}

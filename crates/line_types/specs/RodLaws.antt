@@ -1,5 +1,5 @@
 -- Proofs that rod motions meet the laws of operations along a line. They stand here since an `impl` cites them.
-use Rattle.std.proofs.Common.{◌≡◌, ℤ, pos, ◌+ℤ◌, ◌^◌, List, [], ◌∷◌, All, ap, refl, lit≤, arith}
+use Rattle.std.proofs.Common.{pos, ◌+ℤ◌, ◌^◌, All, ap, refl, lit≤}
 use Rattle.integers.specs.Size.{IsWithin}
 use Rattle.integers.proofs.Ring.{one_mul, IsWithin-more}
 use Rattle.motions.specs.SignLaws.{sign_product-plus}

@@ -3,7 +3,7 @@ use Rattle.motions.specs.FriezeMotions.{frieze_of}
 use Rattle.line_types.specs.LineLaws.{keeps}
 use Rattle.line_types.specs.FriezeLaws.{frieze_line_laws}
 use Rattle.line_types.specs.Friezes.{frieze_line}
-use Rattle.line_types.proofs.shifts.FriezeShiftsQuotient.keeps.Goals as goal
+use Rattle.line_types.proofs.frieze_shifts.FriezeShiftsQuotient.keeps.Goals as goal
 
 pub returns : goal.returns
 returns c = (λ _. keeps frieze_line frieze_line_laws (frieze_of c.args._m.now), λ _. refl)
