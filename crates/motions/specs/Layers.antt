@@ -1,5 +1,5 @@
 -- Motions of a layer, how they multiply, and their block form in space.
-use Rattle.std.specs.Prelude.{◌≡◌, ℤ, pos, ◌+ℤ◌, ◌*ℤ◌, ◌^◌, Bool, ◌&&◌}
+use Rattle.std.specs.Prelude.{◌≡◌, ℤ, pos, ◌+ℤ◌, ◌*ℤ◌, ◌^◌, ◌⊎◌, Bool, ◌&&◌}
 use Rattle.symmetry.specs.Vectors.{Matrix}
 use Rattle.symmetry.specs.Motions.{Motion}
 use Rattle.motions.specs.declared.motion.Sign.{Sign}
@@ -64,3 +64,7 @@ pub record IsBlockForm (m : PlanarMotion) (block : Motion) : Type 0 where
 -- an odd number
 abbrev pub IsOdd : ℤ → Type 0
 IsOdd n = (k : ℤ) × (n ≡ pos 2 *ℤ k +ℤ pos 1)
+
+-- an entry of the translation is no whole number of parts
+abbrev pub HasHalfPart : PlanarMotion → Type 0
+HasHalfPart m = IsOdd m.shift.x ⊎ IsOdd m.shift.y

@@ -1,9 +1,9 @@
 // Motions of a layer: equality, product, inverse, and the block form in space.
 ghost use Rattle.std.specs.Cmp.{on_equiv, partial_equiv_from_equiv};
-ghost use Rattle.std.specs.Prelude.{◌≡◌, ◌↔◌, ◌⊎◌, ◌*ℤ◌, pos, IfSome, IsNone, MatchOption};
+ghost use Rattle.std.specs.Prelude.{◌≡◌, ◌↔◌, ◌*ℤ◌, pos, IfSome, IsNone, MatchOption};
 ghost use Rattle.symmetry.specs.Motions.{Motion as MotionOfSpace, followed_by};
 ghost use Rattle.motions.specs.LayerLaws.{IsPairWithin-more, planar_followed_by_laws, planar_followed_by_within, planar_identity_within, same_planar-is, same_planar_laws};
-ghost use Rattle.motions.specs.Layers.{IsBlockForm, IsOdd, IsPlanarSmall, PlanarMotion, planar_followed_by, planar_identity, planar_of, same_planar};
+ghost use Rattle.motions.specs.Layers.{HasHalfPart, IsBlockForm, IsOdd, IsPlanarSmall, PlanarMotion, planar_followed_by, planar_identity, planar_of, same_planar};
 ghost use Rattle.motions.specs.PlaneSizes.{IsPairWithin};
 ghost use Rattle.motions.specs.Views.{motion_of};
 
@@ -29,7 +29,7 @@ impl LayerMotion {
     /// The block form in space: `a` in the plane and `e` along the third axis. None comes exactly where an entry of
     /// `t` is odd, so no whole number of parts.
     pub fn triple(&self) -> Option<Motion3>
-        ensures none { IsNone result ↔ (IsOdd (planar_of self.now).shift.x ⊎ IsOdd (planar_of self.now).shift.y) }
+        ensures none { IsNone result ↔ HasHalfPart (planar_of self.now) }
         ensures block { IfSome result (λ m. IsBlockForm (planar_of self.now) (motion_of m)) }
     {
         let x = half(self.t[0])?;
