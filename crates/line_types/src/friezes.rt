@@ -1,5 +1,5 @@
-// The frieze types, after International Tables, Volume E, for number and symbol; generators and origins are this
-// project's choice.
+// The frieze types. Number and symbol are after International Tables, Volume E; generators and origins are this project's
+// choice.
 ghost use Rattle.std.specs.Prelude.{◌≡◌, ◌<◌, ◌↔◌, ◌⊎◌, IfSome, IsNone};
 ghost use Rattle.quotient.specs.Table.{IsTable};
 ghost use Rattle.line_types.specs.Friezes.{AreFriezeGenerators, IsFriezeType};

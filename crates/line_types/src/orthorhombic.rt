@@ -1,5 +1,5 @@
-// The orthorhombic rod types, after International Tables, Volume E, for number and symbol; generators and
-// origins are this project's choice.
+// The orthorhombic rod types. Number and symbol are after International Tables, Volume E.
+// Above each type stand the generators that define it, which are this project's choice, as its origin is.
 use crate::motion::rod_motion;
 use crate::rods::RodType;
 use fractions::UNIT;

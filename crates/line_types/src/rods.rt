@@ -1,4 +1,4 @@
-// The rod types, after International Tables, Volume E, for number and symbol; generators and origins are this project's
+// The rod types. Number and symbol are after International Tables, Volume E; generators and origins are this project's
 // choice.
 ghost use Rattle.std.specs.Prelude.{◌≡◌, ◌<◌, ◌↔◌, ◌⊎◌, IfSome, IsNone};
 ghost use Rattle.quotient.specs.Table.{IsTable};

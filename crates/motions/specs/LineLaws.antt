@@ -1,5 +1,5 @@
 -- Proofs about translations along a line, turned by signs. They stand here since laws that an `impl` cites rest on them.
-use Rattle.std.proofs.Common.{◌≡◌, ℕ, ◌+◌, ◌*◌, ◌^◌, ℤ, pos, ◌+ℤ◌, ◌*ℤ◌, [], ◌∷◌, ap, ◌∙◌, lit≤}
+use Rattle.std.proofs.Common.{◌≡◌, ◌^◌, ℤ, pos, ◌+ℤ◌, ◌*ℤ◌, [], ◌∷◌, ap, ◌∙◌, lit≤}
 use Rattle.integers.specs.Size.{IsWithin}
 use Rattle.integers.proofs.Ring.{mul_zero, zero_add, IsWithin-add, IsWithin-mul, IsWithin-more}
 use Rattle.integers.proofs.Solver.{Expr.{var, neg, ◌⊕◌, ◌⊗◌}, linear, given}

@@ -1,5 +1,5 @@
 // Motions of a plane that map a line of it to itself.
-ghost use Rattle.std.specs.Prelude.{◌^◌};
+ghost use Rattle.std.specs.Prelude.{◌≡◌, ◌^◌, IfSome, IsSome};
 ghost use Rattle.std.specs.Cmp.{on_equiv, partial_equiv_from_equiv};
 ghost use Rattle.integers.specs.Size.{IsWithin};
 ghost use Rattle.integers.proofs.Ring.{IsWithin-more};
@@ -64,7 +64,14 @@ impl Motion for FriezeMotion {
         }
     }
 
-    fn back(&self) -> Option<Self> {
+    /// The inverse, which each frieze motion has.
+    fn back(&self) -> Option<Self>
+        requires { IsWithin (2 ^ 40) (frieze_of self.now).shift }
+        ensures some { IsSome result }
+        ensures inverse { IfSome result (λ m.
+            (frieze_followed_by (frieze_of self.now) (frieze_of m) ≡ frieze_identity)
+            × (frieze_followed_by (frieze_of m) (frieze_of self.now) ≡ frieze_identity)) }
+    {
         Some(FriezeMotion {
             f: self.f,
             e: self.e,
