@@ -1,5 +1,6 @@
 // The hexagonal rod types of the crystal classes 622, 6mm, -6m2 and 6/mmm. Number and symbol are after International
-// Tables, Volume E. Above each type stand the generators that define it, which are this project's choice, as its origin is.
+// Tables, Volume E. Above each type stand the generators that define it, which are this project's choice, as its origin
+// is.
 use crate::motion::rod_motion;
 use crate::rods::RodType;
 use fractions::UNIT;

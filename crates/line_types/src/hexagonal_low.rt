@@ -1,5 +1,5 @@
-// The hexagonal rod types of the crystal classes 6, -6 and 6/m. Number and symbol are after
-// International Tables, Volume E. Above each type stand the generators that define it, which are this project's choice, as its origin is.
+// The hexagonal rod types of the crystal classes 6, -6 and 6/m. Number and symbol are after International Tables,
+// Volume E. Above each type stand the generators that define it, which are this project's choice, as its origin is.
 use crate::motion::rod_motion;
 use crate::rods::RodType;
 use fractions::UNIT;

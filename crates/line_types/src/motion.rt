@@ -1,5 +1,5 @@
-// How the tables write motions: rods by the two rows of the matrix, friezes by the sign along the line and the one across
-// it; then the sign along the axis of a rod, and the translation.
+// How the tables write motions. That of a rod has the two rows of its matrix and the sign along the axis, that of a
+// frieze the sign along the line and the one across it; the translation is last.
 
 macro_rules! rod_motion {
     ($first:expr, $second:expr, $sign:ident, $shift:expr) => {
