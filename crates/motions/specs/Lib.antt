@@ -2,9 +2,12 @@ pub mod BasisView
 pub mod Bounds
 pub mod Divisors
 pub mod Equality
+pub mod FriezeLaws
+pub mod FriezeMotions
 pub mod Inverses
 pub mod LayerLaws
 pub mod Layers
+pub mod LineLaws
 pub mod ListedSizes
 pub mod MotionLaws
 pub mod PlaneFaults
@@ -12,6 +15,8 @@ pub mod PlaneMatrices
 pub mod PlaneMatrixLaws
 pub mod PlaneSizes
 pub mod PlaneViews
+pub mod RodLaws
+pub mod RodMotions
 pub mod SignLaws
 pub mod Signs
 pub mod Views

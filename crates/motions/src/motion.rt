@@ -13,7 +13,7 @@ pub enum Sign {
 
 impl Sign {
     /// 1 or -1.
-    pub(crate) fn value(self) -> i64
+    pub fn value(self) -> i64
         ensures { result ≡ sign_value self }
     {
         match self {
