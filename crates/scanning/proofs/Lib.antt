@@ -1,7 +1,11 @@
 pub mod Choices
 pub mod ChosenLists
+pub mod HomeMotions
+pub mod HomeSizes
 pub mod MemberChoices
 pub mod RaisedMotions
 pub mod ReducedMotions
 pub mod Remainders
+pub mod RowSets
+pub mod SameMotions
 pub mod Shifts

@@ -14,22 +14,21 @@ pub shift_within : (n : ℕ) (r v : Vector) → IsVectorWithin (unsigned_abs IND
 unfolding dot
 shift_within n r v row small = IsWithin-add (IsWithin-add (IsWithin-mul row.x small.x) (IsWithin-mul row.y small.y)) (IsWithin-mul row.z small.z)
 
--- the code's difference of a level and the shift of a vector within a cell
-module _ (r v : Vector) (level shift : ℤ) (is : shift ≡ dot r v) (level_small : IsWithin largest_level level)
-    (row : IsVectorWithin (unsigned_abs INDEX) r) (small : IsVectorWithin (unsigned_abs UNIT) v) where
+-- the code's difference of a level and the shift of a motion
+module _ (level shift at : ℤ) (is : shift ≡ at) (level_small : IsWithin largest_level level) (small : IsWithin (largest_shift (unsigned_abs UNIT)) at) where
   shift_small : IsWithin (largest_shift (unsigned_abs UNIT)) shift
-  shift_small = subst (IsWithin (largest_shift (unsigned_abs UNIT))) (sym is) (shift_within (unsigned_abs UNIT) r v row small)
+  shift_small = let P : ℤ → Type 0 = IsWithin (largest_shift (unsigned_abs UNIT)) in subst P (sym is) small
 
   pub apart_fits : FitsSigned w64 (again level -ℤ again shift)
   apart_fits = code_fits (largest_level ∷ largest_shift (unsigned_abs UNIT) ∷ []) (level ∷ shift ∷ []) (var 0 ⊝ var 1) tt (level_small, (shift_small, tt))
 
-  pub apart_is : again (again level -ℤ again shift) ≡ level -ℤ dot r v
+  pub apart_is : again (again level -ℤ again shift) ≡ level -ℤ at
   apart_is =
       code_is (largest_level ∷ largest_shift (unsigned_abs UNIT) ∷ []) (level ∷ shift ∷ []) (var 0 ⊝ var 1) tt (level_small, (shift_small, tt))
       ∙ ap (λ z. level -ℤ z) is
 
-  pub apart_within : IsWithin largest_count (level -ℤ dot r v)
-  apart_within = IsWithin-sub level_small (shift_within (unsigned_abs UNIT) r v row small)
+  pub apart_within : IsWithin largest_count (level -ℤ at)
+  apart_within = IsWithin-sub level_small small
 
 -- ---- quotients
 

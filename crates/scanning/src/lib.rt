@@ -4,7 +4,9 @@
 #![tactic(auto)]
 
 mod height;
+mod homes;
 mod levels;
+mod members;
 mod operations;
 mod raised;
 mod scan;
@@ -12,5 +14,6 @@ mod scan;
 mod tests;
 
 pub use height::Height;
-pub use operations::{NoMemory, operations_at};
+pub use homes::NoMemory;
+pub use operations::operations_at;
 pub use scan::Scan;

@@ -16,22 +16,17 @@ period_is q =
     again_is q.period.0 (largest_shift n) (subst P q.tau_gives (shift_within n (row_of q.plane) (parts q.tau) q.plane.in_range q.tau_in_range)) (lit< tt)
 
 pub overflow_sub-level : goal.overflow_sub-level
-overflow_sub-level c =
-    let plane = c.args.frame.now.plane in
-    apart_fits (row_of plane) (parts c.args.m.now.t) c.args.level c.shift.result c.shift.ensures c.requires.level plane.in_range c.requires.translation
+overflow_sub-level c = apart_fits c.args.level c.shift.result _ c.shift.ensures c.requires.level c.requires.shift
 
 pub returns-clause-is : goal.returns-clause-is
 returns-clause-is c =
-    let plane = c.args.frame.now.plane in
     quotient_is c.whole_quotient.result _ _ _ _ (period_is c.args.frame.now)
-    (apart_is (row_of plane) (parts c.args.m.now.t) c.args.level c.shift.result c.shift.ensures c.requires.level plane.in_range c.requires.translation)
+    (apart_is c.args.level c.shift.result _ c.shift.ensures c.requires.level c.requires.shift)
     c.whole_quotient.ensures.is
 
 pub returns-clause-small : goal.returns-clause-small
 returns-clause-small c =
-    let plane = c.args.frame.now.plane in
-    let v = parts c.args.m.now.t in
     quotient_within c.whole_quotient.result largest_count _ _
-    (apart_is (row_of plane) v c.args.level c.shift.result c.shift.ensures c.requires.level plane.in_range c.requires.translation)
-    (apart_within (row_of plane) v c.args.level c.shift.result c.shift.ensures c.requires.level plane.in_range c.requires.translation)
+    (apart_is c.args.level c.shift.result _ c.shift.ensures c.requires.level c.requires.shift)
+    (apart_within c.args.level c.shift.result _ c.shift.ensures c.requires.level c.requires.shift)
     c.whole_quotient.ensures.small
