@@ -9,3 +9,5 @@ pub mod Remainders
 pub mod RowSets
 pub mod SameMotions
 pub mod Shifts
+pub mod TurnedLevels
+pub mod Zips

@@ -4,6 +4,7 @@
 #![tactic(auto)]
 
 mod height;
+mod heights;
 mod homes;
 mod levels;
 mod members;
@@ -12,6 +13,7 @@ mod raised;
 mod scan;
 #[cfg(test)]
 mod tests;
+mod turned;
 
 pub use height::Height;
 pub use homes::NoMemory;

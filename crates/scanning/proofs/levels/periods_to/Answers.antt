@@ -6,14 +6,8 @@ use Rattle.integers.proofs.Coded.{again, again_is}
 use Rattle.motions.specs.Views.{parts, row_of}
 use Rattle.plane_lattice.specs.declared.frame.Frame.{Frame}
 use Rattle.scanning.specs.Bounds.{largest_count, largest_shift}
-use Rattle.scanning.proofs.Shifts.{shift_within, apart_fits, apart_is, apart_within, quotient_is, quotient_within}
+use Rattle.scanning.proofs.Shifts.{period_is, apart_fits, apart_is, apart_within, quotient_is, quotient_within}
 use Rattle.scanning.proofs.levels.periods_to.Goals as goal
-
-period_is : (q : Frame) → again q.period.0 ≡ q.period.0
-period_is q =
-    let n = 1000 * unsigned_abs UNIT in
-    let P : ℤ → Type 0 = IsWithin (largest_shift n) in
-    again_is q.period.0 (largest_shift n) (subst P q.tau_gives (shift_within n (row_of q.plane) (parts q.tau) q.plane.in_range q.tau_in_range)) (lit< tt)
 
 pub overflow_sub-level : goal.overflow_sub-level
 overflow_sub-level c = apart_fits c.args.level c.shift.result _ c.shift.ensures c.requires.level c.requires.shift
