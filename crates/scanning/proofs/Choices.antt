@@ -1,5 +1,5 @@
 -- What the members that keep the row, or turn it with a given shift, have at home of the coset of one motion.
-use Rattle.std.proofs.Common.{◌≡◌, ℤ, pos, negsuc, ◌+ℤ◌, ◌-ℤ◌, ◌*ℤ◌, inl, inr, Option, None, Some, refl, sym, ◌∙◌, ap, arith}
+use Rattle.std.proofs.Common.{◌≡◌, ℤ, pos, negsuc, ◌+ℤ◌, ◌-ℤ◌, ◌*ℤ◌, inl, inr, Option, None, Some, sym, ◌∙◌, ap, arith}
 use Rattle.std.proofs.lemmas.Int.{ints}
 use Rattle.symmetry.specs.Vectors.{Vector, plus, minus, opposite, multiple, dot, row_times}
 use Rattle.symmetry.specs.Motions.{Motion}

@@ -1,23 +1,20 @@
 -- What is chosen operation by operation, with one operation more, and the list that comes of it.
-use Rattle.std.proofs.Common.{◌≡◌, ℕ, ◌+◌, ◌<◌, ◌≤◌, List, [], ◌∷◌, ◌++◌, length, take, map, get_or, Some, None, ◌↔◌, subst, sym, ap, ◌∙◌}
+use Rattle.std.proofs.Common.{◌≡◌, ℕ, ◌+◌, ◌<◌, List, [], ◌∷◌, ◌++◌, length, take, map, get_or, Some, None, ◌↔◌, subst, sym, ap, ◌∙◌}
 use Rattle.std.specs.Prelude.{All, AllPairs, Contains}
-use Rattle.std.proofs.lemmas.List.{get_or_default, map-append, take_all, take_more}
+use Rattle.std.proofs.lemmas.List.{get_or_default, map-append, take_more}
 use Rattle.std.proofs.lemmas.List.Elements.{All-contains, All-push, at_from_Contains}
 use Rattle.quotient.proofs.Items.{Contains-item}
 use Rattle.symmetry.specs.Vectors.{Vector}
 use Rattle.symmetry.specs.Motions.{Motion, identity}
-use Rattle.symmetry.specs.Planes.{Height, IsCoprime, IsHeight}
-use Rattle.symmetry.specs.Groups.{Listing, IsGroup, InRowStabiliser, InStabiliser, IsMember, SameModulo}
-use Rattle.symmetry.specs.Frames.{Basis, IsAtHome}
+use Rattle.symmetry.specs.Groups.{Listing, IsMember, SameModulo}
+use Rattle.symmetry.specs.Frames.{Basis}
 use Rattle.symmetry.specs.Lists.{AreChosen, no_more, passed, taken, AreCovered, IsChoice, IsListOf}
-use Rattle.symmetry.specs.Sizes.{IsSmall}
-use Rattle.symmetry.proofs.LatticeLaws.{listed_member, same_sym, same_trans}
+use Rattle.symmetry.proofs.LatticeLaws.{same_sym, same_trans}
 use Rattle.symmetry.proofs.ListFacts.{chosen_is_list}
 use Rattle.symmetry.proofs.ListLaws.{list_of_same_set}
 use Rattle.scanning.specs.Members.{AreSameMotions, IsHomeMotion}
 use Rattle.scanning.proofs.SameMotions.{chosen_same}
 use Rattle.motions.specs.declared.motion.Motion3.{Motion3}
-use Rattle.motions.specs.ListedSizes.{IsSmallWithin}
 use Rattle.motions.specs.Views.{motion_of}
 
 op_listed : (ops : List Motion3) (i : ℕ) (d : Motion3) → i < length ops → Contains (map motion_of ops) (motion_of (get_or ops i d))

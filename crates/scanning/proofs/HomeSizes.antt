@@ -1,13 +1,13 @@
 -- How large the translation of a motion at home is.
 use native.Mathlib.Decide.{dec_lt}
 use native.Mathlib.Nat.{mul-le-mul_left}
-use Rattle.std.proofs.Common.{◌≡◌, ℕ, suc, ◌+◌, ◌*◌, ◌<◌, ◌≤◌, ℤ, pos, negsuc, ◌+ℤ◌, ◌*ℤ◌, ◌≤ℤ◌, ◌<ℤ◌, nat_abs, sym, ◌∙◌, ap, subst, arith}
+use Rattle.std.proofs.Common.{◌≡◌, ℕ, suc, ◌+◌, ◌*◌, ◌<◌, ◌≤◌, ℤ, pos, ◌+ℤ◌, ◌*ℤ◌, ◌≤ℤ◌, ◌<ℤ◌, nat_abs, sym, ◌∙◌, ap, subst, arith}
 use Rattle.std.proofs.lemmas.Int.{ints}
 use Rattle.integers.specs.Size.{IsWithin}
 use Rattle.integers.proofs.Ring.{IsWithin-add, IsWithin-mul, abs-mul}
 use Rattle.symmetry.specs.Vectors.{Vector, plus, multiple, dot}
 use Rattle.symmetry.specs.Motions.{Motion}
-use Rattle.symmetry.specs.Frames.{Basis, combination, IsFrame, IsAtHome}
+use Rattle.symmetry.specs.Frames.{Basis, IsFrame, IsAtHome}
 use Rattle.symmetry.specs.Groups.{Listing}
 use Rattle.symmetry.specs.Sizes.{IsVectorWithin}
 use Rattle.symmetry.proofs.VectorLaws.{dot-multiple}

@@ -1,7 +1,11 @@
 pub mod Choices
 pub mod ChosenLists
+pub mod Classes
+pub mod HeightNumbers
 pub mod HomeMotions
 pub mod HomeSizes
+pub mod MadeHeights
+pub mod MadeScans
 pub mod MemberChoices
 pub mod RaisedMotions
 pub mod ReducedMotions

@@ -1,10 +1,10 @@
 -- The choice of a motion at home, moved along tau.
-use Rattle.std.proofs.Common.{◌≡◌, ℤ, ◌+ℤ◌, ◌-ℤ◌, ◌*ℤ◌, Option, Some, refl, ◌∙◌, subst, arith}
+use Rattle.std.proofs.Common.{◌≡◌, ℤ, ◌+ℤ◌, ◌-ℤ◌, ◌*ℤ◌, Option, Some, refl, ◌∙◌, arith}
 use Rattle.std.proofs.lemmas.Int.{ints}
 use Rattle.integers.proofs.Spread.{spread}
-use Rattle.symmetry.specs.Vectors.{Vector, minus, multiple, dot, row_times, origin}
+use Rattle.symmetry.specs.Vectors.{Vector, multiple, dot, row_times}
 use Rattle.symmetry.specs.Motions.{Motion}
-use Rattle.symmetry.specs.Groups.{Listing, IsInLattice, zero_vector, IsMember, SameModulo}
+use Rattle.symmetry.specs.Groups.{Listing, IsMember, SameModulo}
 use Rattle.symmetry.specs.Frames.{Basis, IsFrame, IsAtHome}
 use Rattle.symmetry.specs.Lists.{IsChoice}
 use Rattle.symmetry.proofs.LatticeLaws.{same_refl}

@@ -1,6 +1,5 @@
 -- The members that rows tell are those of the stabiliser of a plane, or those that map every plane to itself.
-use Rattle.std.proofs.Common.{◌≡◌, ◌↔◌, ℤ, pos, ◌*ℤ◌, inl, inr, Option, None, Some, MatchOption, sym, ◌∙◌, ap}
-use Rattle.fractions.specs.declared.part.TheConstants.{UNIT}
+use Rattle.std.proofs.Common.{◌↔◌, ℤ, ◌*ℤ◌, inl, inr, Option, None, Some, MatchOption, sym, ◌∙◌, ap}
 use Rattle.integers.proofs.Order.{mul_left_cancel_pos}
 use Rattle.symmetry.specs.Vectors.{Vector, dot}
 use Rattle.symmetry.specs.Motions.{Motion}

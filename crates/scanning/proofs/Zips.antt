@@ -1,7 +1,7 @@
 -- Two lists of one length, related place by place.
-use Rattle.std.proofs.Common.{◌≡◌, ℕ, zero, suc, ◌+◌, ◌<◌, ◌≤◌, List, [], ◌∷◌, ◌++◌, length, take, get_or, refl, sym, ap, subst, arith}
+use Rattle.std.proofs.Common.{◌≡◌, ℕ, zero, suc, ◌+◌, ◌<◌, ◌≤◌, List, [], ◌∷◌, ◌++◌, length, map, take, get_or, refl, sym, ap, subst, arith}
 use Rattle.std.specs.List.{AllZip}
-use Rattle.std.proofs.lemmas.List.{get_or_default, take_all, take_more}
+use Rattle.std.proofs.lemmas.List.{take_all, take_more}
 
 module _ {A B : Type 0} (R : A → B → Type 0) where
   zip_push : (xs : List A) (ys : List B) (x : A) (y : B) → AllZip R xs ys → R x y → AllZip R (xs ++ x ∷ []) (ys ++ y ∷ [])
@@ -32,3 +32,11 @@ module _ {A B : Type 0} (R : A → B → Type 0) where
 
   pub zip_all : (xs : List A) (ys : List B) (i : ℕ) → length xs ≤ i → AllZip R (take i xs) ys → AllZip R xs ys
   zip_all xs ys i past all = subst (λ zs. AllZip R zs ys) (take_all i xs past) all
+
+-- what is so of the elements is so of what they are taken to
+pub zip_map : {A B C : Type 0} (R : A → B → Type 0) (Q : A → C → Type 0) (f : B → C) → ((x : A) (y : B) → R x y → Q x (f y))
+    → (xs : List A) (ys : List B) → AllZip R xs ys → AllZip Q xs (map f ys)
+zip_map R Q f to [] [] all = all
+zip_map R Q f to [] (y ∷ ys) all = absurd all
+zip_map R Q f to (x ∷ xs) [] all = absurd all
+zip_map R Q f to (x ∷ xs) (y ∷ ys) all = (to x y all.0, zip_map R Q f to xs ys all.1)

@@ -1,16 +1,15 @@
 -- Heights that stand whole periods above others.
 use native.Mathlib.Decide.{dec_lt}
-use Rattle.std.proofs.Common.{◌≡◌, ℕ, zero, suc, ◌<◌, ℤ, pos, ◌+ℤ◌, ◌-ℤ◌, ◌*ℤ◌, ◌≤ℤ◌, ◌<ℤ◌, neg_ℤ, List, [], ◌∷◌, length, map, get_or, refl, sym, ◌∙◌, ap, subst, arith}
+use Rattle.std.proofs.Common.{◌≡◌, ℕ, zero, suc, ◌<◌, ℤ, pos, ◌+ℤ◌, ◌-ℤ◌, ◌*ℤ◌, ◌≤ℤ◌, ◌<ℤ◌, List, [], ◌∷◌, length, get_or, refl, sym, ◌∙◌, ap, subst, arith}
 use Rattle.std.specs.Prelude.{All, AllPairs}
 use Rattle.std.proofs.lemmas.Int.{ints}
 use Rattle.std.proofs.lemmas.List.{length-map}
-use Rattle.fractions.specs.Fraction.{SameFraction}
 use Rattle.fractions.specs.declared.part.TheConstants.{UNIT}
-use Rattle.integers.proofs.Order.{mul-le-mul_right, mul_left_cancel_pos, one-le-mul, small_multiple, zero-le-mul}
+use Rattle.integers.proofs.Order.{mul-le-mul_right, mul_left_cancel_pos, small_multiple, zero-le-mul}
 use Rattle.integers.proofs.Ring.{mul_zero}
 use Rattle.integers.proofs.Solver.{Expr.{var, num, ◌⊕◌, ◌⊝◌, ◌⊗◌, neg}, given, linear, ring}
 use Rattle.symmetry.specs.Planes.{Height, IsHeight}
-use Rattle.symmetry.specs.Scans.{IsInPeriod, IsLower, SpecialHeight, StandsAt, heights_of, raised_height, special_at}
+use Rattle.symmetry.specs.Scans.{IsInPeriod, IsLower, SpecialHeight, StandsAt, heights_of, special_at}
 
 -- ---- numbers
 

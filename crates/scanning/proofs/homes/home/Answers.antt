@@ -1,16 +1,7 @@
 -- Reduced modulo the lattice, and then brought home.
-use Rattle.std.proofs.Common.{◌≡◌, ◌*◌, ℤ, ◌∙◌, lit≤, nat_abs, subst, sym, unsigned_abs, arith}
-use Rattle.fractions.specs.declared.part.TheConstants.{UNIT}
-use Rattle.integers.specs.Size.{IsWithin}
-use Rattle.integers.proofs.Ring.{IsWithin-more}
-use Rattle.symmetry.specs.Vectors.{dot}
-use Rattle.symmetry.specs.Sizes.{IsMatrixWithin}
-use Rattle.motions.specs.MotionLaws.{IsVectorWithin-more}
 use Rattle.motions.specs.Views.{motion_of, row_of}
 use Rattle.closure.specs.Groups.{group_listing}
-use Rattle.closure.specs.declared.limits.TheConstants.{MAX_ENTRY}
 use Rattle.plane_lattice.specs.FrameView.{basis_of_frame}
-use Rattle.scanning.specs.Bounds.{largest_shift}
 use Rattle.scanning.proofs.HomeMotions.{home_same, home_motion}
 use Rattle.scanning.proofs.ReducedMotions.{reduced_near, reduced_same, residue_within}
 use Rattle.scanning.proofs.homes.home.Goals as goal

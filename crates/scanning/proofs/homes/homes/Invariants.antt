@@ -1,7 +1,6 @@
 -- The motions so far are the same as the operations before the index, and at home.
 use Rattle.std.proofs.Common.{map, take}
 use Rattle.std.specs.Prelude.{All}
-use Rattle.symmetry.specs.Groups.{Listing}
 use Rattle.motions.specs.Views.{motion_of, row_of}
 use Rattle.motions.specs.declared.motion.Motion3.{Motion3}
 use Rattle.closure.specs.Groups.{group_listing}

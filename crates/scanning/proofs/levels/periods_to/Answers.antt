@@ -1,11 +1,5 @@
 -- The difference is exact, so its quotient is that of the definition.
-use Rattle.std.proofs.Common.{◌≡◌, ◌*◌, ℤ, unsigned_abs, subst, lit<}
-use Rattle.fractions.specs.declared.part.TheConstants.{UNIT}
-use Rattle.integers.specs.Size.{IsWithin}
-use Rattle.integers.proofs.Coded.{again, again_is}
-use Rattle.motions.specs.Views.{parts, row_of}
-use Rattle.plane_lattice.specs.declared.frame.Frame.{Frame}
-use Rattle.scanning.specs.Bounds.{largest_count, largest_shift}
+use Rattle.scanning.specs.Bounds.{largest_count}
 use Rattle.scanning.proofs.Shifts.{period_is, apart_fits, apart_is, apart_within, quotient_is, quotient_within}
 use Rattle.scanning.proofs.levels.periods_to.Goals as goal
 

@@ -1,6 +1,5 @@
 -- What the tests of the code say of the row, the level and the periods.
 use Rattle.std.proofs.Common.{◌≡◌, ℕ, ◌<◌, ◌^◌, ℤ, ◌-ℤ◌, ◌*ℤ◌, lit<, None, Some, sym, ap, subst, ◌∙◌}
-use Rattle.std.specs.Option.{option_map}
 use Rattle.integers.specs.Size.{IsWithin}
 use Rattle.integers.proofs.Coded.{again, again_is}
 use Rattle.symmetry.specs.Motions.{Motion}

@@ -1,9 +1,9 @@
 -- Each motion is passed over or gives its member.
-use Rattle.std.proofs.Common.{ap, map, ◌∙◌, subst}
+use Rattle.std.proofs.Common.{ap, ◌∙◌, subst}
 use Rattle.std.proofs.lemmas.List.{take_all}
 use Rattle.symmetry.specs.Groups.{IsMember, SameModulo}
 use Rattle.symmetry.specs.Frames.{IsAtHome}
-use Rattle.motions.specs.Views.{motion_of, row_of}
+use Rattle.motions.specs.Views.{row_of}
 use Rattle.plane_lattice.specs.FrameView.{basis_of_frame}
 use Rattle.scanning.specs.Members.{InRows}
 use Rattle.scanning.proofs.ChosenLists.{ChosenFrom, none_yet, op_has, passed_more, taken_more}

@@ -2,7 +2,7 @@
 use Rattle.std.proofs.Common.{◌≡◌, ℤ, ◌+ℤ◌, List, ap, ◌∙◌, ◌∷◌, [], ◌++◌}
 use Rattle.motions.specs.Views.{row_of}
 use Rattle.scanning.proofs.Shifts.{next_fits, next_is, rest_is}
-use Rattle.scanning.proofs.TurnedLevels.{none_turned, passed_more, taken_more, turned_all}
+use Rattle.scanning.proofs.TurnedLevels.{passed_more, taken_more}
 use Rattle.scanning.proofs.turned.turned_levels.Goals as goal
 use Rattle.scanning.proofs.turned.turned_levels.Goals.{in-Some+in_ok-push+in_ok-push-2, in_default}
 
