@@ -29,4 +29,4 @@ pub use listed::Listed;
 pub use miller::Miller;
 pub use motion::{Motion3, Sign};
 pub use plane_fault::PlaneFault;
-pub use rows::{shift, side};
+pub use rows::{row_image, shift, side};
