@@ -37,9 +37,5 @@ pub use listed::Listed;
 pub use miller::Miller;
 pub use motion::{Motion3, Sign};
 pub use plane_fault::PlaneFault;
-<<<<<<< HEAD
 pub use rod::RodMotion;
-pub use rows::{shift, side};
-=======
 pub use rows::{row_image, shift, side};
->>>>>>> 4f995622f91fb4e9aa118e8d7c6b12e41c0c67b3
