@@ -1,9 +1,17 @@
 // What the program writes: lists of operations, the report of an orientation of planes, and the images of one.
 //
-// Promises to the crates above: `at_text` and `images_text` write exactly these texts; `Report::make` gives the report of a
-// group, an orientation and a frame, and `Report::text` its text.
+// Promises to the crates above: `at_text` and `images_text` write exactly these texts; `Report::text` writes the text of a
+// report.
 #![tactic(auto)]
 
 mod at;
+mod images;
+mod lines;
+mod report;
+mod section;
+mod text;
 
 pub use at::{NoMemory, at_text};
+pub use images::images_text;
+pub use report::Report;
+pub use section::{HeightSection, Section};
