@@ -6,6 +6,7 @@
 
 mod at;
 mod images;
+mod kind;
 mod lines;
 mod report;
 mod section;
@@ -13,5 +14,6 @@ mod text;
 
 pub use at::{NoMemory, at_text};
 pub use images::images_text;
+pub use kind::Kind;
 pub use report::Report;
 pub use section::{HeightSection, Section};

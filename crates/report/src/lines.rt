@@ -1,12 +1,13 @@
 // Lines of operations, numbers and vectors, each put behind what stands in a text.
-ghost use Rattle.std.specs.Prelude.{◌≡◌, ◌++◌, OnOk, map, flat_map};
+ghost use Rattle.std.specs.Prelude.{◌≡◌, ◌++◌, OnOk, codes, map, flat_map};
+ghost use Rattle.std.specs.Fmt.{signed_decimal};
 ghost use Rattle.fractions.specs.FractionOf.{fraction_of};
 ghost use Rattle.fractions.specs.LowestTerms.{lowest_terms};
 ghost use Rattle.fractions.specs.RatioText.{ratio_text};
 ghost use Rattle.fractions.specs.declared.part.TheConstants.{UNIT};
 ghost use Rattle.motions.specs.Views.{motion_of, parts, vector_of};
 ghost use Rattle.triplets.specs.Writing.{number_text};
-ghost use Rattle.report.specs.ReportView.{fractions_of};
+ghost use Rattle.report.specs.FractionsView.{fractions_of};
 ghost use Rattle.report.specs.Texts.{fractions_text, indices_text, operation_line, vector_text};
 
 use crate::at::NoMemory;
@@ -43,22 +44,22 @@ fn push_operation(alloc: Global, text: &mut Vec<u8>, m: &Motion3) -> Result<(), 
 pub(crate) fn push_indices(text: &mut Vec<u8>, v: &[i64; 3]) -> Result<(), NoMemory>
     ensures { OnOk result (text.new.items ≡ text.old.items ++ indices_text (vector_of v.now)) }
 {
+    push_index(text, v[0])?;
+    push_index(text, v[1])?;
+    push_index(text, v[2])
+}
+
+fn push_index(text: &mut Vec<u8>, index: i64) -> Result<(), NoMemory>
+    ensures { OnOk result (text.new.items ≡ text.old.items ++ codes " " ++ signed_decimal index) }
+{
     let mut buffer = Buffer::new();
     text.push(b' ')?;
-    text.extend_from_slice(buffer.format(v[0]).as_bytes())?;
-    text.push(b' ')?;
-    text.extend_from_slice(buffer.format(v[1]).as_bytes())?;
-    text.push(b' ')?;
-    text.extend_from_slice(buffer.format(v[2]).as_bytes())?;
+    text.extend_from_slice(buffer.format(index).as_bytes())?;
     Ok(())
 }
 
 /// A vector counted in parts, as three ratios of the cell edges.
-pub(crate) fn push_vector(
-    alloc: Global,
-    text: &mut Vec<u8>,
-    v: &[Part; 3],
-) -> Result<(), NoMemory>
+pub(crate) fn push_vector(alloc: Global, text: &mut Vec<u8>, v: &[Part; 3]) -> Result<(), NoMemory>
     ensures { OnOk result (text.new.items ≡ text.old.items ++ vector_text (parts v.now)) }
 {
     push_part(alloc, text, v[0])?;
