@@ -1,1 +1,4 @@
+pub mod Made
+pub mod Means
+pub mod NumberedHeights
 pub mod TextLines

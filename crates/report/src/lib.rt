@@ -8,6 +8,8 @@ mod at;
 mod images;
 mod kind;
 mod lines;
+mod make;
+mod numbered;
 mod report;
 mod section;
 mod text;
