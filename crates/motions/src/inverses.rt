@@ -85,7 +85,7 @@ fn cross(row: &[i64; 3], other: &[i64; 3]) -> [i64; 3]
 }
 
 /// The determinant of the rows (a, b) and (c, d).
-fn minor(a: i64, b: i64, c: i64, d: i64) -> i64
+pub(crate) fn minor(a: i64, b: i64, c: i64, d: i64) -> i64
     requires a { IsWithin 500 a }
     requires b { IsWithin 500 b }
     requires c { IsWithin 500 c }

@@ -1,22 +1,28 @@
-// Motions of space as coordinate triplets give them, the Miller indices of a plane, and what the one does to the
-// other.
+// Motions of space as coordinate triplets give them, motions of a layer, of a rod and of a frieze, the Miller indices of
+// a plane, and what motions of space do to planes.
 //
-// Promises to the crates above: `Motion3` meets the laws of `Motion`, with product and inverse exact; `Miller::make`
-// gives the orientation or names what is wrong; `side` and `shift` say exactly what a motion does to the planes of an
-// orientation.
+// Promises to the crates above: `Motion3`, `LayerMotion`, `RodMotion` and `FriezeMotion` meet the laws of `Motion`, with
+// product and inverse exact; `triple` gives the block form of a motion of a layer, exactly where it has one in whole
+// parts, and of each motion of a rod; `Miller::make` gives the orientation or names what is wrong; `side` and `shift` say
+// exactly what a motion does to the planes of an orientation.
 #![tactic(auto)]
 
 mod basis;
 mod divisors;
 mod equality;
 mod frame_fault;
+mod frieze;
 mod index;
 mod inverses;
+mod layer;
+mod line;
 mod listed;
 mod miller;
 mod motion;
 mod plane_fault;
+mod plane_matrices;
 mod products;
+mod rod;
 mod rows;
 mod space;
 #[cfg(test)]
@@ -24,9 +30,12 @@ mod tests;
 
 pub use basis::Basis;
 pub use frame_fault::FrameFault;
+pub use frieze::FriezeMotion;
 pub use index::INDEX;
+pub use layer::{LayerMotion, product_of_block_forms};
 pub use listed::Listed;
 pub use miller::Miller;
 pub use motion::{Motion3, Sign};
 pub use plane_fault::PlaneFault;
+pub use rod::RodMotion;
 pub use rows::{shift, side};

@@ -1,4 +1,5 @@
 // Worked cases, by hand.
+use crate::layer::LayerMotion;
 use crate::miller::Miller;
 use crate::motion::{Motion3, Sign};
 use crate::plane_fault::PlaneFault;
@@ -80,6 +81,62 @@ fn a_dilation_is_not_undone(rt: HostRuntime) {
         t: [NONE, NONE, NONE],
     };
     assert!(rt; dilation.back() == None);
+}
+
+// -y,x+1/2,-z
+const QUARTER_TURN: LayerMotion = LayerMotion {
+    a: [[0, -1], [1, 0]],
+    e: Sign::Minus,
+    t: [0, UNIT],
+};
+
+#[test]
+fn a_quarter_turn_of_a_layer_twice_is_a_half_turn(rt: HostRuntime) {
+    let half_turn = LayerMotion {
+        a: [[-1, 0], [0, -1]],
+        e: Sign::Plus,
+        t: [-UNIT, UNIT],
+    };
+    assert!(rt; twice(&QUARTER_TURN) == half_turn);
+}
+
+#[test]
+fn a_quarter_turn_of_a_layer_is_undone_by_the_other(rt: HostRuntime) {
+    let undone = LayerMotion {
+        a: [[0, 1], [-1, 0]],
+        e: Sign::Minus,
+        t: [-UNIT, 0],
+    };
+    assert!(rt; QUARTER_TURN.back() == Some(undone));
+}
+
+#[test]
+fn a_dilation_of_a_layer_is_not_undone(rt: HostRuntime) {
+    let dilation = LayerMotion {
+        a: [[1, 0], [0, 2]],
+        e: Sign::Plus,
+        t: [0, 0],
+    };
+    assert!(rt; dilation.back() == None);
+}
+
+#[test]
+fn the_block_form_of_a_quarter_turn(rt: HostRuntime) {
+    let block = Motion3 {
+        w: [[0, -1, 0], [1, 0, 0], [0, 0, -1]],
+        t: [NONE, HALF, NONE],
+    };
+    assert!(rt; QUARTER_TURN.triple() == Some(block));
+}
+
+#[test]
+fn an_odd_number_of_half_parts_has_no_block_form(rt: HostRuntime) {
+    let odd = LayerMotion {
+        a: [[1, 0], [0, 1]],
+        e: Sign::Plus,
+        t: [2, -3],
+    };
+    assert!(rt; odd.triple() == None);
 }
 
 #[test]

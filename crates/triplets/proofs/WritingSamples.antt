@@ -6,7 +6,8 @@ use Rattle.fractions.specs.declared.part.TheConstants.{UNIT}
 use Rattle.fractions.specs.LowestTerms.{gcd_in, gcd, signed_gcd, lowest_terms}
 use Rattle.symmetry.specs.Vectors.{Vector, unit_matrix, origin}
 use Rattle.symmetry.specs.Motions.{Motion}
-use Rattle.triplets.specs.Writing.{row_text, triplet_text}
+use Rattle.motions.specs.declared.motion.Sign.TheVariants.{Plus, Minus}
+use Rattle.triplets.specs.Writing.{frieze_text, row_text, triplet_text}
 
 abbrev row : ℤ → ℤ → ℤ → Vector
 row x y z = record { x = x; y = y; z = z }
@@ -65,3 +66,11 @@ digits_of_coefficients = refl
 a_number_alone : row_text (row (pos 0) (pos 0) (pos 0)) (edges (pos 5) (pos 3)) ≡ codes "5/3"
 unfolding digits gcd_in gcd signed_gcd lowest_terms
 a_number_alone = refl
+
+frieze_glide : frieze_text (record { along = Plus; across = Minus; shift = edges (pos 1) (pos 2) }) ≡ codes "x+1/2,-y"
+unfolding digits gcd_in gcd signed_gcd lowest_terms
+frieze_glide = refl
+
+half_turn : frieze_text (record { along = Minus; across = Minus; shift = pos 0 }) ≡ codes "-x,-y"
+unfolding digits gcd_in gcd signed_gcd lowest_terms
+half_turn = refl

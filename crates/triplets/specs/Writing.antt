@@ -1,4 +1,4 @@
--- The one written form of a motion as a coordinate triplet.
+-- The one written form of a motion as a coordinate triplet, and of a frieze motion as two parts of one.
 use Rattle.std.specs.Prelude.{Bool, true, false, ℕ, zero, suc, ℤ, pos, negsuc, List, [], ◌∷◌, ◌++◌, codes}
 use Rattle.std.specs.Fmt.{signed_decimal}
 use Rattle.std.specs.Str.Parse.{without_leading_plus}
@@ -7,6 +7,8 @@ use Rattle.fractions.specs.LowestTerms.{lowest_terms}
 use Rattle.fractions.specs.RatioText.{ratio_text}
 use Rattle.symmetry.specs.Vectors.{Vector}
 use Rattle.symmetry.specs.Motions.{Motion}
+use Rattle.motions.specs.FriezeMotions.{FriezeOperation}
+use Rattle.motions.specs.Signs.{sign_value}
 
 -- a number of parts, as a ratio of the cell edge in lowest terms
 abbrev pub number_text : ℤ → List ℕ
@@ -51,6 +53,12 @@ triplet_text m =
     row_text m.matrix.first m.shift.x ++ codes "," ++
     row_text m.matrix.second m.shift.y ++ codes "," ++
     row_text m.matrix.third m.shift.z
+
+-- the two rows of a frieze motion, along the axis x and across it, joined by a comma
+abbrev pub frieze_text : FriezeOperation → List ℕ
+frieze_text m =
+    row_text (record { x = sign_value m.along; y = pos 0; z = pos 0 }) m.shift ++ codes "," ++
+    row_text (record { x = pos 0; y = sign_value m.across; z = pos 0 }) (pos 0)
 
 -- the `+` of a term that is not 0, the first of its part or a further one
 abbrev pub plus_text : Bool → ℤ → List ℕ

@@ -9,6 +9,7 @@
 
 mod denominator;
 mod fault;
+mod frieze;
 mod group;
 mod laws;
 mod line;
@@ -19,6 +20,7 @@ mod triplet;
 mod write;
 
 pub use fault::{TextFault, TextKind, TripletFault};
+pub use frieze::write_frieze;
 pub use group::read_group;
 pub use laws::{no_listing_and_fault, one_fault, one_listing};
 pub use text::LineReader;

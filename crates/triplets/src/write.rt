@@ -40,7 +40,8 @@ fn push_triplet(text: &mut Vec<u8>, m: &Motion3) -> Result<(), NoMemory>
     push_row(text, &m.w[2], m.t[2])
 }
 
-fn push_row(text: &mut Vec<u8>, row: &[i64; 3], shift: Part) -> Result<(), NoMemory>
+// Appends a row of the matrix part with the number beside it.
+pub(crate) fn push_row(text: &mut Vec<u8>, row: &[i64; 3], shift: Part) -> Result<(), NoMemory>
     ensures { OnOk result (text.new.items ≡ text.old.items ++ row_text (vector_of row.now) shift.0) }
 {
     let start = text.len();

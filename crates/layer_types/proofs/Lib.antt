@@ -1,0 +1,2 @@
+pub mod KindTests
+pub mod RowTests

@@ -1,0 +1,6 @@
+pub mod Generators
+pub mod LatticeLaws
+pub mod Lattices
+pub mod LayerTypes
+pub mod Rows
+pub mod ShiftLaws

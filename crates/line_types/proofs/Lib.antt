@@ -1,0 +1,4 @@
+pub mod FriezeTests
+pub mod LineTests
+pub mod RodTests
+pub mod ShiftTests

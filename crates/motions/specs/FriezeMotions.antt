@@ -1,0 +1,37 @@
+-- Motions of a plane that map a line of it to itself.
+use Rattle.std.specs.Prelude.{ℤ, pos, ◌+ℤ◌, ◌*ℤ◌, Bool, ◌&&◌}
+use Rattle.std.specs.Ordering.{int_eq}
+use Rattle.motions.specs.declared.motion.Sign.{Sign}
+use Rattle.motions.specs.declared.motion.Sign.TheVariants.{Plus}
+use Rattle.motions.specs.declared.frieze.FriezeMotion.{FriezeMotion}
+use Rattle.motions.specs.Signs.{same_sign, sign_value, sign_product}
+
+-- (x, y) goes to (f x + t, e y): the sign f along the line, the sign e across it, and the translation t in parts
+pub record FriezeOperation : Type 0 where
+  pub along : Sign
+  pub across : Sign
+  pub shift : ℤ
+
+-- the operation that a FriezeMotion is
+abbrev pub frieze_of : FriezeMotion → FriezeOperation
+frieze_of m = record { along = m.f; across = m.e; shift = m.t }
+
+-- first (f, e, t), then (f', e', t'): the operation (f' f, e' e, f' t + t')
+abbrev pub frieze_followed_by : FriezeOperation → FriezeOperation → FriezeOperation
+frieze_followed_by first next = record {
+  along = sign_product next.along first.along;
+  across = sign_product next.across first.across;
+  shift = sign_value next.along *ℤ first.shift +ℤ next.shift;
+}
+
+-- the translation along the line
+abbrev pub frieze_translation : ℤ → FriezeOperation
+frieze_translation t = record { along = Plus; across = Plus; shift = t }
+
+-- the operation that moves nothing
+abbrev pub frieze_identity : FriezeOperation
+frieze_identity = frieze_translation (pos 0)
+
+-- whether two operations are equal
+abbrev pub same_frieze : FriezeOperation → FriezeOperation → Bool
+same_frieze m n = same_sign m.along n.along && same_sign m.across n.across && int_eq m.shift n.shift
