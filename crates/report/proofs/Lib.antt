@@ -1,3 +1,4 @@
+pub mod Blocks
 pub mod Made
 pub mod Means
 pub mod NumberedHeights

@@ -47,27 +47,35 @@ module _ (group : Group) (frame : Frame) (basis : Basis) (of : IsFrameOf group f
       → AreOrbitNumbers (group_listing group) (row_of frame.plane) (levels_of scan.special.items) numbers
       → IsPlaneCount (group_listing group) (row_of frame.plane) frame.period.0 planes
       → (report.frame ≡ frame) × IsReport (group_listing group) (row_of frame.plane) (basis_of_frame frame) (report_of report)
-  report_made scan numbers planes report shown same is_scan are_numbers is_count = (same_frame, record {
-    row = ap (λ (f : Frame). row_of f.plane) same_frame;
-    basis = ap basis_of_frame same_frame;
-    period = subst (IsPeriod g r) (sym same_period) of.period;
-    mean = subst (λ (f : Frame). IsMean g r (parts frame.tau) (fractions_of f.c)) (sym same_frame) mean_of_frame;
-    scan = subst (IsScan g r (basis_of_frame frame)) (sym shown.same_scan) is_scan;
-    orbits = subst (AreOrbitNumbers g r (block_heights blocks)) (sym shown.same_orbits)
-        (subst (λ heights. AreOrbitNumbers g r heights numbers) (sym same_heights) are_numbers);
-    planes = subst (IsPlaneCount g r report.frame.period.0) (sym shown.same_planes)
-        (subst (λ d. IsPlaneCount g r d planes) (sym same_period) is_count);
-  })
+  report_made scan numbers planes report shown same is_scan are_numbers is_count = (
+    same_frame,
+    record {
+      row = ap (λ (f : Frame). row_of f.plane) same_frame;
+      basis = ap basis_of_frame same_frame;
+      period = subst (IsPeriod g r) (sym same_period) of.period;
+      mean = subst (λ (f : Frame). IsMean g r (parts frame.tau) (fractions_of f.c)) (sym same_frame) mean_of_frame;
+      scan = subst (IsScan g r (basis_of_frame frame)) (sym shown.same_scan) is_scan;
+      orbits = subst (AreOrbitNumbers g r (block_heights blocks)) (sym shown.same_orbits)
+          (subst (λ heights. AreOrbitNumbers g r heights numbers) (sym same_heights) are_numbers);
+      planes = subst (IsPlaneCount g r report.frame.period.0) (sym shown.same_planes)
+          (subst (λ d. IsPlaneCount g r d planes) (sym same_period) is_count);
+    },
+  )
     where
       g : Listing
       g = group_listing group
+
       r : Vector
       r = row_of frame.plane
+
       blocks : List HeightBlock
       blocks = (report_of report).heights
+
       same_frame : report.frame ≡ frame
       same_frame = shown.same_frame ∙ same
+
       same_period : report.frame.period.0 ≡ frame.period.0
       same_period = ap (λ (f : Frame). f.period.0) same_frame
+
       same_heights : block_heights blocks ≡ levels_of scan.special.items
       same_heights = sym (heights_of_blocks blocks) ∙ ap (λ (s : ScanOfPlanes). heights_of s.special) shown.same_scan

@@ -6,3 +6,4 @@ pub mod SectionView
 pub mod Shown
 pub mod Texts
 pub mod TypeNumbers
+pub mod TypeTexts

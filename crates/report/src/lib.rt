@@ -5,6 +5,8 @@
 #![tactic(auto)]
 
 mod at;
+#[cfg(test)]
+mod generator_tests;
 mod images;
 mod kind;
 mod lines;
@@ -12,10 +14,14 @@ mod make;
 mod numbered;
 mod report;
 mod section;
+#[cfg(test)]
+mod tests;
 mod text;
+mod types;
 
 pub use at::{NoMemory, at_text};
 pub use images::images_text;
 pub use kind::Kind;
 pub use report::Report;
 pub use section::{HeightSection, Section};
+pub use types::type_text;

@@ -31,7 +31,8 @@ pub(crate) fn push_operations(
     Ok(())
 }
 
-fn push_operation(alloc: Global, text: &mut Vec<u8>, m: &Motion3) -> Result<(), NoMemory>
+/// The line of an operation.
+pub(crate) fn push_operation(alloc: Global, text: &mut Vec<u8>, m: &Motion3) -> Result<(), NoMemory>
     ensures { OnOk result (text.new.items ≡ text.old.items ++ operation_line (motion_of m.now)) }
 {
     text.extend_from_slice(b"op ")?;

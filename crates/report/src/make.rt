@@ -10,12 +10,7 @@ use scanning::Scan;
 use std::alloc::Global;
 
 // The report that shows a scan and the numbers of the orbits of its special heights.
-fn show(
-    alloc: Global,
-    scan: Scan,
-    orbits: Vec<u32>,
-    planes: u32,
-) -> Result<Report, NoMemory>
+fn show(alloc: Global, scan: Scan, orbits: Vec<u32>, planes: u32) -> Result<Report, NoMemory>
     requires { length orbits.items ≡ length scan.special.items }
     ensures { IfOk result (Shows scan orbits.items planes) }
 {
