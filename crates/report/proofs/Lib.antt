@@ -1,1 +1,5 @@
+pub mod Blocks
+pub mod Made
+pub mod Means
+pub mod NumberedHeights
 pub mod TextLines

@@ -1,2 +1,9 @@
-pub mod Texts
+pub mod FractionsView
+pub mod Numbered
+pub mod ReportView
 pub mod Reports
+pub mod SectionView
+pub mod Shown
+pub mod Texts
+pub mod TypeNumbers
+pub mod TypeTexts

@@ -1,6 +1,5 @@
 -- The report of a group, an orientation and a frame.
 use Rattle.std.specs.Prelude.{◌≡◌, ℕ, List, map}
-use Rattle.fractions.specs.Fraction.{IsFraction, IsInLowestTerms, SameFraction, Fraction}
 use Rattle.fractions.specs.LowestTerms.{IsLowestForm}
 use Rattle.symmetry.specs.Vectors.{Vector}
 use Rattle.symmetry.specs.Motions.{Motion, Point}

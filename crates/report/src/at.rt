@@ -1,13 +1,13 @@
 // The text of the operations at a height.
-ghost use Rattle.std.specs.Prelude.{◌≡◌, ◌++◌, IfOk, OnOk, map};
+ghost use Rattle.std.specs.Prelude.{◌≡◌, IfOk, map};
 ghost use Rattle.fractions.specs.FractionOf.{fraction_of};
 ghost use Rattle.motions.specs.Views.{motion_of};
-ghost use Rattle.report.specs.Texts.{at_text, operation_line};
+ghost use Rattle.report.specs.Texts.{at_text};
 
+use crate::lines::push_operations;
 use fractions::{Ratio, write_ratio};
 use motions::Motion3;
 use std::alloc::{AllocError, Global};
-use triplets::write_triplet;
 
 /// Memory ran out.
 pub type NoMemory = AllocError;
@@ -19,19 +19,7 @@ pub fn at_text(alloc: Global, s: Ratio, ops: &[Motion3]) -> Result<Vec<u8>, NoMe
     let mut text = Vec::from_slice(alloc, b"height ")?;
     text.extend_from_slice(&write_ratio(alloc, s)?)?;
     text.extend_from_slice(b"\n")?;
-    for m in ops {
-        push_operation(alloc, &mut text, m)?;
-    }
+    push_operations(alloc, &mut text, ops)?;
     text.extend_from_slice(b"end\n")?;
     Ok(text)
-}
-
-// Adds the line of an operation.
-fn push_operation(alloc: Global, text: &mut Vec<u8>, m: &Motion3) -> Result<(), NoMemory>
-    ensures { OnOk result (text.new.items ≡ text.old.items ++ operation_line (motion_of m.now)) }
-{
-    text.extend_from_slice(b"op ")?;
-    text.extend_from_slice(&write_triplet(alloc, m)?)?;
-    text.extend_from_slice(b"\n")?;
-    Ok(())
 }

@@ -1,0 +1,81 @@
+-- The report of a scan and of the orbits of its heights is the report of the group.
+use Rattle.std.proofs.Common.{◌≡◌, ℕ, List, [], ◌∷◌, map, refl, sym, ap, subst, ◌∙◌}
+use Rattle.symmetry.specs.Frames.{IsPeriod, mean_of}
+use Rattle.symmetry.specs.Groups.{Listing}
+use Rattle.symmetry.specs.Vectors.{Vector}
+use Rattle.symmetry.specs.Orbits.{AreOrbitNumbers, IsPlaneCount}
+use Rattle.symmetry.specs.Scans.{IsScan, Scan as ScanOfPlanes, heights_of}
+use Rattle.motions.specs.declared.basis.Basis.{Basis}
+use Rattle.motions.specs.Views.{parts, row_of}
+use Rattle.closure.specs.declared.group.Group.{Group}
+use Rattle.closure.specs.Groups.{group_listing}
+use Rattle.plane_lattice.specs.declared.frame.Frame.{Frame}
+use Rattle.plane_lattice.specs.FrameOf.{IsFrameOf}
+use Rattle.plane_lattice.specs.FrameView.{basis_of_frame}
+use Rattle.plane_lattice.specs.Scanning.{scanning_ops, IsPointOf}
+use Rattle.scanning.specs.declared.scan.Scan.{Scan}
+use Rattle.scanning.specs.HeightView.{levels_of}
+use Rattle.scanning.specs.ScanView.{scan_of}
+use Rattle.report.specs.declared.report.Report.{Report}
+use Rattle.report.specs.FractionsView.{fractions_of}
+use Rattle.report.specs.Reports.{block_heights, block_orbits, scan_of_report, special_of_block, IsMean, IsReport}
+use Rattle.report.specs.ReportView.{report_of}
+use Rattle.report.specs.Texts.{HeightBlock}
+use Rattle.report.specs.Shown.{Shows}
+use Rattle.report.proofs.Means.{point_in_lowest_terms}
+
+-- the heights of the blocks are those of the scan that they show
+heights_of_blocks : (blocks : List HeightBlock) → heights_of (map special_of_block blocks) ≡ block_heights blocks
+heights_of_blocks [] = refl
+heights_of_blocks (block ∷ blocks) = ap (λ heights. block.height ∷ heights) (heights_of_blocks blocks)
+
+module _ (group : Group) (frame : Frame) (basis : Basis) (of : IsFrameOf group frame.plane basis frame) where
+  -- the vector c' of the frame is the mean over the scanning operations
+  mean_of_frame : IsMean (group_listing group) (row_of frame.plane) (parts frame.tau) (fractions_of frame.c)
+  mean_of_frame =
+      let r = row_of frame.plane in
+      let ops = scanning_ops r (group_listing group).ops in
+      let mean = subst (λ tau. IsPointOf (mean_of r (parts tau) ops) frame.c) (sym of.tau) of.mean in
+      record {
+        scanning = ops;
+        are_scanning = of.scanning;
+        is = point_in_lowest_terms (mean_of r (parts frame.tau) ops) frame.c mean;
+      }
+
+  pub report_made : (scan : Scan) (numbers : List ℕ) (planes : ℕ) (report : Report) → Shows scan numbers planes report → scan.frame ≡ frame
+      → IsScan (group_listing group) (row_of frame.plane) (basis_of_frame frame) (scan_of scan)
+      → AreOrbitNumbers (group_listing group) (row_of frame.plane) (levels_of scan.special.items) numbers
+      → IsPlaneCount (group_listing group) (row_of frame.plane) frame.period.0 planes
+      → (report.frame ≡ frame) × IsReport (group_listing group) (row_of frame.plane) (basis_of_frame frame) (report_of report)
+  report_made scan numbers planes report shown same is_scan are_numbers is_count = (
+    same_frame,
+    record {
+      row = ap (λ (f : Frame). row_of f.plane) same_frame;
+      basis = ap basis_of_frame same_frame;
+      period = subst (IsPeriod g r) (sym same_period) of.period;
+      mean = subst (λ (f : Frame). IsMean g r (parts frame.tau) (fractions_of f.c)) (sym same_frame) mean_of_frame;
+      scan = subst (IsScan g r (basis_of_frame frame)) (sym shown.same_scan) is_scan;
+      orbits = subst (AreOrbitNumbers g r (block_heights blocks)) (sym shown.same_orbits)
+          (subst (λ heights. AreOrbitNumbers g r heights numbers) (sym same_heights) are_numbers);
+      planes = subst (IsPlaneCount g r report.frame.period.0) (sym shown.same_planes)
+          (subst (λ d. IsPlaneCount g r d planes) (sym same_period) is_count);
+    },
+  )
+    where
+      g : Listing
+      g = group_listing group
+
+      r : Vector
+      r = row_of frame.plane
+
+      blocks : List HeightBlock
+      blocks = (report_of report).heights
+
+      same_frame : report.frame ≡ frame
+      same_frame = shown.same_frame ∙ same
+
+      same_period : report.frame.period.0 ≡ frame.period.0
+      same_period = ap (λ (f : Frame). f.period.0) same_frame
+
+      same_heights : block_heights blocks ≡ levels_of scan.special.items
+      same_heights = sym (heights_of_blocks blocks) ∙ ap (λ (s : ScanOfPlanes). heights_of s.special) shown.same_scan

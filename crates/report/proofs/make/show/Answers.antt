@@ -1,0 +1,30 @@
+use Rattle.std.proofs.Common.{◌≡◌, map, refl, sym, ap, subst, ◌∙◌}
+use Rattle.std.specs.Prelude.{All}
+use Rattle.symmetry.specs.Scans.{IsInPeriod, Scan}
+use Rattle.motions.specs.Views.{motion_of}
+use Rattle.scanning.specs.HeightView.{levels_of, IsInHalves}
+use Rattle.report.specs.Reports.{block_orbits, special_of_block}
+use Rattle.report.specs.SectionView.{block_of, levels_of_sections}
+use Rattle.report.proofs.NumberedHeights.{levels_of_numbered, orbits_of_numbered, specials_of_numbered}
+use Rattle.report.proofs.make.show.Goals as goal
+
+pub invariant_of-result : goal.invariant_of-result
+invariant_of-result c =
+    let scan = c.args.scan in
+    let levels = sym (ap levels_of_sections c.in_ok-numbered.ensures ∙ levels_of_numbered scan.special.items c.args.orbits.items c.requires) in
+    record {
+      in_period = subst (All (IsInPeriod scan.frame.period.0)) levels scan.in_period;
+      halves = subst (All IsInHalves) levels scan.halves;
+    }
+
+pub returns : goal.returns
+returns c =
+    let scan = c.args.scan in
+    let of = c.args.orbits.items in
+    record {
+      same_frame = refl;
+      same_scan = ap (λ hs. record { general = map motion_of scan.general.items; special = map special_of_block (map block_of hs) }) c.in_ok-numbered.ensures
+          ∙ ap (λ hs. record { general = map motion_of scan.general.items; special = hs }) (specials_of_numbered scan.special.items of c.requires);
+      same_orbits = ap (λ hs. block_orbits (map block_of hs)) c.in_ok-numbered.ensures ∙ orbits_of_numbered scan.special.items of c.requires;
+      same_planes = refl;
+    }

@@ -1,0 +1,22 @@
+// The report of an orientation of planes.
+ghost use Rattle.std.specs.Prelude.{All};
+ghost use Rattle.symmetry.specs.Scans.{IsInPeriod};
+ghost use Rattle.scanning.specs.HeightView.{IsInHalves};
+ghost use Rattle.report.specs.SectionView.{levels_of_sections};
+
+use crate::section::{HeightSection, Section};
+use plane_lattice::Frame;
+
+/// What the program reports of an orientation of planes in a frame: the operations that map every plane to itself, and the
+/// special heights from 0 to below the period, rising, each with its orbit and the operations at it.
+///
+/// `planes` is the number of heights from 0 to below the period in the orbit of a general height.
+#[derive(Debug, Drop)]
+pub struct Report {
+    pub frame: Frame,
+    pub planes: u32,
+    pub general: Section,
+    pub heights: Vec<HeightSection>,
+    pub ghost in_period: { All (IsInPeriod frame.period.0) (levels_of_sections heights.items) },
+    pub ghost halves: { All IsInHalves (levels_of_sections heights.items) },
+}
