@@ -1,9 +1,11 @@
 -- What is answered of the group of an input is what is asked of what the input lists.
-use Rattle.std.proofs.Common.{◌≡◌, ◌≤◌, ℕ, List, length, sym, ap, ◌∙◌, subst}
+use Rattle.std.proofs.Common.{◌≡◌, ◌≤◌, ℕ, List, length, unsigned_abs, sym, ap, ◌∙◌, subst, inr}
 use Rattle.fractions.specs.Fraction.{Fraction}
-use Rattle.symmetry.specs.Vectors.{Vector}
+use Rattle.symmetry.specs.Vectors.{Vector, Matrix, row_times}
 use Rattle.symmetry.specs.Motions.{Motion}
-use Rattle.symmetry.specs.Groups.{Listing, SameModulo, InStabiliser}
+use Rattle.symmetry.specs.Groups.{Listing, IsMember, SameModulo, InStabiliser}
+use Rattle.symmetry.specs.Sizes.{IsVectorWithin}
+use Rattle.symmetry.proofs.LatticeLaws.{listed_member}
 use Rattle.symmetry.specs.Frames.{Basis, IsFrame, IsSkewed, IsAtHome}
 use Rattle.symmetry.specs.Lists.{IsListOf}
 use Rattle.motions.specs.BasisView.{basis_of}
@@ -16,14 +18,23 @@ use Rattle.plane_lattice.specs.Coordinates.{vectors}
 use Rattle.plane_lattice.specs.FrameOf.{IsFrameOf, IsMadeFor}
 use Rattle.plane_lattice.specs.FrameView.{basis_of_frame}
 use Rattle.plane_lattice.specs.declared.frame.Frame.{Frame}
-use Rattle.report.specs.Texts.{at_text}
+use Rattle.orbits.proofs.FirstRows.{orientations_of_firsts}
+use Rattle.orbits.specs.Orientations.{AreOrientations, IsOrbitFault, IsWide}
+use Rattle.orbits.specs.declared.limits.TheConstants.{WIDE}
+use Rattle.orbits.specs.declared.orbit_fault.OrbitFault.{OrbitFault}
+use Rattle.orbits.specs.declared.orbit_fault.OrbitFault.TheVariants as orbit_faults
+use Rattle.report.specs.Texts.{at_text, images_text}
 use Rattle.command.specs.declared.limits.TheConstants.{MOST_BYTES}
+use Rattle.command.specs.declared.refusal.Refusal.TheVariants.{Wide}
+use Rattle.command.specs.Obstacles.{obstacle_of_orbits}
 use Rattle.command.specs.Requests.{at_height, all_heights, image_rows}
+use Rattle.command.specs.Responses.{IsInputObstacle}
 use Rattle.command.specs.Alike.{AreAlike, IsGroupOf}
 use Rattle.command.specs.Answers.{IsOutput}
 use Rattle.command.specs.Causes.{IsFrameHere}
 use Rattle.command.specs.Contents.{IsFairFrame}
 use Rattle.command.proofs.Alike.{frame_from, list_from, skewed_as}
+use Rattle.command.proofs.FrameCauses.{input_refusal}
 
 -- ---- the frame
 
@@ -81,3 +92,37 @@ module _ (row : Vector) (basis : Basis) (group : Group) (frame : Frame) (here : 
             };
           },
         )
+
+-- ---- images
+
+module _ (row : Vector) (input : List ℕ) (group : Group) (short : length input ≤ MOST_BYTES) (of : IsGroupOf input group) where
+  -- each listed operation has the matrix of one that the group keeps, and the other way round
+  wide_to : IsWide of.listing row → IsWide (group_listing group) row
+  wide_to (m, listed, large) =
+      let member : IsMember (group_listing group) m = (of.alike.members m).0 (listed_member of.listing m listed) in
+      (member.of, member.listed, subst (λ (w : Matrix). ¬ IsVectorWithin (unsigned_abs WIDE) (row_times row w)) member.same.matrix large)
+
+  wide_from : IsWide (group_listing group) row → IsWide of.listing row
+  wide_from (m, listed, large) =
+      let member : IsMember of.listing m = (of.alike.members m).1 (listed_member (group_listing group) m listed) in
+      (member.of, member.listed, subst (λ (w : Matrix). ¬ IsVectorWithin (unsigned_abs WIDE) (row_times row w)) member.same.matrix large)
+
+  pub images_answer : (rows : List Vector) (text : List ℕ) → AreOrientations (group_listing group) row rows → ¬ IsWide (group_listing group) row
+      → text ≡ images_text rows → IsOutput (image_rows row) input text
+  images_answer rows text are narrow is = (
+    short,
+    record {
+      group = of.listing;
+      lists = of.lists;
+      answers = record {
+        rows = rows;
+        are_images = (orientations_of_firsts of.listing (group_listing group) row rows of.firsts).1 are;
+        not_wide = λ wide. narrow (wide_to wide);
+        is_text = is;
+      };
+    },
+  )
+
+  pub images_obstacle : (fault : OrbitFault) → IsOrbitFault (group_listing group) row fault → IsInputObstacle (image_rows row) input (obstacle_of_orbits fault)
+  images_obstacle orbit_faults.Wide wide = input_refusal (image_rows row) tt input Wide short (inr (of.listing, of.lists, wide_from wide))
+  images_obstacle orbit_faults.NoMemory h = tt

@@ -9,6 +9,8 @@ use Rattle.triplets.specs.declared.fault.TextFault.{TextFault}
 use Rattle.triplets.specs.declared.fault.TextFault.TheVariants as texts
 use Rattle.closure.specs.declared.group_error.GroupError.{GroupError}
 use Rattle.closure.specs.declared.group_error.GroupError.TheVariants as groups
+use Rattle.orbits.specs.declared.orbit_fault.OrbitFault.{OrbitFault}
+use Rattle.orbits.specs.declared.orbit_fault.OrbitFault.TheVariants as orbit_faults
 use Rattle.command.specs.declared.refusal.Refusal.{Refusal}
 use Rattle.command.specs.declared.refusal.Refusal.TheVariants as refusals
 use Rattle.command.specs.declared.obstacle.Obstacle.{Obstacle}
@@ -42,3 +44,8 @@ obstacle_of_group groups.NoMemory = obstacles.NoMemory
 abbrev pub refusal_of_frame : FrameFault → Refusal
 refusal_of_frame frames.NotFrame = refusals.NotFrame
 refusal_of_frame frames.Skewed = refusals.SkewFrame
+
+-- that of images that are not told
+abbrev pub obstacle_of_orbits : OrbitFault → Obstacle
+obstacle_of_orbits orbit_faults.Wide = obstacles.Refused refusals.Wide
+obstacle_of_orbits orbit_faults.NoMemory = obstacles.NoMemory

@@ -4,6 +4,7 @@ use crate::refusal::Refusal;
 use closure::GroupError;
 use devices::ReadFault;
 use motions::FrameFault;
+use orbits::OrbitFault;
 use quotient::GroupFault;
 use std::alloc::AllocError;
 use triplets::TextFault;
@@ -100,6 +101,20 @@ impl From<FrameFault> for Obstacle {
         match fault {
             FrameFault::NotFrame => Obstacle::Refused(Refusal::NotFrame),
             FrameFault::Skewed => Obstacle::Refused(Refusal::SkewFrame),
+        }
+    }
+}
+
+impl From<OrbitFault> for Obstacle {
+    ghost use Rattle.std.specs.Prelude.{◌≡◌};
+    ghost use Rattle.command.specs.Obstacles.{obstacle_of_orbits};
+
+    ghost from_gives = { λ fault obstacle. obstacle ≡ obstacle_of_orbits fault };
+
+    fn from(fault: OrbitFault) -> Obstacle {
+        match fault {
+            OrbitFault::Wide => Obstacle::Refused(Refusal::Wide),
+            OrbitFault::NoMemory => Obstacle::NoMemory,
         }
     }
 }

@@ -18,8 +18,9 @@ use crate::request::Request;
 use closure::Group;
 use fractions::Ratio;
 use motions::{Basis, Miller};
+use orbits::orientations;
 use plane_lattice::Frame;
-use report::at_text;
+use report::{at_text, images_text, type_text};
 use scanning::operations_at;
 use std::alloc::Global;
 use triplets::read_group;
@@ -47,7 +48,7 @@ fn response(alloc: Global, request: &Request, input: &[u8]) -> Result<Vec<u8>, O
         Request::At { plane, basis, s } => height_response(alloc, plane, basis, s, input),
         Request::Layers { plane, basis } => report_response(alloc, plane, basis, input),
         Request::Images { plane } => images_response(alloc, plane, input),
-        Request::Types { .. } => Err(Obstacle::NoMemory),
+        Request::Types { kind, n } => Ok(type_text(alloc, kind, n)?),
     }
 }
 
@@ -92,8 +93,9 @@ fn images_response(alloc: Global, plane: Miller, input: &[u8]) -> Result<Vec<u8>
     ensures text { IfOk result (λ text. IsOutput (image_rows (row_of plane)) input.now text.items) }
     ensures obstacle { IfErr result (IsInputObstacle (image_rows (row_of plane)) input.now) }
 {
-    let _group = group_of(alloc, input)?;
-    Err(Obstacle::NoMemory)
+    let group = group_of(alloc, input)?;
+    let images = orientations(alloc, &group, plane)?;
+    Ok(images_text(alloc, &images)?)
 }
 
 /// The group that the input lists.
