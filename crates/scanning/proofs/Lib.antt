@@ -7,6 +7,7 @@ pub mod HomeSizes
 pub mod MadeHeights
 pub mod MadeScans
 pub mod MemberChoices
+pub mod Places
 pub mod RaisedMotions
 pub mod ReducedMotions
 pub mod Remainders
@@ -14,4 +15,5 @@ pub mod RowSets
 pub mod SameMotions
 pub mod Shifts
 pub mod TurnedLevels
+pub mod Wide
 pub mod Zips

@@ -2,5 +2,6 @@ pub mod Bounds
 pub mod Levels
 pub mod Members
 pub mod HeightView
+pub mod PlaceView
 pub mod ScanView
 pub mod SpecialHeights

@@ -4,6 +4,7 @@
 // the list of the operations that map its plane to itself; `operations_at` gives this list for one height.
 #![tactic(auto)]
 
+mod class;
 mod height;
 mod heights;
 mod homes;
@@ -11,6 +12,7 @@ mod levels;
 mod make;
 mod members;
 mod operations;
+mod place;
 mod raised;
 mod scan;
 #[cfg(test)]
@@ -20,4 +22,5 @@ mod turned;
 pub use height::Height;
 pub use homes::NoMemory;
 pub use operations::operations_at;
+pub use place::Place;
 pub use scan::Scan;

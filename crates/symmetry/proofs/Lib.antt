@@ -14,4 +14,6 @@ pub mod ListFacts
 pub mod PlaneLattice
 pub mod HomeLaws
 pub mod Heights
+pub mod Conjugates
+pub mod ScanLists
 mod Samples
