@@ -17,28 +17,21 @@ pub in_origin : (c : Bool) → InLattice c origin2
 in_origin c = inl (record { a = pos 0; b = pos 0; x = refl; y = refl })
 
 whole_plus : {v w : Pair} → IsWholeVector v → IsWholeVector w → IsWholeVector (plus2 v w)
-whole_plus h k = let p = h.x in let q = h.y in let r = k.x in let s = k.y in
-    record { a = h.a +ℤ k.a; b = h.b +ℤ k.b; x = omega (arith, ints); y = omega (arith, ints) }
+whole_plus h k = record { a = h.a +ℤ k.a; b = h.b +ℤ k.b; x = omega (arith, ints, h.x, k.x); y = omega (arith, ints, h.y, k.y) }
 
 pub in_plus : (c : Bool) (v w : Pair) → InLattice c v → InLattice c w → InLattice c (plus2 v w)
 in_plus c v w (inl h) (inl k) = inl (whole_plus h k)
 in_plus c v w (inl h) (inr (t, k)) =
-    let p = h.x in let q = h.y in let r = k.x in let s = k.y in
-    inr (t, record { a = h.a +ℤ k.a; b = h.b +ℤ k.b; x = omega (arith, ints); y = omega (arith, ints) })
+    inr (t, record { a = h.a +ℤ k.a; b = h.b +ℤ k.b; x = omega (arith, ints, h.x, k.x); y = omega (arith, ints, h.y, k.y) })
 in_plus c v w (inr (t, h)) (inl k) =
-    let p = h.x in let q = h.y in let r = k.x in let s = k.y in
-    inr (t, record { a = h.a +ℤ k.a; b = h.b +ℤ k.b; x = omega (arith, ints); y = omega (arith, ints) })
+    inr (t, record { a = h.a +ℤ k.a; b = h.b +ℤ k.b; x = omega (arith, ints, h.x, k.x); y = omega (arith, ints, h.y, k.y) })
 in_plus c v w (inr (t, h)) (inr (u, k)) =
-    let p = h.x in let q = h.y in let r = k.x in let s = k.y in
-    inl (record { a = h.a +ℤ k.a +ℤ pos 1; b = h.b +ℤ k.b +ℤ pos 1; x = omega (arith, ints); y = omega (arith, ints) })
+    inl (record { a = h.a +ℤ k.a +ℤ pos 1; b = h.b +ℤ k.b +ℤ pos 1; x = omega (arith, ints, h.x, k.x); y = omega (arith, ints, h.y, k.y) })
 
 pub in_opposite : (c : Bool) (v : Pair) → InLattice c v → InLattice c (opposite2 v)
-in_opposite c v (inl h) =
-    let p = h.x in let q = h.y in
-    inl (record { a = negsuc 0 *ℤ h.a; b = negsuc 0 *ℤ h.b; x = omega (arith, ints); y = omega (arith, ints) })
+in_opposite c v (inl h) = inl (record { a = negsuc 0 *ℤ h.a; b = negsuc 0 *ℤ h.b; x = omega (arith, ints, h.x); y = omega (arith, ints, h.y) })
 in_opposite c v (inr (t, h)) =
-    let p = h.x in let q = h.y in
-    inr (t, record { a = negsuc 0 *ℤ h.a -ℤ pos 1; b = negsuc 0 *ℤ h.b -ℤ pos 1; x = omega (arith, ints); y = omega (arith, ints) })
+    inr (t, record { a = negsuc 0 *ℤ h.a -ℤ pos 1; b = negsuc 0 *ℤ h.b -ℤ pos 1; x = omega (arith, ints, h.x); y = omega (arith, ints, h.y) })
 
 -- from u by way of v to w
 pub in_between : (c : Bool) (u v w : Pair) → InLattice c (minus2 u v) → InLattice c (minus2 v w) → InLattice c (minus2 u w)
