@@ -1,7 +1,17 @@
 pub mod Choices
 pub mod ChosenLists
+pub mod Classes
+pub mod HeightNumbers
+pub mod HomeMotions
+pub mod HomeSizes
+pub mod MadeHeights
+pub mod MadeScans
 pub mod MemberChoices
 pub mod RaisedMotions
 pub mod ReducedMotions
 pub mod Remainders
+pub mod RowSets
+pub mod SameMotions
 pub mod Shifts
+pub mod TurnedLevels
+pub mod Zips

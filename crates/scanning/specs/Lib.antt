@@ -3,3 +3,4 @@ pub mod Levels
 pub mod Members
 pub mod HeightView
 pub mod ScanView
+pub mod SpecialHeights

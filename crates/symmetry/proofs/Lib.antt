@@ -13,4 +13,5 @@ pub mod ListLaws
 pub mod ListFacts
 pub mod PlaneLattice
 pub mod HomeLaws
+pub mod Heights
 mod Samples
