@@ -1,15 +1,13 @@
 // Worked texts, by hand.
-use super::{HeightSection, Kind, Report, Section, images_text, type_text};
+use super::{Kind, images_text, type_text};
 use std::alloc::AllocError;
 
 #[test]
 fn the_images_of_a_face_of_a_fourfold_axis(rt: HostRuntime) -> Result<(), AllocError> {
     let images = [[1, 0, 0], [-1, 0, 0], [0, -1, 0], [0, 1, 0]];
     let text = images_text(rt.alloc(), &images)?;
-    assert_eq!(rt;
-        text.as_slice(),
-        b"image 1 0 0\nimage -1 0 0\nimage 0 -1 0\nimage 0 1 0\nend\n"
-    );
+    let expected = "image 1 0 0\nimage -1 0 0\nimage 0 -1 0\nimage 0 1 0\nend\n";
+    assert_eq!(rt; text.as_slice(), expected.as_bytes());
     Ok(())
 }
 
