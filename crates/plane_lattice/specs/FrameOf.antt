@@ -30,3 +30,7 @@ abbrev pub IsFrameFault : Group → Miller → Basis → FrameFault → Type 0
 IsFrameFault group plane basis NotFrame = ¬ IsFrame (group_listing group) (row_of plane) (basis_of basis)
 IsFrameFault group plane basis Skewed =
     IsFrame (group_listing group) (row_of plane) (basis_of basis) × IsSkewed (group_listing group) (row_of plane) (basis_of basis)
+
+-- the frame is one that Frame::make gives for the group
+abbrev pub IsMadeFor : Group → Frame → Type 0
+IsMadeFor group frame = (plane : Miller) × (basis : Basis) × IsFrameOf group plane basis frame
