@@ -5,7 +5,9 @@ use Rattle.symmetry.specs.Vectors.{Vector, Matrix, row_times}
 use Rattle.symmetry.specs.Motions.{Motion}
 use Rattle.symmetry.specs.Groups.{Listing, IsMember, SameModulo, InStabiliser}
 use Rattle.symmetry.specs.Sizes.{IsVectorWithin}
+use Rattle.symmetry.specs.Planes.{IsCoprime}
 use Rattle.symmetry.proofs.LatticeLaws.{listed_member}
+use Rattle.symmetry.proofs.ScanLists.{scan_gives_some, scan_lists_in_plane}
 use Rattle.symmetry.specs.Frames.{Basis, IsFrame, IsSkewed, IsAtHome}
 use Rattle.symmetry.specs.Lists.{IsListOf}
 use Rattle.motions.specs.BasisView.{basis_of}
@@ -23,7 +25,8 @@ use Rattle.orbits.specs.Orientations.{AreOrientations, IsOrbitFault, IsWide}
 use Rattle.orbits.specs.declared.limits.TheConstants.{WIDE}
 use Rattle.orbits.specs.declared.orbit_fault.OrbitFault.{OrbitFault}
 use Rattle.orbits.specs.declared.orbit_fault.OrbitFault.TheVariants as orbit_faults
-use Rattle.report.specs.Texts.{at_text, images_text}
+use Rattle.report.specs.Texts.{Report, at_text, images_text, report_text}
+use Rattle.report.specs.Reports.{IsReport, scan_of_report}
 use Rattle.command.specs.declared.limits.TheConstants.{MOST_BYTES}
 use Rattle.command.specs.declared.refusal.Refusal.TheVariants.{Wide}
 use Rattle.command.specs.Obstacles.{obstacle_of_orbits}
@@ -34,6 +37,7 @@ use Rattle.command.specs.Answers.{IsOutput}
 use Rattle.command.specs.Causes.{IsFrameHere}
 use Rattle.command.specs.Contents.{IsFairFrame}
 use Rattle.command.proofs.Alike.{frame_from, list_from, skewed_as}
+use Rattle.command.proofs.AlikeReports.{report_from}
 use Rattle.command.proofs.FrameCauses.{input_refusal}
 
 -- ---- the frame
@@ -43,26 +47,35 @@ pub frame_here : (group : Group) (plane : Miller) (basis : BasisOfCode) (frame :
 frame_here group plane basis frame is = record {
   row_is = ap row_of is.plane;
   basis_is = λ i. vectors (is.a i) (is.b i) (is.tau i);
-  made = (basis, subst (λ (p : Miller). IsFrameOf group p basis frame) (sym is.plane) is);
+  made = (plane, basis, is);
 }
 
 module _ (row : Vector) (basis : Basis) (group : Group) (frame : Frame) (here : IsFrameHere group row basis frame) where
-  vectors_are : basis_of here.made.0 ≡ basis
-  vectors_are = let is = here.made.1 in (λ i. vectors (sym is.a i) (sym is.b i) (sym is.tau i)) ∙ here.basis_is
+  row_is : row_of here.made.0 ≡ row
+  row_is = sym (ap row_of here.made.2.plane) ∙ here.row_is
 
-  pub is_frame_here : IsFrame (group_listing group) row basis
-  is_frame_here =
-      subst (λ (r : Vector). IsFrame (group_listing group) r basis) here.row_is
-      (subst (λ (f : Basis). IsFrame (group_listing group) (row_of frame.plane) f) vectors_are here.made.1.is_frame)
+  vectors_are : basis_of here.made.1 ≡ basis
+  vectors_are = let is = here.made.2 in (λ i. vectors (sym is.a i) (sym is.b i) (sym is.tau i)) ∙ here.basis_is
 
-  pub frame_there : IsFrame (group_listing group) (row_of frame.plane) (basis_of_frame frame)
-  frame_there =
-      subst (λ (f : Basis). IsFrame (group_listing group) (row_of frame.plane) f) (vectors_are ∙ sym here.basis_is) here.made.1.is_frame
+  -- what holds of the frame that was made holds of what is asked for
+  of_asked : (P : Vector → Basis → Type 0) → P (row_of here.made.0) (basis_of here.made.1) → P row basis
+  of_asked P h = subst (λ (r : Vector). P r basis) row_is (subst (P (row_of here.made.0)) vectors_are h)
+
+  is_frame_here : IsFrame (group_listing group) row basis
+  is_frame_here = of_asked (IsFrame (group_listing group)) here.made.2.is_frame
 
   not_skewed_here : ¬ IsSkewed (group_listing group) row basis
-  not_skewed_here =
-      subst (λ (r : Vector). ¬ IsSkewed (group_listing group) r basis) here.row_is
-      (subst (λ (f : Basis). ¬ IsSkewed (group_listing group) (row_of frame.plane) f) vectors_are here.made.1.not_skewed)
+  not_skewed_here = of_asked (λ r f. ¬ IsSkewed (group_listing group) r f) here.made.2.not_skewed
+
+  -- and of the frame itself
+  of_frame : (P : Vector → Basis → Type 0) → P row basis → P (row_of frame.plane) (basis_of_frame frame)
+  of_frame P h = subst (λ (r : Vector). P r (basis_of_frame frame)) (sym here.row_is) (subst (P row) (sym here.basis_is) h)
+
+  to_asked : (P : Vector → Basis → Type 0) → P (row_of frame.plane) (basis_of_frame frame) → P row basis
+  to_asked P h = subst (λ (r : Vector). P r basis) here.row_is (subst (P (row_of frame.plane)) here.basis_is h)
+
+  pub frame_there : IsFrame (group_listing group) (row_of frame.plane) (basis_of_frame frame)
+  frame_there = of_frame (IsFrame (group_listing group)) is_frame_here
 
   module _ (input : List ℕ) (of : IsGroupOf input group) where
     fair_frame : IsFairFrame of.listing row basis
@@ -78,8 +91,7 @@ module _ (row : Vector) (basis : Basis) (group : Group) (frame : Frame) (here : 
         → text ≡ at_text s ops → IsOutput (at_height row basis s) input text
     height_answer short s ops text list is =
         let h = group_listing group in
-        let in_row = subst (λ (r : Vector). IsListOf (SameModulo h) h.ops (IsAtHome (basis_of_frame frame)) (InStabiliser h r s) ops) here.row_is list in
-        let in_frame = subst (λ (f : Basis). IsListOf (SameModulo h) h.ops (IsAtHome f) (InStabiliser h row s) ops) here.basis_is in_row in (
+        let here_list = to_asked (λ r f. IsListOf (SameModulo h) h.ops (IsAtHome f) (InStabiliser h r s) ops) list in (
           short,
           record {
             group = of.listing;
@@ -87,8 +99,36 @@ module _ (row : Vector) (basis : Basis) (group : Group) (frame : Frame) (here : 
             answers = record {
               frame = fair_frame;
               ops = ops;
-              are_ops = list_from of.listing h of.alike row basis s ops in_frame;
+              are_ops = list_from of.listing h of.alike row basis s ops here_list;
               is_text = is;
+            };
+          },
+        )
+
+    -- ---- all heights
+
+    -- the report of the group is that of what the input lists
+    report_here : (report : Report) → IsReport (group_listing group) (row_of frame.plane) (basis_of_frame frame) report → IsReport of.listing row basis report
+    report_here report is =
+        let h = group_listing group in report_from of.listing h of.alike row basis report (to_asked (λ r f. IsReport h r f report) is)
+
+    pub report_answer : (short : length input ≤ MOST_BYTES) → IsCoprime row → (report : Report) (text : List ℕ)
+        → IsReport (group_listing group) (row_of frame.plane) (basis_of_frame frame) report → text ≡ report_text report → IsOutput (all_heights row basis) input text
+    report_answer short coprime report text made is =
+        let told = report_here report made in
+        let fair = fair_frame in (
+          short,
+          record {
+            group = of.listing;
+            lists = of.lists;
+            answers = record {
+              frame = fair;
+              report = report;
+              is_report = told;
+              is_text = is;
+              classes = told.scan.classes;
+              given = λ s high. scan_gives_some of.listing row basis fair.is_frame (scan_of_report report) told.scan s high;
+              exactly = λ s ops high given. scan_lists_in_plane of.listing row basis fair.is_frame of.lists.is_group coprime (scan_of_report report) told.scan s high ops given;
             };
           },
         )

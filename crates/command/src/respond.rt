@@ -20,7 +20,7 @@ use fractions::Ratio;
 use motions::{Basis, Miller};
 use orbits::orientations;
 use plane_lattice::Frame;
-use report::{at_text, images_text, type_text};
+use report::{Report, at_text, images_text, type_text};
 use scanning::operations_at;
 use std::alloc::Global;
 use triplets::read_group;
@@ -83,8 +83,9 @@ fn report_response(
     ensures obstacle { IfErr result (IsInputObstacle (all_heights (row_of plane) (basis_of basis)) input.now) }
 {
     let group = group_of(alloc, input)?;
-    let _frame = frame_of(&group, plane, basis)?;
-    Err(Obstacle::NoMemory)
+    let frame = frame_of(&group, plane, basis)?;
+    let report = Report::make(alloc, &group, &frame)?;
+    Ok(report.text(alloc)?)
 }
 
 /// The text of the images of the orientation.

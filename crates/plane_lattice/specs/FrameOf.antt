@@ -31,6 +31,6 @@ IsFrameFault group plane basis NotFrame = ¬ IsFrame (group_listing group) (row_
 IsFrameFault group plane basis Skewed =
     IsFrame (group_listing group) (row_of plane) (basis_of basis) × IsSkewed (group_listing group) (row_of plane) (basis_of basis)
 
--- the frame is one that is made for the group
+-- the frame is one that Frame::make gives for the group
 abbrev pub IsMadeFor : Group → Frame → Type 0
-IsMadeFor group frame = (basis : Basis) × IsFrameOf group frame.plane basis frame
+IsMadeFor group frame = (plane : Miller) × (basis : Basis) × IsFrameOf group plane basis frame

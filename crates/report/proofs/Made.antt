@@ -1,25 +1,26 @@
 -- The report of a scan and of the orbits of its heights is the report of the group.
 use Rattle.std.proofs.Common.{◌≡◌, ℕ, List, [], ◌∷◌, map, refl, sym, ap, subst, ◌∙◌}
-use Rattle.symmetry.specs.Frames.{IsPeriod, mean_of}
+use Rattle.symmetry.specs.Frames.{IsFrame, IsPeriod, mean_of}
 use Rattle.symmetry.specs.Groups.{Listing}
 use Rattle.symmetry.specs.Vectors.{Vector}
 use Rattle.symmetry.specs.Orbits.{AreOrbitNumbers, IsPlaneCount}
 use Rattle.symmetry.specs.Scans.{IsScan, Scan as ScanOfPlanes, heights_of}
 use Rattle.motions.specs.declared.basis.Basis.{Basis}
+use Rattle.motions.specs.BasisView.{basis_of}
 use Rattle.motions.specs.Views.{parts, row_of}
 use Rattle.closure.specs.declared.group.Group.{Group}
 use Rattle.closure.specs.Groups.{group_listing}
 use Rattle.plane_lattice.specs.declared.frame.Frame.{Frame}
-use Rattle.plane_lattice.specs.FrameOf.{IsFrameOf}
+use Rattle.plane_lattice.specs.FrameOf.{IsFrameOf, IsMadeFor}
 use Rattle.plane_lattice.specs.FrameView.{basis_of_frame}
 use Rattle.plane_lattice.specs.Scanning.{scanning_ops, IsPointOf}
 use Rattle.scanning.specs.declared.scan.Scan.{Scan}
 use Rattle.scanning.specs.HeightView.{levels_of}
-use Rattle.scanning.specs.ScanView.{scan_of}
+use Rattle.scanning.specs.ScanView.{scan_of, IsScanOf}
 use Rattle.report.specs.declared.report.Report.{Report}
 use Rattle.report.specs.FractionsView.{fractions_of}
 use Rattle.report.specs.Reports.{block_heights, block_orbits, scan_of_report, special_of_block, IsMean, IsReport}
-use Rattle.report.specs.ReportView.{report_of}
+use Rattle.report.specs.ReportView.{report_of, IsReportOf}
 use Rattle.report.specs.Texts.{HeightBlock}
 use Rattle.report.specs.Shown.{Shows}
 use Rattle.report.proofs.Means.{point_in_lowest_terms}
@@ -46,10 +47,10 @@ module _ (group : Group) (frame : Frame) (basis : Basis) (of : IsFrameOf group f
       → IsScan (group_listing group) (row_of frame.plane) (basis_of_frame frame) (scan_of scan)
       → AreOrbitNumbers (group_listing group) (row_of frame.plane) (levels_of scan.special.items) numbers
       → IsPlaneCount (group_listing group) (row_of frame.plane) frame.period.0 planes
-      → (report.frame ≡ frame) × IsReport (group_listing group) (row_of frame.plane) (basis_of_frame frame) (report_of report)
-  report_made scan numbers planes report shown same is_scan are_numbers is_count = (
-    same_frame,
-    record {
+      → IsReportOf group frame report
+  report_made scan numbers planes report shown same is_scan are_numbers is_count = record {
+    frame_is = same_frame;
+    is = record {
       row = ap (λ (f : Frame). row_of f.plane) same_frame;
       basis = ap basis_of_frame same_frame;
       period = subst (IsPeriod g r) (sym same_period) of.period;
@@ -59,8 +60,8 @@ module _ (group : Group) (frame : Frame) (basis : Basis) (of : IsFrameOf group f
           (subst (λ heights. AreOrbitNumbers g r heights numbers) (sym same_heights) are_numbers);
       planes = subst (IsPlaneCount g r report.frame.period.0) (sym shown.same_planes)
           (subst (λ d. IsPlaneCount g r d planes) (sym same_period) is_count);
-    },
-  )
+    };
+  }
     where
       g : Listing
       g = group_listing group
@@ -79,3 +80,23 @@ module _ (group : Group) (frame : Frame) (basis : Basis) (of : IsFrameOf group f
 
       same_heights : block_heights blocks ≡ levels_of scan.special.items
       same_heights = sym (heights_of_blocks blocks) ∙ ap (λ (s : ScanOfPlanes). heights_of s.special) shown.same_scan
+
+-- the frame is a frame of the group
+pub frame_made : (group : Group) (frame : Frame) → IsMadeFor group frame
+    → IsFrame (group_listing group) (row_of frame.plane) (basis_of_frame frame)
+frame_made group frame (plane, basis, of) =
+    let g = group_listing group in
+    subst (IsFrame g (row_of frame.plane)) (λ i. record { a = parts (sym of.a i); b = parts (sym of.b i); tau = parts (sym of.tau i) })
+    (subst (λ p. IsFrame g (row_of p) (basis_of basis)) (sym of.plane) of.is_frame)
+
+-- the report that shows the scan of the group in the frame, with its orbits, is that of the group in the frame
+pub report_of_scan : (group : Group) (frame : Frame) → IsMadeFor group frame → (scan : Scan) → IsScanOf group frame scan
+    → (numbers : List ℕ) (planes : ℕ)
+    → AreOrbitNumbers (group_listing group) (row_of scan.frame.plane) (levels_of scan.special.items) numbers
+    → IsPlaneCount (group_listing group) (row_of scan.frame.plane) scan.frame.period.0 planes
+    → (report : Report) → Shows scan numbers planes report → IsReportOf group frame report
+report_of_scan group frame (plane, basis, of) scan is numbers planes are_numbers is_count report shown =
+    let g = group_listing group in
+    report_made group frame basis (subst (λ p. IsFrameOf group p basis frame) (sym of.plane) of) scan numbers planes report shown is.frame_is is.is
+    (subst (λ (f : Frame). AreOrbitNumbers g (row_of f.plane) (levels_of scan.special.items) numbers) is.frame_is are_numbers)
+    (subst (λ (f : Frame). IsPlaneCount g (row_of f.plane) f.period.0 planes) is.frame_is is_count)

@@ -13,6 +13,8 @@ mod lines;
 mod make;
 mod numbered;
 mod report;
+#[cfg(test)]
+mod report_tests;
 mod section;
 #[cfg(test)]
 mod tests;

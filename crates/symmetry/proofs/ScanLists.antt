@@ -8,14 +8,14 @@ use Rattle.symmetry.specs.Motions.{Motion, identity}
 use Rattle.symmetry.specs.Planes.{Height, IsCoprime, IsHeight, KeepsRow, TurnsRow}
 use Rattle.symmetry.specs.Groups.{Listing, IsGroup, InAll, InStabiliser, SameModulo}
 use Rattle.symmetry.specs.Frames.{Basis, DiffersInPlane, IsAtHome, IsFrame, IsSpecial}
-use Rattle.symmetry.specs.Lists.{HasOneAtHome, IsFirstPlace, IsListOf, motion_at}
+use Rattle.symmetry.specs.Lists.{HasOneAtHome, IsFirstPlace, IsListOf, ListsInPlane, motion_at}
 use Rattle.symmetry.specs.Scans.{AreConjugated, GivesAt, general, special, IsInOneClass, IsScan, Scan, StandsAt, conjugated, raised_height, special_at}
 use Rattle.symmetry.proofs.Conjugates.{conjugated_is, lifted, lifted-lowered, lifted_differs, lifted_same, lifted_stabiliser, lowered-lifted}
 use Rattle.symmetry.proofs.FrameLaws.{tau_multiple}
 use Rattle.symmetry.proofs.Heights.{at_in_period, raised_back}
 use Rattle.symmetry.proofs.HomeLaws.{has_one_at_home, home_once}
 use Rattle.symmetry.proofs.LatticeLaws.{same_sym, same_trans}
-use Rattle.symmetry.proofs.ListLaws.{list_of_same_set}
+use Rattle.symmetry.proofs.ListLaws.{list_of_same_set, lists_in_plane}
 use Rattle.symmetry.proofs.PlaneLattice.{differs_in_lattice, differs_stabiliser, differs_sym, differs_trans}
 use Rattle.symmetry.proofs.PlaneRows.{all_by_row, special_by_row, stabiliser_by_row}
 use Rattle.symmetry.proofs.VectorLaws.{multiple-multiple}
@@ -133,6 +133,11 @@ module _ (g : Listing) (r : Vector) (f : Basis) (frame : IsFrame g r f) (group :
         let h = special_at scan.special i in
         conjugated_list k h.height s (at_in_period (dot r f.tau) scan.special is.in_period is.rising i stands.within).positive high stands.is
         h.ops ops (is.lists i (record { height = record { num = pos 0; den = pos 1 }; ops = [] }) stands.within) conjugates
+
+    pub scan_lists_in_plane : (ops : List Motion) → GivesAt g r f scan s ops → ListsInPlane g r (InStabiliser g r s) ops
+    scan_lists_in_plane ops given =
+        lists_in_plane (SameModulo g) g.ops (IsAtHome f) (InStabiliser g r s) ops g r (has_one_at_home g r f frame (InStabiliser g r s) (differs_stabiliser g r s))
+        (scan_list ops given)
 
 -- ---- there are such operations
 

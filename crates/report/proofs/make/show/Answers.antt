@@ -11,7 +11,7 @@ use Rattle.report.proofs.make.show.Goals as goal
 pub invariant_of-result : goal.invariant_of-result
 invariant_of-result c =
     let scan = c.args.scan in
-    let levels = sym (ap levels_of_sections c.in_ok-numbered.ensures ∙ levels_of_numbered scan.special.items c.args.orbits.items c.requires) in
+    let levels = sym (ap levels_of_sections c.in_ok-numbered.ensures ∙ levels_of_numbered scan.special.items c.args.orbits.of.items c.requires) in
     record {
       in_period = subst (All (IsInPeriod scan.frame.period.0)) levels scan.in_period;
       halves = subst (All IsInHalves) levels scan.halves;
@@ -20,7 +20,7 @@ invariant_of-result c =
 pub returns : goal.returns
 returns c =
     let scan = c.args.scan in
-    let of = c.args.orbits.items in
+    let of = c.args.orbits.of.items in
     record {
       same_frame = refl;
       same_scan = ap (λ hs. record { general = map motion_of scan.general.items; special = map special_of_block (map block_of hs) }) c.in_ok-numbered.ensures
