@@ -2,7 +2,7 @@
 use Rattle.std.proofs.Common.{◌≡◌, ℤ, pos, negsuc, ◌+ℤ◌, ◌-ℤ◌, ◌*ℤ◌, ◌≤ℤ◌, ◌<ℤ◌, [], ◌∷◌, ◌⊎◌, inl, inr, ◌∙◌, ap, arith}
 use Rattle.std.proofs.lemmas.Int.{ints, by_lt_z}
 use Rattle.integers.proofs.Division.{floor}
-use Rattle.integers.proofs.Order.{mul-le-mul_right, mul_left_cancel_pos, one-le-mul, small_multiple}
+use Rattle.integers.proofs.Order.{mul-le-mul_right, one-le-mul, small_multiple}
 use Rattle.integers.proofs.Ring.{mul_zero}
 use Rattle.integers.proofs.Solver.{Expr.{var, num, ◌⊕◌, ◌⊝◌, ◌⊗◌}, given, linear, ring}
 

@@ -1,20 +1,22 @@
 -- Where a height stands among the special heights of a scan.
-use Rattle.std.proofs.Common.{◌≡◌, ◌↔◌, ℕ, ◌<◌, ℤ, pos, negsuc, ◌+ℤ◌, ◌*ℤ◌, ◌≤ℤ◌, ◌<ℤ◌, List, [], ◌∷◌, length, get_or, map, refl, sym, ◌∙◌, ap, subst, arith}
+use native.Mathlib.Nat.{mul-le-mul_left}
+use Rattle.std.proofs.Common.{◌*◌, ◌≤◌, nat_abs, neg_ℤ, ◌≡◌, ℕ, ◌<◌, ℤ, pos, negsuc, ◌+ℤ◌, ◌*ℤ◌, ◌≤ℤ◌, ◌<ℤ◌, List, [], ◌∷◌, length, get_or, refl, sym, ◌∙◌, ap, subst, arith}
 use Rattle.std.specs.Prelude.{All, AllPairs, int_div, int_rem}
 use Rattle.std.proofs.lemmas.Int.{ints, by_lt_z, quot-rem}
 use Rattle.std.proofs.lemmas.List.{get_or-map, length-map}
 use Rattle.fractions.proofs.Lowest.{one_lowest}
-use Rattle.fractions.specs.Fraction.{Fraction, IsFraction, IsInLowestTerms, SameFraction}
+use Rattle.fractions.specs.Fraction.{Fraction, IsFraction, IsInLowestTerms}
 use Rattle.fractions.specs.FractionOf.{fraction_of}
 use Rattle.fractions.specs.LowestTerms.{IsLowestForm}
 use Rattle.fractions.specs.declared.part.TheConstants.{UNIT}
+use Rattle.integers.specs.Size.{IsWithin}
+use Rattle.integers.proofs.Ring.{IsWithin-mul, abs-mul}
 use Rattle.integers.proofs.Order.{mul-le-mul_right, mul_left_cancel_pos}
-use Rattle.integers.proofs.Solver.{Expr.{var, num, ◌⊕◌, ◌⊝◌, ◌⊗◌}, given, linear, ring}
+use Rattle.integers.proofs.Solver.{Expr.{var, num, ◌⊕◌, ◌⊗◌, neg}, given, linear, ring}
 use Rattle.symmetry.specs.Planes.{Height as HeightOfPlane, IsHeight}
-use Rattle.symmetry.specs.Scans.{IsInPeriod, IsLower, SpecialHeight, StandsAt, heights_of, special_at}
+use Rattle.symmetry.specs.Scans.{IsInPeriod, IsLower, SpecialHeight, StandsAt, special_at}
 use Rattle.symmetry.proofs.Heights.{at_in_period, get_or-heights, level_above, stands_above, stands_once}
 use Rattle.scanning.specs.declared.height.Height.{Height}
-use Rattle.scanning.specs.declared.place.Place.{Place}
 use Rattle.scanning.specs.declared.place.Place.TheVariants.{General, Special}
 use Rattle.scanning.specs.HeightView.{IsInHalves, levels_of, special_of, specials_of}
 use Rattle.scanning.specs.Levels.{IsInTwoPeriods, IsLevel}
@@ -40,6 +42,54 @@ level_below u p q t d hq level below =
     let right = ring (d ∷ q ∷ []) (num (pos 2) ⊗ var 0 ⊗ var 1) (num (pos 2) ⊗ (var 0 ⊗ var 1)) tt in
     absurd (omega (arith, ints)))
 
+-- how many periods a height is above another within the period
+below_steps : (d k : ℤ) (n : ℕ) → pos 1 ≤ℤ d → (k *ℤ d) ≤ℤ pos n → k ≤ℤ pos n
+below_steps d k n h most =
+    by_lt_z (pos n) k
+    (λ above.
+    let one = mul-le-mul_right (pos n +ℤ pos 1) k d (omega (arith, ints)) (omega (arith, ints)) in
+    let two = mul-le-mul_right (pos 1) d (pos n +ℤ pos 1) (omega (arith, ints)) h in
+    let flip = ring (d ∷ pos n ∷ []) ((var 1 ⊕ num (pos 1)) ⊗ var 0) (var 0 ⊗ (var 1 ⊕ num (pos 1))) tt in
+    absurd (omega (arith, ints)))
+    (λ le. le)
+
+above_steps : (d k : ℤ) (n : ℕ) → pos 1 ≤ℤ d → neg_ℤ (pos n) <ℤ (k *ℤ d +ℤ d) → neg_ℤ (pos n) ≤ℤ k
+above_steps d k n h least =
+    by_lt_z k (neg_ℤ (pos n))
+    (λ below.
+    let one = mul-le-mul_right (k +ℤ pos 1) (neg_ℤ (pos n)) d (omega (arith, ints)) (omega (arith, ints)) in
+    let two = mul-le-mul_right (pos 1) d (pos n) (omega (arith, ints)) h in
+    let flip = ring (d ∷ pos n ∷ []) (neg (var 1) ⊗ var 0) (neg (var 0 ⊗ var 1)) tt in
+    let next = ring (d ∷ k ∷ []) ((var 1 ⊕ num (pos 1)) ⊗ var 0) (var 1 ⊗ var 0 ⊕ var 0) tt in
+    absurd (omega (arith, ints)))
+    (λ le. le)
+
+quotient_size : (q x y : ℤ) (n : ℕ) → pos 1 ≤ℤ q → q *ℤ x ≡ y → IsWithin n y → IsWithin n x
+quotient_size q x y n h e small =
+    record { most = sizes (nat_abs q) (nat_abs x) n (omega (arith, ints)) (subst (λ m. m ≤ n) (ap nat_abs (sym e) ∙ abs-mul q x) small.most) }
+  where
+    sizes : (q x n : ℕ) → 1 ≤ q → q * x ≤ n → x ≤ n
+    sizes q x n h le = omega (arith, mul-le-mul_left x h)
+
+steps_within : (u p q t d k : ℤ) (n : ℕ) → pos 1 ≤ℤ q → pos 1 ≤ℤ d → q *ℤ (t +ℤ pos 2 *ℤ k *ℤ d) ≡ pos 2 *ℤ p *ℤ u → pos 0 ≤ℤ t → t <ℤ (pos 2 *ℤ d) → IsWithin n p
+    → IsWithin (nat_abs u * n) k
+steps_within u p q t d k n hq hd level from below small =
+    let all : IsWithin (2 * n * nat_abs u) (pos 2 *ℤ p *ℤ u) = IsWithin-mul (IsWithin-mul {m = 2} {a = pos 2} two small) own in
+    let x = quotient_size q (t +ℤ pos 2 *ℤ k *ℤ d) (pos 2 *ℤ p *ℤ u) (2 * n * nat_abs u) hq level all in
+    let twice = ring (k ∷ d ∷ []) (num (pos 2) ⊗ var 0 ⊗ var 1) (num (pos 2) ⊗ (var 0 ⊗ var 1)) tt in
+    let size = x.most in
+    let most : (k *ℤ d) ≤ℤ pos (nat_abs u * n) = omega (arith, ints) in
+    let least : neg_ℤ (pos (nat_abs u * n)) <ℤ (k *ℤ d +ℤ d) = omega (arith, ints) in
+    let upto = below_steps d k (nat_abs u * n) hd most in
+    let upfrom = above_steps d k (nat_abs u * n) hd least in
+    record { most = omega (arith, ints) }
+  where
+    two : IsWithin 2 (pos 2)
+    two = record { most = omega arith }
+
+    own : IsWithin (nat_abs u) u
+    own = record { most = omega arith }
+
 -- two heights in lowest terms with one level are one
 one_height : (s s' : Fraction) (t : ℤ) → IsFraction s → IsFraction s' → IsInLowestTerms s → IsInLowestTerms s' → IsLevel s t → IsLevel s' t → s ≡ s'
 one_height s s' t high high' lowest lowest' level level' =
@@ -61,7 +111,7 @@ level_of_halves s none =
 -- ---- the heights of a scan
 
 -- some height of a list that has one
-item : (hs : List Height) (i : ℕ) → i < length hs → Height
+pub item : (hs : List Height) (i : ℕ) → i < length hs → Height
 item [] i h = absurd (omega arith)
 item (x ∷ hs) i h = x
 
@@ -79,13 +129,13 @@ module _ (d : ℤ) (hs : List Height) (in_period : All (IsInPeriod d) (levels_of
   abbrev sp : List SpecialHeight
   sp = specials_of hs
 
-  within : (i : ℕ) → i < length sp → i < length hs
+  pub within : (i : ℕ) → i < length sp → i < length hs
   within i h = let long = length-map hs special_of in omega arith
 
   back_within : (i : ℕ) → i < length hs → i < length sp
   back_within i h = let long = length-map hs special_of in omega arith
 
-  special_is : (i : ℕ) (e : Height) → i < length hs → special_at sp i ≡ special_of (get_or hs i e)
+  pub special_is : (i : ℕ) (e : Height) → i < length hs → special_at sp i ≡ special_of (get_or hs i e)
   special_is i e h = get_or-map special_of hs i e (record { height = record { num = pos 0; den = pos 1 }; ops = [] }) h
 
   half_at : (i : ℕ) → i < length sp → (t : ℤ) × IsLevel (special_at sp i).height t × IsInTwoPeriods d t
@@ -100,6 +150,13 @@ module _ (d : ℤ) (hs : List Height) (in_period : All (IsInPeriod d) (levels_of
     where
       long_heights : (i : ℕ) → i < length sp → i < length (levels_of hs)
       long_heights i h = let long = length-map sp (λ (h : SpecialHeight). h.height) in omega arith
+
+  pub periods_within : (n : ℕ) → IsWithin n s.num → pos 1 ≤ℤ d → (i : ℕ) (k : ℤ) → StandsAt d sp s i k → IsWithin (nat_abs UNIT * n) k
+  periods_within n small positive i k stands =
+      let u = (special_at sp i).height in
+      let (t, level, range) = half_at i stands.within in
+      steps_within UNIT s.num s.den t d k n high positive
+      (level_above UNIT u.num u.den t (at_in_period d sp in_period rising i stands.within).positive level d k s.num s.den stands.is) range.from range.below small
 
   -- a height with no level stands over none
   pub no_level_place : ((t : ℤ) → ¬ IsLevel s t) → IsPlaceOf d sp s General

@@ -1,4 +1,5 @@
 pub mod Bounds
+pub mod Conjugates
 pub mod Levels
 pub mod Members
 pub mod HeightView

@@ -1,5 +1,5 @@
 -- The height has no level, or a level of which what is left is listed or not.
-use Rattle.std.proofs.Common.{◌≡◌, ℕ, ◌<◌, List, get_or, length, ◌+ℤ◌, ◌*ℤ◌, ◌^◌, ℤ, pos, FitsSigned, lit<, lit≤, rules, sym, ◌∙◌, subst, ap}
+use Rattle.std.proofs.Common.{◌≡◌, ℕ, ◌<◌, List, get_or, length, ◌*ℤ◌, ◌^◌, ℤ, pos, FitsSigned, lit<, lit≤, rules, sym, ◌∙◌, subst}
 use Rattle.std.specs.Int.{w128}
 use Rattle.std.proofs.lemmas.Int.{to_z-of_z}
 use Rattle.fractions.specs.FractionOf.{fraction_of}
@@ -13,7 +13,7 @@ use Rattle.scanning.specs.PlaceView.{IsPlaceOf}
 use Rattle.scanning.specs.declared.place.Place.TheVariants.{Special}
 use Rattle.scanning.proofs.Places.{no_level_place, no_rest_place, rest_place}
 use Rattle.scanning.proofs.Shifts.{below_two_periods, period_within}
-use Rattle.scanning.proofs.Wide.{wide, wide_is}
+use Rattle.scanning.proofs.Wide.{wide_is}
 use Rattle.scanning.proofs.scan.Scan.class_at.Goals as goal
 
 pub returns-in_default : goal.returns-in_default
