@@ -44,7 +44,7 @@ module _ (g h : Listing) (alike : AreAlike g h) (r : Vector) where
     ordered = λ j k l within. before_from g h alike (motion_at ms j) (motion_at ms k) (list.ordered j k l within);
   }
 
-  scan_from : (f : Basis) (scan : Scan) → IsScan h r f scan → IsScan g r f scan
+  pub scan_from : (f : Basis) (scan : Scan) → IsScan h r f scan → IsScan g r f scan
   scan_from f scan is = record {
     in_period = is.in_period;
     rising = is.rising;

@@ -1,9 +1,9 @@
 -- What is answered of the group of an input is what is asked of what the input lists.
-use Rattle.std.proofs.Common.{◌≡◌, ◌≤◌, ℕ, List, length, unsigned_abs, sym, ap, ◌∙◌, subst, inr}
-use Rattle.fractions.specs.Fraction.{Fraction}
+use Rattle.std.proofs.Common.{◌≡◌, ◌≤◌, ◌^◌, ℕ, List, length, unsigned_abs, refl, sym, ap, ◌∙◌, subst, inr}
+use Rattle.fractions.specs.Fraction.{Fraction, IsFractionWithin}
 use Rattle.symmetry.specs.Vectors.{Vector, Matrix, row_times}
 use Rattle.symmetry.specs.Motions.{Motion}
-use Rattle.symmetry.specs.Groups.{Listing, IsMember, SameModulo, InStabiliser}
+use Rattle.symmetry.specs.Groups.{Listing, IsGroup, IsMember, SameModulo, InStabiliser}
 use Rattle.symmetry.specs.Sizes.{IsVectorWithin}
 use Rattle.symmetry.specs.Planes.{IsCoprime}
 use Rattle.symmetry.proofs.LatticeLaws.{listed_member}
@@ -20,6 +20,11 @@ use Rattle.plane_lattice.specs.Coordinates.{vectors}
 use Rattle.plane_lattice.specs.FrameOf.{IsFrameOf, IsMadeFor}
 use Rattle.plane_lattice.specs.FrameView.{basis_of_frame}
 use Rattle.plane_lattice.specs.declared.frame.Frame.{Frame}
+use Rattle.symmetry.specs.Scans.{IsScan, Scan as ScanOfPlanes}
+use Rattle.scanning.specs.ScanView.{IsScanOf, scan_of}
+use Rattle.scanning.specs.declared.scan.Scan.{Scan}
+use Rattle.scanning.specs.declared.at_fault.AtFault.{AtFault}
+use Rattle.scanning.specs.declared.at_fault.AtFault.TheVariants as at_faults
 use Rattle.orbits.proofs.FirstRows.{orientations_of_firsts}
 use Rattle.orbits.specs.Orientations.{AreOrientations, IsOrbitFault, IsWide}
 use Rattle.orbits.specs.declared.limits.TheConstants.{WIDE}
@@ -29,15 +34,16 @@ use Rattle.report.specs.Texts.{Report, at_text, images_text, report_text}
 use Rattle.report.specs.Reports.{IsReport, scan_of_report}
 use Rattle.command.specs.declared.limits.TheConstants.{MOST_BYTES}
 use Rattle.command.specs.declared.refusal.Refusal.TheVariants.{Wide}
-use Rattle.command.specs.Obstacles.{obstacle_of_orbits}
+use Rattle.command.specs.Obstacles.{obstacle_of_height, obstacle_of_orbits}
+use Rattle.command.specs.Limits.{IsHeightInRange}
 use Rattle.command.specs.Requests.{at_height, all_heights, image_rows}
 use Rattle.command.specs.Responses.{IsInputObstacle}
 use Rattle.command.specs.Alike.{AreAlike, IsGroupOf}
 use Rattle.command.specs.Answers.{IsOutput}
 use Rattle.command.specs.Causes.{IsFrameHere}
 use Rattle.command.specs.Contents.{IsFairFrame}
-use Rattle.command.proofs.Alike.{frame_from, list_from, skewed_as}
-use Rattle.command.proofs.AlikeReports.{report_from}
+use Rattle.command.proofs.Alike.{frame_from, skewed_as}
+use Rattle.command.proofs.AlikeReports.{report_from, scan_from}
 use Rattle.command.proofs.FrameCauses.{input_refusal}
 
 -- ---- the frame
@@ -86,20 +92,26 @@ module _ (row : Vector) (basis : Basis) (group : Group) (frame : Frame) (here : 
 
     -- ---- one height
 
-    pub height_answer : (short : length input ≤ MOST_BYTES) (s : Fraction) (ops : List Motion) (text : List ℕ)
-        → IsListOf (SameModulo (group_listing group)) (group_listing group).ops (IsAtHome (basis_of_frame frame)) (InStabiliser (group_listing group) (row_of frame.plane) s) ops
+    -- a scan of the group is one of what the input lists
+    scan_here : (scan : ScanOfPlanes) → IsScan (group_listing group) (row_of frame.plane) (basis_of_frame frame) scan → IsScan of.listing row basis scan
+    scan_here scan is = scan_from of.listing (group_listing group) of.alike row basis scan (to_asked (λ r f. IsScan (group_listing group) r f scan) is)
+
+    pub height_answer : (short : length input ≤ MOST_BYTES) (s : Fraction) (scan : ScanOfPlanes) (ops : List Motion) (text : List ℕ)
+        → IsScan (group_listing group) (row_of frame.plane) (basis_of_frame frame) scan
+        → ((g : Listing) → IsGroup g → IsFrame g (row_of frame.plane) (basis_of_frame frame) → IsScan g (row_of frame.plane) (basis_of_frame frame) scan
+          → IsListOf (SameModulo g) g.ops (IsAtHome (basis_of_frame frame)) (InStabiliser g (row_of frame.plane) s) ops)
         → text ≡ at_text s ops → IsOutput (at_height row basis s) input text
-    height_answer short s ops text list is =
-        let h = group_listing group in
-        let here_list = to_asked (λ r f. IsListOf (SameModulo h) h.ops (IsAtHome f) (InStabiliser h r s) ops) list in (
+    height_answer short s scan ops text is_scan list is =
+        let g = of.listing in
+        let told = list g of.lists.is_group (of_frame (IsFrame g) fair_frame.is_frame) (of_frame (λ r f. IsScan g r f scan) (scan_here scan is_scan)) in (
           short,
           record {
-            group = of.listing;
+            group = g;
             lists = of.lists;
             answers = record {
               frame = fair_frame;
               ops = ops;
-              are_ops = list_from of.listing h of.alike row basis s ops here_list;
+              are_ops = to_asked (λ r f. IsListOf (SameModulo g) g.ops (IsAtHome f) (InStabiliser g r s) ops) told;
               is_text = is;
             };
           },
@@ -132,6 +144,20 @@ module _ (row : Vector) (basis : Basis) (group : Group) (frame : Frame) (here : 
             };
           },
         )
+
+-- a scan keeps the frame that it was made in
+pub scanned : (row : Vector) (basis : Basis) (group : Group) (frame : Frame) (scan : Scan) → IsFrameHere group row basis frame → IsScanOf group frame scan
+    → IsFrameHere group row basis scan.frame × IsScan (group_listing group) (row_of scan.frame.plane) (basis_of_frame scan.frame) (scan_of scan)
+scanned row basis group frame scan here is = (
+  subst (IsFrameHere group row basis) (sym is.frame_is) here,
+  subst (λ (q : Frame). IsScan (group_listing group) (row_of q.plane) (basis_of_frame q) (scan_of scan)) (sym is.frame_is) is.is,
+)
+
+-- a height in range has a list
+pub height_obstacle : (row : Vector) (basis : Basis) (s : Fraction) (input : List ℕ) (fault : AtFault) → IsHeightInRange s
+    → (fault ≡ at_faults.Large → ¬ IsFractionWithin (10 ^ 9) s) → IsInputObstacle (at_height row basis s) input (obstacle_of_height fault)
+height_obstacle row basis s input at_faults.Large range large = absurd (large refl (record { num = range.num; den = range.den }))
+height_obstacle row basis s input at_faults.NoMemory range large = tt
 
 -- ---- images
 

@@ -21,7 +21,7 @@ use motions::{Basis, Miller};
 use orbits::orientations;
 use plane_lattice::Frame;
 use report::{Report, at_text, images_text, type_text};
-use scanning::operations_at;
+use scanning::Scan;
 use std::alloc::Global;
 use triplets::read_group;
 
@@ -67,7 +67,8 @@ fn height_response(
 {
     let group = group_of(alloc, input)?;
     let frame = frame_of(&group, plane, basis)?;
-    let operations = operations_at(alloc, &group, &frame, s)?;
+    let scan = Scan::make(alloc, &group, &frame)?;
+    let operations = scan.ops_at(alloc, s)?;
     Ok(at_text(alloc, s, &operations)?)
 }
 
