@@ -25,7 +25,7 @@ below_or_not a b = elim (by_sign (b -ℤ a)) [ inl h ↦ inl (omega (arith, ints
     by_sign (negsuc n) = inr (omega (arith, ints))
 
 -- a factor of at least 1 is cancelled
-less_by_factor : (q a b : ℤ) → pos 1 ≤ℤ q → (a *ℤ q) <ℤ (b *ℤ q) → a <ℤ b
+pub less_by_factor : (q a b : ℤ) → pos 1 ≤ℤ q → (a *ℤ q) <ℤ (b *ℤ q) → a <ℤ b
 less_by_factor q a b h l = by (below_or_not a b)
   where
     by : (a <ℤ b) ⊎ (b ≤ℤ a) → a <ℤ b
@@ -33,7 +33,7 @@ less_by_factor q a b h l = by (below_or_not a b)
     by (inr k) = absurd (omega (arith, ints, mul-le-mul_right b a q (omega (arith, ints)) k))
 
 -- x c = n y with n, c and y not negative
-not_negative : (x c n y : ℤ) → pos 1 ≤ℤ c → pos 1 ≤ℤ y → pos 0 ≤ℤ n → x *ℤ c ≡ n *ℤ y → pos 0 ≤ℤ x
+pub not_negative : (x c n y : ℤ) → pos 1 ≤ℤ c → pos 1 ≤ℤ y → pos 0 ≤ℤ n → x *ℤ c ≡ n *ℤ y → pos 0 ≤ℤ x
 not_negative (pos x) c n y h k l e = omega (arith, ints)
 not_negative (negsuc x) c n y h k l e =
     let top = mul-le-mul_right (negsuc x) (negsuc 0) c (omega (arith, ints)) (omega (arith, ints)) in
