@@ -1,20 +1,21 @@
--- What the stabiliser of a plane has at home of the coset of one operation.
-use Rattle.std.proofs.Common.{◌≡◌, ℤ, pos, negsuc, ◌+ℤ◌, ◌-ℤ◌, ◌*ℤ◌, inl, inr, None, Some, sym, ◌∙◌, ap, arith}
+-- What the members that keep the row, or turn it with a given shift, have at home of the coset of one motion.
+use Rattle.std.proofs.Common.{◌≡◌, ℤ, pos, negsuc, ◌+ℤ◌, ◌-ℤ◌, ◌*ℤ◌, inl, inr, Option, None, Some, sym, ◌∙◌, ap, arith}
 use Rattle.std.proofs.lemmas.Int.{ints}
 use Rattle.symmetry.specs.Vectors.{Vector, plus, minus, opposite, multiple, dot, row_times}
 use Rattle.symmetry.specs.Motions.{Motion}
-use Rattle.symmetry.specs.Planes.{Height, IsHeight}
-use Rattle.symmetry.specs.Groups.{Listing, IsMember, SameModulo, InRowStabiliser}
+use Rattle.symmetry.specs.Groups.{Listing, IsMember, SameModulo}
 use Rattle.symmetry.specs.Frames.{Basis, combination, IsFrame, IsAtHome, DiffersInPlane, KeepsOrientation}
 use Rattle.symmetry.specs.Lists.{IsChoice}
-use Rattle.symmetry.proofs.VectorLaws.{dot-plus, dot-multiple, multiple-dot}
-use Rattle.integers.proofs.Ring.{mul_left_cancel}
-use Rattle.fractions.specs.declared.part.TheConstants.{UNIT}
+use Rattle.symmetry.proofs.VectorLaws.{dot-plus, dot-multiple, multiple-dot, multiple-one}
 use Rattle.symmetry.proofs.LatticeLaws.{same_trans, same_sym, same_member}
 use Rattle.symmetry.proofs.HomeLaws.{home_once}
+use Rattle.motions.specs.declared.motion.Sign.{Sign}
+use Rattle.motions.specs.declared.motion.Sign.TheVariants.{Plus, Minus}
+use Rattle.motions.specs.Signs.{sign_value}
+use Rattle.scanning.specs.Members.{InRows, asked}
 
 -- what a difference gives under the row
-dot-minus : (r v w : Vector) → dot r (minus v w) ≡ dot r v -ℤ dot r w
+pub dot-minus : (r v w : Vector) → dot r (minus v w) ≡ dot r v -ℤ dot r w
 dot-minus r v w = dot-plus r v (opposite w) ∙ ap (λ n. dot r v +ℤ n) (dot-multiple r (negsuc 0) w) ∙ negated (dot r v) (dot r w)
   where
     negated : (a b : ℤ) → a +ℤ negsuc 0 *ℤ b ≡ a -ℤ b
@@ -63,60 +64,68 @@ module _ (g : Listing) (r : Vector) (f : Basis) (frame : IsFrame g r f) (S : Mot
   no_choice target asks apart n member home same =
       let (k, is) = periods_between n same in apart k (ap (λ t. t -ℤ dot r m.shift) (sym (asks n same.matrix member)) ∙ is)
 
--- ---- the stabiliser of a plane, by rows
+-- ---- the members by rows
 
-module _ (g : Listing) (r : Vector) (f : Basis) (frame : IsFrame g r f) (s : Height) (high : IsHeight s) where
+module _ (g : Listing) (r : Vector) (f : Basis) (frame : IsFrame g r f) where
   -- the row is not its opposite
   not_opposite : r ≡ opposite r → ⊥
   not_opposite e =
       let same : dot r f.tau ≡ negsuc 0 *ℤ dot r f.tau = ap (λ t. dot t f.tau) e ∙ multiple-dot (negsuc 0) r f.tau in
       absurd (omega (arith, ints, frame.tau_above))
 
-  abbrev S : Motion → Type 0
-  S = InRowStabiliser g r s
-
   module _ (m : Motion) where
     same_row : (n : Motion) → n.matrix ≡ m.matrix → row_times r n.matrix ≡ row_times r m.matrix
     same_row n e = ap (row_times r) e
 
-    pub other_choice : (KeepsOrientation r m → ⊥) → IsChoice (SameModulo g) (IsAtHome f) S m None
-    other_choice other n (member, inl keeps) home same = other (inl (sym (same_row n same.matrix) ∙ keeps.0))
-    other_choice other n (member, inr turns) home same = other (inr (sym (same_row n same.matrix) ∙ turns.0))
+    -- the row of the motion
+    abbrev HasSign : Sign → Type 0
+    HasSign e = row_times r m.matrix ≡ multiple (sign_value e) r
 
-    -- an operation that keeps the row
-    module _ (row : row_times r m.matrix ≡ r) where
-      keeping_asks : (n : Motion) → n.matrix ≡ m.matrix → S n → dot r n.shift ≡ pos 0
-      keeping_asks n e (member, inl keeps) = keeps.1
-      keeping_asks n e (member, inr turns) = absurd (not_opposite (sym row ∙ sym (same_row n e) ∙ turns.0))
+    -- a motion that does not keep the orientation
+    pub other_choice : (turned : Option ℤ) → (KeepsOrientation r m → ⊥) → IsChoice (SameModulo g) (IsAtHome f) (InRows g r turned) m None
+    other_choice None other n (member, keeps) home same = other (inl (sym (same_row n same.matrix) ∙ keeps.0))
+    other_choice (Some t) other n (member, inl keeps) home same = other (inl (sym (same_row n same.matrix) ∙ keeps.0))
+    other_choice (Some t) other n (member, inr turns) home same = other (inr (sym (same_row n same.matrix) ∙ turns.0))
 
-      pub keeping_choice : IsMember g m → (h : Motion) → SameModulo g h m → IsAtHome f h → dot r h.shift ≡ pos 0
-          → IsChoice (SameModulo g) (IsAtHome f) S m (Some h)
-      keeping_choice member h same home level =
-          some_choice g r f frame S m (pos 0) keeping_asks h (same_member g h m same member, inl (same_row h same.matrix ∙ row, level)) home same
+    -- a motion of whose sign nothing is asked
+    pub unasked_choice : (turned : Option ℤ) (e : Sign) → HasSign e → asked e turned ≡ None → IsChoice (SameModulo g) (IsAtHome f) (InRows g r turned) m None
+    unasked_choice turned Plus row none n member home same = absurd (cc none)
+    unasked_choice (Some t) Minus row none n member home same = absurd (cc none)
+    unasked_choice None Minus row none n (member, keeps) home same = not_opposite (sym keeps.0 ∙ same_row n same.matrix ∙ row)
 
-      pub keeping_no_choice : ((k : ℤ) → pos 0 -ℤ dot r m.shift ≡ k *ℤ dot r f.tau → ⊥) → IsChoice (SameModulo g) (IsAtHome f) S m None
-      keeping_no_choice = no_choice g r f frame S m (pos 0) keeping_asks
+    -- what is asked of those with its matrix
+    asks : (turned : Option ℤ) (e : Sign) → HasSign e → (t : ℤ) → asked e turned ≡ Some t
+        → (n : Motion) → n.matrix ≡ m.matrix → InRows g r turned n → dot r n.shift ≡ t
+    asks None Plus row t is n matrix (member, keeps) = let zero : pos 0 ≡ t = cc in keeps.1 ∙ zero
+    asks None Minus row t is n matrix member = absurd (cc is)
+    asks (Some u) Plus row t is n matrix (member, inl keeps) = let zero : pos 0 ≡ t = cc in keeps.1 ∙ zero
+    asks (Some u) Plus row t is n matrix (member, inr turns) =
+        absurd (not_opposite (sym (row ∙ multiple-one r) ∙ sym (same_row n matrix) ∙ turns.0))
+    asks (Some u) Minus row t is n matrix (member, inl keeps) = absurd (not_opposite (sym keeps.0 ∙ same_row n matrix ∙ row))
+    asks (Some u) Minus row t is n matrix (member, inr turns) = let given : u ≡ t = cc in turns.1 ∙ given
 
-    -- an operation that turns the row over
-    module _ (row : row_times r m.matrix ≡ opposite r) where
-      turned : (n : Motion) → n.matrix ≡ m.matrix → S n → pos 2 *ℤ s.num *ℤ UNIT ≡ s.den *ℤ dot r n.shift
-      turned n e (member, inl keeps) = absurd (not_opposite (sym keeps.0 ∙ same_row n e ∙ row))
-      turned n e (member, inr turns) = turns.1
+    -- and is enough
+    in_rows : (turned : Option ℤ) (e : Sign) → HasSign e → (t : ℤ) → asked e turned ≡ Some t
+        → (n : Motion) → n.matrix ≡ m.matrix → IsMember g n → dot r n.shift ≡ t → InRows g r turned n
+    in_rows None Plus row t is n matrix member at = let zero : t ≡ pos 0 = cc in (member, (same_row n matrix ∙ row ∙ multiple-one r, at ∙ zero))
+    in_rows None Minus row t is n matrix member at = absurd (cc is)
+    in_rows (Some u) Plus row t is n matrix member at =
+        let zero : t ≡ pos 0 = cc in (member, inl (same_row n matrix ∙ row ∙ multiple-one r, at ∙ zero))
+    in_rows (Some u) Minus row t is n matrix member at = let given : t ≡ u = cc in (member, inr (same_row n matrix ∙ row, at ∙ given))
 
-      -- twice the height is no whole number of parts
-      pub turning_no_level : ((t : ℤ) → s.den *ℤ t ≡ pos 2 *ℤ s.num *ℤ UNIT → ⊥) → IsChoice (SameModulo g) (IsAtHome f) S m None
-      turning_no_level none n member home same = none (dot r n.shift) (sym (turned n same.matrix member))
+    module _ (turned : Option ℤ) (e : Sign) (row : HasSign e) (t : ℤ) (is : asked e turned ≡ Some t) where
+      -- a motion at home with what is asked
+      pub at_level : IsMember g m → (h : Motion) → SameModulo g h m → IsAtHome f h → dot r h.shift ≡ t
+          → IsChoice (SameModulo g) (IsAtHome f) (InRows g r turned) m (Some h)
+      at_level member h same home at =
+          some_choice g r f frame (InRows g r turned) m t (asks turned e row t is) h
+          (in_rows turned e row t is h same.matrix (same_member g h m same member) at) home same
 
-      module _ (level : ℤ) (is_level : s.den *ℤ level ≡ pos 2 *ℤ s.num *ℤ UNIT) where
-        turning_asks : (n : Motion) → n.matrix ≡ m.matrix → S n → dot r n.shift ≡ level
-        turning_asks n e member =
-            mul_left_cancel s.den (dot r n.shift) level (λ z. absurd (omega (arith, ints, high))) (sym (turned n e member) ∙ sym is_level)
-
-        pub turning_choice : IsMember g m → (h : Motion) → SameModulo g h m → IsAtHome f h → dot r h.shift ≡ level
-            → IsChoice (SameModulo g) (IsAtHome f) S m (Some h)
-        turning_choice member h same home at =
-            some_choice g r f frame S m level turning_asks h
-            (same_member g h m same member, inr (same_row h same.matrix ∙ row, sym is_level ∙ ap (λ t. s.den *ℤ t) (sym at))) home same
-
-        pub turning_no_choice : ((k : ℤ) → level -ℤ dot r m.shift ≡ k *ℤ dot r f.tau → ⊥) → IsChoice (SameModulo g) (IsAtHome f) S m None
-        turning_no_choice = no_choice g r f frame S m level turning_asks
+      -- no whole number of periods leads to it
+      pub off_level : ((k : ℤ) → ¬ (dot r f.tau *ℤ k ≡ t -ℤ dot r m.shift)) → IsChoice (SameModulo g) (IsAtHome f) (InRows g r turned) m None
+      off_level none =
+          no_choice g r f frame (InRows g r turned) m t (asks turned e row t is)
+          (λ k apart. none k (flipped (dot r f.tau) k ∙ sym apart))
+        where
+          flipped : (d k : ℤ) → d *ℤ k ≡ k *ℤ d
+          flipped d k = omega (arith, ints)

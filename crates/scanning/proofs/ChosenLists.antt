@@ -1,22 +1,20 @@
 -- What is chosen operation by operation, with one operation more, and the list that comes of it.
-use Rattle.std.proofs.Common.{◌≡◌, ℕ, ◌+◌, ◌<◌, ◌≤◌, List, [], ◌∷◌, ◌++◌, length, take, map, get_or, Some, None, subst, sym, ap, ◌∙◌}
+use Rattle.std.proofs.Common.{◌≡◌, ℕ, ◌+◌, ◌<◌, List, [], ◌∷◌, ◌++◌, length, take, map, get_or, Some, None, ◌↔◌, subst, sym, ap, ◌∙◌}
 use Rattle.std.specs.Prelude.{All, AllPairs, Contains}
-use Rattle.std.proofs.lemmas.List.{get_or_default, map-append, take_all, take_more}
-use Rattle.std.proofs.lemmas.List.Elements.{All-contains, at_from_Contains}
+use Rattle.std.proofs.lemmas.List.{get_or_default, map-append, take_more}
+use Rattle.std.proofs.lemmas.List.Elements.{All-contains, All-push, at_from_Contains}
 use Rattle.quotient.proofs.Items.{Contains-item}
 use Rattle.symmetry.specs.Vectors.{Vector}
 use Rattle.symmetry.specs.Motions.{Motion, identity}
-use Rattle.symmetry.specs.Planes.{Height, IsCoprime, IsHeight}
-use Rattle.symmetry.specs.Groups.{Listing, IsGroup, InRowStabiliser, InStabiliser, IsMember, SameModulo}
-use Rattle.symmetry.specs.Frames.{Basis, IsAtHome}
+use Rattle.symmetry.specs.Groups.{Listing, IsMember, SameModulo}
+use Rattle.symmetry.specs.Frames.{Basis}
 use Rattle.symmetry.specs.Lists.{AreChosen, no_more, passed, taken, AreCovered, IsChoice, IsListOf}
-use Rattle.symmetry.specs.Sizes.{IsSmall}
-use Rattle.symmetry.proofs.LatticeLaws.{listed_member, same_sym, same_trans}
+use Rattle.symmetry.proofs.LatticeLaws.{same_sym, same_trans}
 use Rattle.symmetry.proofs.ListFacts.{chosen_is_list}
 use Rattle.symmetry.proofs.ListLaws.{list_of_same_set}
-use Rattle.symmetry.proofs.PlaneRows.{stabiliser_by_row}
+use Rattle.scanning.specs.Members.{AreSameMotions, IsHomeMotion}
+use Rattle.scanning.proofs.SameMotions.{chosen_same}
 use Rattle.motions.specs.declared.motion.Motion3.{Motion3}
-use Rattle.motions.specs.ListedSizes.{IsSmallWithin}
 use Rattle.motions.specs.Views.{motion_of}
 
 op_listed : (ops : List Motion3) (i : ℕ) (d : Motion3) → i < length ops → Contains (map motion_of ops) (motion_of (get_or ops i d))
@@ -61,29 +59,29 @@ module _ (Same : Motion → Motion → Type 0) (IsHome S : Motion → Type 0) wh
 
 -- ---- the list
 
-module _ (g : Listing) (r : Vector) (f : Basis) (s : Height) (group : IsGroup g) (coprime : IsCoprime r) (high : IsHeight s)
-    (apart : AllPairs (λ m n. ¬ SameModulo g m n) g.ops) where
-  covered : AreCovered (SameModulo g) g.ops (InRowStabiliser g r s)
-  covered n (member, _) =
+module _ (g : Listing) (apart : AllPairs (λ m n. ¬ SameModulo g m n) g.ops) where
+  covered : (S : Motion → Type 0) → ((m : Motion) → S m → IsMember g m) → AreCovered (SameModulo g) g.ops S
+  covered S members n in_it =
+      let member = members n in_it in
       let (k, below, at) = at_from_Contains g.ops member.of member.listed in
       (k, below, subst (SameModulo g n) (sym (at identity)) member.same)
 
-  pub chosen_lists : (ops : List Motion3) (i : ℕ) (members : List Motion3) → map motion_of ops ≡ g.ops → length ops ≤ i
-      → ChosenFrom (SameModulo g) (IsAtHome f) (InRowStabiliser g r s) (take i ops) members
-      → IsListOf (SameModulo g) g.ops (IsAtHome f) (InStabiliser g r s) (map motion_of members)
-  chosen_lists ops i members are all chosen =
-      (list_of_same_set (SameModulo g) g.ops (IsAtHome f) (InStabiliser g r s) (InRowStabiliser g r s) (map motion_of members)
-      (λ m. stabiliser_by_row g r s m group coprime high)).1
-      (chosen_is_list (SameModulo g) (IsAtHome f) (InRowStabiliser g r s) g.ops (map motion_of members) (record { back = same_sym g; on = same_trans g })
-      (λ p q before below. apart p q identity before below) covered
-      (subst (λ ms. AreChosen (SameModulo g) (IsAtHome f) (InRowStabiliser g r s) ms (map motion_of members))
-      (ap (map motion_of) (take_all i ops all) ∙ are) chosen))
+  pub chosen_lists : (IsHome S S' : Motion → Type 0) → ((m : Motion) → S m → IsMember g m) → ((m : Motion) → S m ↔ S' m)
+      → (ms out : List Motion) → AreSameMotions g g.ops ms → AreChosen (SameModulo g) IsHome S ms out
+      → IsListOf (SameModulo g) g.ops IsHome S' out
+  chosen_lists IsHome S S' members same_set ms out same chosen =
+      (list_of_same_set (SameModulo g) g.ops IsHome S S' out same_set).0
+      (chosen_is_list (SameModulo g) IsHome S g.ops out (record { back = same_sym g; on = same_trans g })
+      (λ p q before below. apart p q identity before below) (covered S members) (chosen_same g IsHome S g.ops ms out same chosen))
 
 -- ---- the operations of the code
 
--- each is a member, and small
-pub op_member : (g : Listing) (ops : List Motion3) (i : ℕ) (d : Motion3) → map motion_of ops ≡ g.ops → i < length ops → IsMember g (motion_of (get_or ops i d))
-op_member g ops i d are h = listed_member g (motion_of (get_or ops i d)) (subst (λ ms. Contains ms (motion_of (get_or ops i d))) are (op_listed ops i d h))
+pub op_has : (P : Motion → Type 0) (ops : List Motion3) (i : ℕ) (d : Motion3) → All P (map motion_of ops) → i < length ops → P (motion_of (get_or ops i d))
+op_has P ops i d all h = All-contains P (map motion_of ops) (motion_of (get_or ops i d)) all (op_listed ops i d h)
 
-pub op_small : (n : ℕ) (ops : List Motion3) (i : ℕ) (d : Motion3) → All (IsSmallWithin n) (map motion_of ops) → i < length ops → IsSmall (motion_of (get_or ops i d))
-op_small n ops i d small h = (All-contains (IsSmallWithin n) (map motion_of ops) (motion_of (get_or ops i d)) small (op_listed ops i d h)).small
+
+pub homes_more : (r : Vector) (f : Basis) (ms : List Motion3) (m : Motion3) (more : List Motion3) → more ≡ ms ++ m ∷ []
+    → All (λ (n : Motion3). IsHomeMotion r f (motion_of n)) ms → IsHomeMotion r f (motion_of m) → All (λ (n : Motion3). IsHomeMotion r f (motion_of n)) more
+homes_more r f ms m more is all one =
+    let P : Motion3 → Type 0 = λ n. IsHomeMotion r f (motion_of n) in
+    subst (All P) (sym is) (All-push P ms m all one)

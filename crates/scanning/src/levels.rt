@@ -1,30 +1,26 @@
-// How far the motions that map a plane to itself shift the planes.
+// Twice a height, in parts, and the periods between such numbers.
 ghost use Rattle.std.specs.Prelude.{◌≡◌, ◌≤◌, ◌^◌, ◌-ℤ◌, ◌*ℤ◌, ◌≤ℤ◌, ℤ, pos, IfSome, MatchOption, unsigned_abs};
 ghost use Rattle.fractions.specs.declared.part.TheConstants.{UNIT};
 ghost use Rattle.fractions.specs.Fraction.{IsFractionWithin};
 ghost use Rattle.fractions.specs.FractionOf.{fraction_of};
 ghost use Rattle.integers.specs.Size.{IsWithin};
-ghost use Rattle.symmetry.specs.Sizes.{IsSmall, IsVectorWithin};
+ghost use Rattle.symmetry.specs.Sizes.{IsSmall};
 ghost use Rattle.symmetry.specs.Vectors.{dot};
 ghost use Rattle.motions.specs.Views.{motion_of, row_of};
-ghost use Rattle.scanning.specs.Bounds.{largest_count, largest_level};
+ghost use Rattle.scanning.specs.Bounds.{largest_count, largest_level, largest_shift};
 ghost use Rattle.scanning.specs.Levels.{IsLevel};
 
 use fractions::{Ratio, UNIT};
-use motions::{Motion3, Sign, shift};
+use motions::{Motion3, shift};
 use plane_lattice::Frame;
 
-/// The (hkl).w, in parts, of the motions with this sign that map the plane of the height s to itself. None comes
-/// exactly where no whole number of parts is that.
-pub(crate) fn level(sign: Sign, s: Ratio) -> Option<i64>
+/// Twice the height, in parts. None comes exactly where that is no whole number.
+pub(crate) fn level(s: Ratio) -> Option<i64>
     requires { IsFractionWithin (10 ^ 9) (fraction_of s) }
-    ensures is { MatchOption result ((t : ℤ) → ¬ IsLevel sign (fraction_of s) t) (IsLevel sign (fraction_of s)) }
+    ensures is { MatchOption result ((t : ℤ) → ¬ IsLevel (fraction_of s) t) (IsLevel (fraction_of s)) }
     ensures small { IfSome result (IsWithin largest_level) }
 {
-    match sign {
-        Sign::Plus => Some(0),
-        Sign::Minus => whole_quotient(2 * UNIT * s.num() as i64, s.den() as i64),
-    }
+    whole_quotient(2 * UNIT * s.num() as i64, s.den() as i64)
 }
 
 /// How many periods are between the (hkl).w of the motion and the level, where that is a whole number. None comes
@@ -32,7 +28,7 @@ pub(crate) fn level(sign: Sign, s: Ratio) -> Option<i64>
 pub(crate) fn periods_to(level: i64, m: &Motion3, frame: &Frame) -> Option<i64>
     requires level { IsWithin largest_level level }
     requires motion { IsSmall (motion_of m.now) }
-    requires translation { IsVectorWithin (unsigned_abs UNIT) (motion_of m.now).shift }
+    requires shift { IsWithin (largest_shift (unsigned_abs UNIT)) (dot (row_of frame.now.plane) (motion_of m.now).shift) }
     ensures is { let apart = level -ℤ dot (row_of frame.now.plane) (motion_of m.now).shift in
         MatchOption result ((k : ℤ) → ¬ (frame.now.period.0 *ℤ k ≡ apart)) (λ k. frame.now.period.0 *ℤ k ≡ apart) }
     ensures small { IfSome result (IsWithin largest_count) }

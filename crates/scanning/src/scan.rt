@@ -1,7 +1,11 @@
 // The planes of an orientation, height by height.
-ghost use Rattle.std.specs.Prelude.{All, AllPairs};
+ghost use Rattle.std.specs.Prelude.{All, AllPairs, map, unsigned_abs};
 ghost use Rattle.symmetry.specs.Scans.{IsInPeriod, IsLower};
-ghost use Rattle.scanning.specs.HeightView.{IsInHalves, levels_of};
+ghost use Rattle.motions.specs.ListedSizes.{IsSmallWithin};
+ghost use Rattle.motions.specs.Views.{motion_of, row_of};
+ghost use Rattle.closure.specs.declared.limits.TheConstants.{MAX_ENTRY};
+ghost use Rattle.plane_lattice.specs.FrameView.{basis_of_frame};
+ghost use Rattle.scanning.specs.HeightView.{IsGeneralOperation, IsInHalves, IsSpecialOperation, levels_of, specials_of};
 
 use crate::height::Height;
 use motions::Motion3;
@@ -11,7 +15,8 @@ use plane_lattice::Frame;
 /// to below the period, rising, with the operations at each.
 ///
 /// The heights `s + k d`, with k whole and d the period, are in the class of the special height s; all others are general.
-/// Each operation is at home in the frame (International Tables, Volume E, part 5).
+/// Each operation is at home in the frame, with matrix entries at most [`MAX_ENTRY`](closure::MAX_ENTRY) in size
+/// (International Tables, Volume E, part 5).
 #[derive(Debug, Drop)]
 pub struct Scan {
     pub general: Vec<Motion3>,
@@ -20,4 +25,8 @@ pub struct Scan {
     pub ghost in_period: { All (IsInPeriod frame.period.0) (levels_of special.items) },
     pub ghost rising: { AllPairs IsLower (levels_of special.items) },
     pub ghost halves: { All IsInHalves (levels_of special.items) },
+    pub ghost general_small: { All (IsSmallWithin (unsigned_abs MAX_ENTRY)) (map motion_of general.items) },
+    pub ghost special_small: { All (λ h. All (IsSmallWithin (unsigned_abs MAX_ENTRY)) h.ops) (specials_of special.items) },
+    pub ghost general_rows: { ∥ All (IsGeneralOperation (row_of frame.plane) (basis_of_frame frame)) (map motion_of general.items) ∥₁ },
+    pub ghost special_rows: { ∥ All (λ h. All (IsSpecialOperation (row_of frame.plane) (basis_of_frame frame) h.height) h.ops) (specials_of special.items) ∥₁ },
 }

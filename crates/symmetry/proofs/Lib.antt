@@ -16,4 +16,7 @@ pub mod ListLaws
 pub mod ListFacts
 pub mod PlaneLattice
 pub mod HomeLaws
+pub mod Heights
+pub mod Conjugates
+pub mod ScanLists
 mod Samples

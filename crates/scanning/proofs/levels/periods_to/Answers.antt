@@ -1,37 +1,20 @@
 -- The difference is exact, so its quotient is that of the definition.
-use Rattle.std.proofs.Common.{◌≡◌, ◌*◌, ℤ, unsigned_abs, subst, lit<}
-use Rattle.fractions.specs.declared.part.TheConstants.{UNIT}
-use Rattle.integers.specs.Size.{IsWithin}
-use Rattle.integers.proofs.Coded.{again, again_is}
-use Rattle.motions.specs.Views.{parts, row_of}
-use Rattle.plane_lattice.specs.declared.frame.Frame.{Frame}
-use Rattle.scanning.specs.Bounds.{largest_count, largest_shift}
-use Rattle.scanning.proofs.Shifts.{shift_within, apart_fits, apart_is, apart_within, quotient_is, quotient_within}
+use Rattle.scanning.specs.Bounds.{largest_count}
+use Rattle.scanning.proofs.Shifts.{period_is, apart_fits, apart_is, apart_within, quotient_is, quotient_within}
 use Rattle.scanning.proofs.levels.periods_to.Goals as goal
 
-period_is : (q : Frame) → again q.period.0 ≡ q.period.0
-period_is q =
-    let n = 1000 * unsigned_abs UNIT in
-    let P : ℤ → Type 0 = IsWithin (largest_shift n) in
-    again_is q.period.0 (largest_shift n) (subst P q.tau_gives (shift_within n (row_of q.plane) (parts q.tau) q.plane.in_range q.tau_in_range)) (lit< tt)
-
 pub overflow_sub-level : goal.overflow_sub-level
-overflow_sub-level c =
-    let plane = c.args.frame.now.plane in
-    apart_fits (row_of plane) (parts c.args.m.now.t) c.args.level c.shift.result c.shift.ensures c.requires.level plane.in_range c.requires.translation
+overflow_sub-level c = apart_fits c.args.level c.shift.result _ c.shift.ensures c.requires.level c.requires.shift
 
 pub returns-clause-is : goal.returns-clause-is
 returns-clause-is c =
-    let plane = c.args.frame.now.plane in
     quotient_is c.whole_quotient.result _ _ _ _ (period_is c.args.frame.now)
-    (apart_is (row_of plane) (parts c.args.m.now.t) c.args.level c.shift.result c.shift.ensures c.requires.level plane.in_range c.requires.translation)
+    (apart_is c.args.level c.shift.result _ c.shift.ensures c.requires.level c.requires.shift)
     c.whole_quotient.ensures.is
 
 pub returns-clause-small : goal.returns-clause-small
 returns-clause-small c =
-    let plane = c.args.frame.now.plane in
-    let v = parts c.args.m.now.t in
     quotient_within c.whole_quotient.result largest_count _ _
-    (apart_is (row_of plane) v c.args.level c.shift.result c.shift.ensures c.requires.level plane.in_range c.requires.translation)
-    (apart_within (row_of plane) v c.args.level c.shift.result c.shift.ensures c.requires.level plane.in_range c.requires.translation)
+    (apart_is c.args.level c.shift.result _ c.shift.ensures c.requires.level c.requires.shift)
+    (apart_within c.args.level c.shift.result _ c.shift.ensures c.requires.level c.requires.shift)
     c.whole_quotient.ensures.small

@@ -1,35 +1,30 @@
--- Each operation is passed over or gives its member.
-use Rattle.std.proofs.Common.{ap, ◌∙◌}
+-- What is chosen of the motions at home is the list of the stabiliser.
+use Rattle.std.proofs.Common.{map, subst, sym}
+use Rattle.std.proofs.lemmas.Result.{IfOk-weaker}
 use Rattle.fractions.specs.FractionOf.{fraction_of}
-use Rattle.motions.specs.Views.{row_of}
+use Rattle.symmetry.specs.Frames.{IsAtHome}
+use Rattle.symmetry.specs.Groups.{InStabiliser}
+use Rattle.motions.specs.Views.{motion_of, row_of}
 use Rattle.closure.specs.Groups.{group_listing}
 use Rattle.plane_lattice.specs.FrameView.{basis_of_frame}
-use Rattle.scanning.proofs.ChosenLists.{chosen_lists, none_yet, op_member, op_small, passed_more, taken_more}
+use Rattle.scanning.specs.Members.{AreSameMotions, InRows}
+use Rattle.scanning.proofs.ChosenLists.{chosen_lists}
+use Rattle.scanning.proofs.RowSets.{rows_member, rows_of_stabiliser}
+use Rattle.scanning.proofs.SameMotions.{same_members}
 use Rattle.scanning.proofs.operations.operations_at.Goals as goal
-use Rattle.scanning.proofs.operations.operations_at.Goals.{in-Some+in_ok-push, in_default}
-
-pub loop-m-init : goal.loop-m-init
-loop-m-init c = none_yet _ _ _ _ c.new-members.ensures.items
-
-pub member_at-requires-clause-member : goal.member_at-requires-clause-member
-member_at-requires-clause-member c = op_member _ c.ops-m-items.result.now c.loop-m.m-index _ c.ops-m-items.ensures.ops c.loop-m-test.true
-
-pub member_at-requires-clause-small : goal.member_at-requires-clause-small
-member_at-requires-clause-small c = op_small _ c.ops-m-items.result.now c.loop-m.m-index _ c.ops-m-items.ensures.small c.loop-m-test.true
-
-pub loop-m-preserved : goal.loop-m-preserved
-loop-m-preserved c =
-    elim c.match-member_at.branch [
-      | in-Some+in_ok-push w ↦
-          taken_more _ _ _ c.ops-m-items.result.now c.loop-m.m-index _ c.loop-m.members.items _ w.in-Some.member (ap (λ v. v.items) w.members-is ∙ w.in_ok-push.ensures.items)
-          c.loop-m-test.true c.loop-m.invariant w.in-Some.ensures
-      | in_default w ↦
-          passed_more _ _ _ c.ops-m-items.result.now c.loop-m.m-index _ c.loop-m.members.items _ (ap (λ v. v.items) w.members-is) c.loop-m-test.true c.loop-m.invariant
-          w.in_default.ensures
-    ]
 
 pub returns : goal.returns
 returns c =
+    let g = group_listing c.args.group.now in
     let q = c.args.frame.now in
-    chosen_lists (group_listing c.args.group.now) (row_of q.plane) (basis_of_frame q) (fraction_of c.args.s) c.ops-m-items.ensures.group q.plane.coprime c.args.s.positive
-    c.ops-m-items.ensures.apart c.ops-m-items.result.now c.loop-m.m-index c.loop-m.members.items c.ops-m-items.ensures.ops c.loop-m-test.false c.loop-m.invariant
+    let r = row_of q.plane in
+    let turned = c.level.result in
+    let homes = map motion_of c.deref.result.now in
+    let same : AreSameMotions g g.ops homes =
+    subst (λ ms. AreSameMotions g g.ops (map motion_of ms)) (sym c.deref.ensures.value) c.in_ok-homes.ensures.same in
+    IfOk-weaker c.members.result _ _
+    (λ ops.
+    chosen_lists g c.args.group.now.apart (IsAtHome (basis_of_frame q)) (InRows g r turned) (InStabiliser g r (fraction_of c.args.s))
+    (rows_member g r turned) (rows_of_stabiliser g r (fraction_of c.args.s) c.homes.ensures.group q.plane.coprime c.args.s.positive turned c.level.ensures.is)
+    homes (map motion_of ops.items) same)
+    (c.members.ensures g c.requires.frame (same_members g homes same))

@@ -1,0 +1,85 @@
+-- Special heights made of levels: in lowest terms, within the period, rising and in half parts.
+use Rattle.std.proofs.Common.{ℕ, ◌<◌, ℤ, pos, negsuc, ◌*ℤ◌, List, [], ◌∷◌, length, get_or, sym, ◌∙◌, ap, arith}
+use Rattle.std.specs.Prelude.{All, AllPairs, int_rem}
+use Rattle.std.proofs.lemmas.Int.{ints}
+use Rattle.std.proofs.lemmas.List.Elements.{All-map}
+use Rattle.fractions.specs.Fraction.{Fraction}
+use Rattle.fractions.specs.FractionOf.{fraction_of}
+use Rattle.fractions.specs.LowestTerms.{IsLowestForm}
+use Rattle.fractions.specs.declared.part.TheConstants.{UNIT}
+use Rattle.integers.proofs.Solver.{Expr.{var, num, ◌⊗◌}, given, linear}
+use Rattle.symmetry.specs.Motions.{Motion}
+use Rattle.symmetry.specs.Planes.{Height as HeightOfPlane, IsHeight}
+use Rattle.symmetry.specs.Scans.{IsInPeriod, IsLower, SpecialHeight}
+use Rattle.closure.specs.ListLaws.{AllPairs-map}
+use Rattle.plane_lattice.specs.declared.frame.Frame.{Frame}
+use Rattle.scanning.specs.declared.height.Height.{Height}
+use Rattle.scanning.specs.HeightView.{IsInHalves, levels_of, special_of, specials_of}
+use Rattle.scanning.specs.Levels.{IsLevel}
+use Rattle.scanning.specs.SpecialHeights.{AreHeights, IsHeightAt}
+use Rattle.scanning.proofs.HeightNumbers.{height_below, height_from, height_lower}
+use Rattle.scanning.proofs.Remainders.{rem-multiple}
+use Rattle.scanning.proofs.Zips.{zip_at, zip_length}
+
+-- half of t parts has the level t
+pub level_of_form : (s : Fraction) (t : ℤ) → IsLowestForm s t (pos 2 *ℤ UNIT) → IsLevel s t
+level_of_form s t form =
+    linear (s.num ∷ s.den ∷ t ∷ UNIT ∷ []) (var 1 ⊗ var 2) (num (pos 2) ⊗ var 0 ⊗ var 3)
+    (given (num (negsuc 0)) (var 0 ⊗ (num (pos 2) ⊗ var 3)) (var 2 ⊗ var 1) ∷ []) tt (form.same, tt)
+
+-- what is so of each height is so of each in the view
+pub all_levels : (P : HeightOfPlane → Type 0) (hs : List Height) → All (λ (h : Height). P (fraction_of h.s)) hs → All P (levels_of hs)
+all_levels P hs all = All-map P (λ (h : SpecialHeight). h.height) (specials_of hs) (All-map (λ (h : SpecialHeight). P h.height) special_of hs all)
+
+pub pairs_levels : (R : HeightOfPlane → HeightOfPlane → Type 0) (hs : List Height)
+    → AllPairs (λ (h k : Height). R (fraction_of h.s) (fraction_of k.s)) hs → AllPairs R (levels_of hs)
+pairs_levels R hs all =
+    AllPairs-map (λ (h : SpecialHeight). h.height) R (specials_of hs)
+    (AllPairs-map special_of (λ (h k : SpecialHeight). R h.height k.height) hs all)
+
+-- half parts
+pub halves : (s : Fraction) (t : ℤ) → IsHeight s → IsLevel s t → IsInHalves s
+halves s t high level = ap (λ x. int_rem x s.den) (sym level) ∙ rem-multiple s.den t high
+
+module _ (frame : Frame) (ms : List Motion) (hs : List Height) (are : AreHeights frame ms hs) where
+  abbrev pub level_at : ℕ → ℤ
+  level_at i = get_or are.levels i (pos 0)
+
+  pub height_is : (i : ℕ) (e : Height) → i < length hs → IsHeightAt frame ms (level_at i) (get_or hs i e)
+  height_is i e h = zip_at (IsHeightAt frame ms) are.levels hs are.each i (pos 0) e h
+
+  pub has_level : (i : ℕ) (e : Height) → i < length hs → IsLevel (fraction_of (get_or hs i e).s) (level_at i)
+  has_level i e h = level_of_form (fraction_of (get_or hs i e).s) (level_at i) (height_is i e h).form
+
+  pub are_in_period : All (IsInPeriod frame.period.0) (levels_of hs)
+  are_in_period = all_levels (IsInPeriod frame.period.0) hs each
+    where
+      each : All (λ (h : Height). IsInPeriod frame.period.0 (fraction_of h.s)) hs
+      each i e h =
+          let s = fraction_of (get_or hs i e).s in
+          let is = height_is i e h in
+          let level = has_level i e h in record {
+            positive = is.form.positive;
+            lowest = is.form.lowest;
+            from = height_from UNIT s.num s.den (level_at i) (omega (arith, ints)) is.form.positive level is.within.from;
+            below = height_below UNIT s.num s.den (level_at i) (omega (arith, ints)) is.form.positive level frame.period.0 is.within.below;
+          }
+
+  pub are_rising : AllPairs IsLower (levels_of hs)
+  are_rising = pairs_levels IsLower hs each
+    where
+      each : AllPairs (λ (h k : Height). IsLower (fraction_of h.s) (fraction_of k.s)) hs
+      each i j e below h =
+          let before : i < length hs = omega arith in
+          let s = fraction_of (get_or hs i e).s in
+          let t = fraction_of (get_or hs j e).s in
+          let long = zip_length (IsHeightAt frame ms) are.levels hs are.each in
+          height_lower UNIT s.num s.den (level_at i) (omega (arith, ints)) (height_is i e before).form.positive (has_level i e before)
+          t.num t.den (level_at j) (height_is j e h).form.positive (has_level j e h)
+          (are.are.rising i j (pos 0) below (omega arith))
+
+  pub are_halves : All IsInHalves (levels_of hs)
+  are_halves = all_levels IsInHalves hs each
+    where
+      each : All (λ (h : Height). IsInHalves (fraction_of h.s)) hs
+      each i e h = halves (fraction_of (get_or hs i e).s) (level_at i) (height_is i e h).form.positive (has_level i e h)
