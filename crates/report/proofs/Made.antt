@@ -19,7 +19,7 @@ use Rattle.scanning.specs.HeightView.{levels_of}
 use Rattle.scanning.specs.ScanView.{scan_of, IsScanOf}
 use Rattle.report.specs.declared.report.Report.{Report}
 use Rattle.report.specs.FractionsView.{fractions_of}
-use Rattle.report.specs.Reports.{block_heights, block_orbits, scan_of_report, special_of_block, IsMean, IsReport}
+use Rattle.report.specs.Reports.{block_heights, special_of_block, IsMean}
 use Rattle.report.specs.ReportView.{report_of, IsReportOf}
 use Rattle.report.specs.Texts.{HeightBlock}
 use Rattle.report.specs.Shown.{Shows}
