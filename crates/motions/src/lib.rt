@@ -38,4 +38,4 @@ pub use miller::Miller;
 pub use motion::{Motion3, Sign};
 pub use plane_fault::PlaneFault;
 pub use rod::RodMotion;
-pub use rows::{shift, side};
+pub use rows::{row_image, shift, side};

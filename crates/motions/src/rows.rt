@@ -12,6 +12,14 @@ use crate::miller::Miller;
 use crate::motion::{Motion3, Sign};
 use crate::products::{row_by_column, row_by_matrix};
 
+/// The row `(hkl) W`, which the motion makes of the orientation (hkl).
+pub fn row_image(m: &Motion3, plane: &Miller) -> [i64; 3]
+    requires { IsSmall (motion_of m.now) }
+    ensures { vector_of result ≡ row_times (row_of plane.now) (motion_of m.now).matrix }
+{
+    row_by_matrix(&plane.row(), &m.w)
+}
+
 /// The sign e with `(hkl) W = e (hkl)`. None comes exactly where there is none, so where the motion does not keep
 /// the orientation.
 pub fn side(m: &Motion3, plane: &Miller) -> Option<Sign>
@@ -22,7 +30,7 @@ pub fn side(m: &Motion3, plane: &Miller) -> Option<Sign>
     ensures value { IfSome result (λ e. sign_value e ≡ sign_at (row_of plane.now) (motion_of m.now)) }
 {
     let row = plane.row();
-    let image = row_by_matrix(&row, &m.w);
+    let image = row_image(m, plane);
     if is_same_row(&image, &row) {
         Some(Sign::Plus)
     } else if is_same_row(&image, &opposite_row(&row)) {

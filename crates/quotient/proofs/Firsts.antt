@@ -25,7 +25,7 @@ earlier : (q p n : ℕ) → q < p → p < n → q < n
 earlier q p n h k = omega arith
 
 -- the first items of a list without its last, and whether the last is one more of them
-abbrev WithoutLast : {A : Type 0} → (A → A → Type 0) → List A → A → List A → Type 0
+abbrev pub WithoutLast : {A : Type 0} → (A → A → Type 0) → List A → A → List A → Type 0
 WithoutLast Same list x firsts = (before : List _) × AreFirst Same list before
     × ((¬ Any (Same x) list × (firsts ≡ before ++ x ∷ [])) ⊎ (Any (Same x) list × (firsts ≡ before)))
 
@@ -140,7 +140,7 @@ module _ {A : Type 0} {Same : A → A → Type 0} where
   no_item _ _ (kept list firsts x f new) e = absurd (omega (arith, ap length e, last list x))
   no_item _ _ (left_out list firsts x f old) e = absurd (omega (arith, ap length e, last list x))
 
-  without_last : (list firsts : List A) → AreFirst Same list firsts → (front : List A) (x : A) → list ≡ front ++ x ∷ [] → WithoutLast Same front x firsts
+  pub without_last : (list firsts : List A) → AreFirst Same list firsts → (front : List A) (x : A) → list ≡ front ++ x ∷ [] → WithoutLast Same front x firsts
   without_last _ _ none front x e = absurd (omega (arith, ap length e, last front x))
   without_last _ _ (kept list firsts y f new) front x e =
       let (p, q) = same_from_push list front y x e in (

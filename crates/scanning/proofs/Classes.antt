@@ -14,13 +14,13 @@ use Rattle.symmetry.specs.Planes.{Height, IsCoprime, IsHeight}
 use Rattle.symmetry.specs.Groups.{Listing, IsGroup, IsMember, SameModulo}
 use Rattle.symmetry.specs.Frames.{Basis, IsFrame, IsSpecial}
 use Rattle.symmetry.specs.Scans.{IsInOneClass, general, special, IsInPeriod, IsLower, SpecialHeight, StandsAt, heights_of, special_at}
-use Rattle.symmetry.proofs.Heights.{stands_once}
+use Rattle.symmetry.proofs.Heights.{level_above, stands_above, stands_once}
 use Rattle.symmetry.proofs.LatticeLaws.{same_member, same_refl, same_sym, same_trans}
 use Rattle.symmetry.proofs.PlaneRows.{special_by_row}
 use Rattle.scanning.specs.Levels.{AreLevels, IsInTwoPeriods, IsLevel, IsTurned}
 use Rattle.scanning.specs.Members.{AreSameMotions}
 use Rattle.scanning.proofs.Choices.{periods_between}
-use Rattle.scanning.proofs.HeightNumbers.{divides_or_not, level_above, one_rest, stands_above}
+use Rattle.scanning.proofs.HeightNumbers.{divides_or_not, one_rest}
 use Rattle.scanning.proofs.RaisedMotions.{raised, raised_level, raised_same}
 use Rattle.scanning.proofs.SameMotions.{same_listed, same_members}
 use Rattle.scanning.proofs.Zips.{zip_at, zip_length}
@@ -83,7 +83,7 @@ module _ (g : Listing) (r : Vector) (f : Basis) (frame : IsFrame g r f) (group :
       level_over i k stands =
           let h = (special_at sp i).height in
           let at = level_at i stands.within in
-          level_above UNIT h.num h.den (get_or ts i (pos 0)) (omega (arith, ints)) at.0 at.1 (dot r f.tau) k s.num s.den high stands.is
+          level_above UNIT h.num h.den (get_or ts i (pos 0)) at.0 at.1 (dot r f.tau) k s.num s.den stands.is
 
       one_level : (t u : ℤ) → IsLevel s t → IsLevel s u → t ≡ u
       one_level t u is is' = mul_left_cancel_pos s.den t u high (is ∙ sym is')
@@ -122,7 +122,7 @@ module _ (g : Listing) (r : Vector) (f : Basis) (frame : IsFrame g r f) (group :
             let stands : StandsAt (dot r f.tau) sp s i q =
             record {
               within = within;
-              is = stands_above UNIT h.num h.den t0 (omega (arith, ints)) here.0 level (dot r f.tau) q s.num s.den high
+              is = stands_above UNIT h.num h.den t0 here.0 level (dot r f.tau) q s.num s.den
                   (ap (λ z. s.den *ℤ z) (linear (dot r f.tau ∷ q ∷ t0 ∷ t ∷ []) (var 2 ⊕ num (pos 2) ⊗ var 1 ⊗ var 0) (var 3)
                   (given (num (pos 1)) (var 2 ⊕ num (pos 2) ⊗ var 0 ⊗ var 1) (var 3) ∷ []) tt (whole, tt)) ∙ is);
             } in

@@ -2,12 +2,12 @@
 use Rattle.std.proofs.Common.{◌≡◌, ℤ, pos, negsuc, ◌+ℤ◌, ◌-ℤ◌, ◌*ℤ◌, ◌≤ℤ◌, ◌<ℤ◌, [], ◌∷◌, ◌⊎◌, inl, inr, ◌∙◌, ap, arith}
 use Rattle.std.proofs.lemmas.Int.{ints, by_lt_z}
 use Rattle.integers.proofs.Division.{floor}
-use Rattle.integers.proofs.Order.{mul-le-mul_right, mul_left_cancel_pos, one-le-mul, small_multiple}
+use Rattle.integers.proofs.Order.{mul-le-mul_right, one-le-mul, small_multiple}
 use Rattle.integers.proofs.Ring.{mul_zero}
 use Rattle.integers.proofs.Solver.{Expr.{var, num, ◌⊕◌, ◌⊝◌, ◌⊗◌}, given, linear, ring}
 
 -- a product with a positive number is not negative only where the other is not
-from_product : (p u : ℤ) → pos 1 ≤ℤ u → pos 0 ≤ℤ (p *ℤ u) → pos 0 ≤ℤ p
+pub from_product : (p u : ℤ) → pos 1 ≤ℤ u → pos 0 ≤ℤ (p *ℤ u) → pos 0 ≤ℤ p
 from_product p u h from =
     by_lt_z p (pos 0) (λ below. let le = mul-le-mul_right p (negsuc 0) u (omega (arith, ints)) (omega (arith, ints)) in absurd (omega (arith, ints))) (λ le. le)
 
@@ -42,24 +42,6 @@ module _ (u p q t : ℤ) (hu : pos 1 ≤ℤ u) (hq : pos 1 ≤ℤ q) (level : q 
       let other = linear (u ∷ p' ∷ q' ∷ t' ∷ q ∷ []) (var 4 ⊗ (var 2 ⊗ var 3)) (var 1 ⊗ var 4 ⊗ (num (pos 2) ⊗ var 0))
           (given (var 4) (var 2 ⊗ var 3) (num (pos 2) ⊗ var 1 ⊗ var 0) ∷ []) tt (level', tt) in
       absurd (omega (arith, ints)))
-
-  -- a height that is k periods above has the level that is 2 k periods more
-  module _ (d k P Q : ℤ) (hQ : pos 1 ≤ℤ Q) where
-    pub level_above : P *ℤ (q *ℤ u) ≡ (p *ℤ u +ℤ k *ℤ d *ℤ q) *ℤ Q → Q *ℤ (t +ℤ pos 2 *ℤ k *ℤ d) ≡ pos 2 *ℤ P *ℤ u
-    level_above is =
-        mul_left_cancel_pos q _ _ hq
-        (linear (u ∷ p ∷ q ∷ t ∷ d ∷ k ∷ P ∷ Q ∷ [])
-        (var 2 ⊗ (var 7 ⊗ (var 3 ⊕ num (pos 2) ⊗ var 5 ⊗ var 4))) (var 2 ⊗ (num (pos 2) ⊗ var 6 ⊗ var 0))
-        (given (var 7) (var 2 ⊗ var 3) (num (pos 2) ⊗ var 1 ⊗ var 0)
-        ∷ given (num (negsuc 1)) (var 6 ⊗ (var 2 ⊗ var 0)) ((var 1 ⊗ var 0 ⊕ var 5 ⊗ var 4 ⊗ var 2) ⊗ var 7) ∷ []) tt (level, (is, tt)))
-
-    pub stands_above : Q *ℤ (t +ℤ pos 2 *ℤ k *ℤ d) ≡ pos 2 *ℤ P *ℤ u → P *ℤ (q *ℤ u) ≡ (p *ℤ u +ℤ k *ℤ d *ℤ q) *ℤ Q
-    stands_above is =
-        mul_left_cancel_pos (pos 2) _ _ (omega (arith, ints))
-        (linear (u ∷ p ∷ q ∷ t ∷ d ∷ k ∷ P ∷ Q ∷ [])
-        (num (pos 2) ⊗ (var 6 ⊗ (var 2 ⊗ var 0))) (num (pos 2) ⊗ ((var 1 ⊗ var 0 ⊕ var 5 ⊗ var 4 ⊗ var 2) ⊗ var 7))
-        (given (var 7) (var 2 ⊗ var 3) (num (pos 2) ⊗ var 1 ⊗ var 0)
-        ∷ given (num (negsuc 0) ⊗ var 2) (var 7 ⊗ (var 3 ⊕ num (pos 2) ⊗ var 5 ⊗ var 4)) (num (pos 2) ⊗ var 6 ⊗ var 0) ∷ []) tt (level, (is, tt)))
 
 -- whether q divides x
 pub divides_or_not : (x q : ℤ) → pos 1 ≤ℤ q → ((t : ℤ) → ¬ (q *ℤ t ≡ x)) ⊎ ((t : ℤ) × (q *ℤ t ≡ x))

@@ -1,12 +1,15 @@
 pub mod Choices
 pub mod ChosenLists
 pub mod Classes
+pub mod GivenLists
 pub mod HeightNumbers
 pub mod HomeMotions
 pub mod HomeSizes
 pub mod MadeHeights
 pub mod MadeScans
 pub mod MemberChoices
+pub mod MovedLists
+pub mod Places
 pub mod RaisedMotions
 pub mod ReducedMotions
 pub mod Remainders
@@ -14,4 +17,5 @@ pub mod RowSets
 pub mod SameMotions
 pub mod Shifts
 pub mod TurnedLevels
+pub mod Wide
 pub mod Zips

@@ -1,11 +1,11 @@
 -- What a multiple leaves.
-use Rattle.std.proofs.Common.{◌≡◌, ◌<◌, ℤ, pos, negsuc, ◌+ℤ◌, ◌-ℤ◌, ◌*ℤ◌, ◌≤ℤ◌, ◌<ℤ◌, neg_ℤ, unsigned_abs, [], ◌∷◌, sym, ap, subst, ◌∙◌, arith}
-use Rattle.std.specs.Int.{int_rem_euclid}
+use Rattle.std.proofs.Common.{◌≡◌, zero, suc, ◌<◌, ℤ, pos, negsuc, ◌+ℤ◌, ◌-ℤ◌, ◌*ℤ◌, ◌≤ℤ◌, ◌<ℤ◌, neg_ℤ, unsigned_abs, [], ◌∷◌, sym, ap, subst, ◌∙◌, arith}
+use Rattle.std.specs.Int.{int_div_euclid, int_rem_euclid}
 use Rattle.std.specs.Prelude.{int_div, int_rem}
 use Rattle.std.proofs.lemmas.Int.{ints, quot-rem, rem_below}
 use Rattle.integers.proofs.Order.{small_multiple}
 use Rattle.integers.proofs.Ring.{mul_zero}
-use Rattle.integers.proofs.Solver.{Expr.{var, num, ◌⊕◌, ◌⊗◌, neg}, given, linear}
+use Rattle.integers.proofs.Solver.{Expr.{var, num, ◌⊕◌, ◌⊗◌, neg}, given, linear, ring}
 use Rattle.integers.proofs.Spread.{spread}
 use Rattle.closure.specs.Remainders.{divided}
 
@@ -38,3 +38,17 @@ rem_between z' d' z d t of_z of_d is h =
     let e : t ≡ int_rem_euclid z d = is ∙ (λ i. int_rem_euclid (of_z i) (of_d i)) in
     let P : ℤ → Type 0 = λ x. (pos 0 ≤ℤ x) × (x <ℤ d) × ((k : ℤ) × (x ≡ z +ℤ k *ℤ d)) in
     subst P (sym e) (rem_euclid_is z d h)
+
+-- with the quotient
+euclid : (z e : ℤ) → pos 1 ≤ℤ e → z ≡ int_rem_euclid z e +ℤ int_div_euclid z e *ℤ e
+euclid z (negsuc n) h = absurd (omega (arith, ints))
+euclid z (pos zero) h = absurd (omega (arith, ints))
+euclid (pos a) (pos (suc b)) h = omega (arith, ints)
+euclid (negsuc a) (pos (suc b)) h = omega (arith, ints)
+
+pub periods_is : (z' e' z d t k : ℤ) → z' ≡ z → e' ≡ pos 2 *ℤ d → pos 1 ≤ℤ d → t ≡ int_rem_euclid z' e' → k ≡ int_div_euclid z' e'
+    → z ≡ t +ℤ pos 2 *ℤ k *ℤ d
+periods_is z' e' z d t k of_z of_e h t_is k_is =
+    euclid z (pos 2 *ℤ d) (omega (arith, ints))
+    ∙ (λ i. sym (t_is ∙ (λ j. int_rem_euclid (of_z j) (of_e j))) i +ℤ sym (k_is ∙ (λ j. int_div_euclid (of_z j) (of_e j))) i *ℤ (pos 2 *ℤ d))
+    ∙ ring (t ∷ k ∷ d ∷ []) (var 0 ⊕ var 1 ⊗ (num (pos 2) ⊗ var 2)) (var 0 ⊕ num (pos 2) ⊗ var 1 ⊗ var 2) tt

@@ -40,3 +40,10 @@ zip_map R Q f to [] [] all = all
 zip_map R Q f to [] (y ∷ ys) all = absurd all
 zip_map R Q f to (x ∷ xs) [] all = absurd all
 zip_map R Q f to (x ∷ xs) (y ∷ ys) all = (to x y all.0, zip_map R Q f to xs ys all.1)
+
+pub zip_map_both : {A B C D : Type 0} (R : C → D → Type 0) (f : A → C) (h : B → D) (xs : List A) (ys : List B) → AllZip (λ x y. R (f x) (h y)) xs ys
+    → AllZip R (map f xs) (map h ys)
+zip_map_both R f h [] [] all = all
+zip_map_both R f h [] (y ∷ ys) all = absurd all
+zip_map_both R f h (x ∷ xs) [] all = absurd all
+zip_map_both R f h (x ∷ xs) (y ∷ ys) all = (all.0, zip_map_both R f h xs ys all.1)

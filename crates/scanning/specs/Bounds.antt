@@ -14,3 +14,7 @@ largest_shift bound = unsigned_abs INDEX * bound + unsigned_abs INDEX * bound + 
 -- how many periods are between a level and the shift of a motion with a translation within a cell
 abbrev pub largest_count : ℕ
 largest_count = largest_level + largest_shift (unsigned_abs UNIT)
+
+-- how many periods a height with a numerator of at most 10^9 stands above a special one
+abbrev pub largest_periods : ℕ
+largest_periods = unsigned_abs UNIT * 10 ^ 9

@@ -1,9 +1,13 @@
 // The planes of an orientation, height by height.
 //
 // Promises to the crates above: `Scan::make` puts every height into one class, general or that of one special height, with
-// the list of the operations that map its plane to itself; `operations_at` gives this list for one height.
+// the list of the operations that map its plane to itself; `class_at` tells the class of a height, and `ops_at` gives the
+// list there, as `operations_at` does without a scan.
 #![tactic(auto)]
 
+mod at;
+mod at_fault;
+mod class;
 mod height;
 mod heights;
 mod homes;
@@ -11,13 +15,16 @@ mod levels;
 mod make;
 mod members;
 mod operations;
+mod place;
 mod raised;
 mod scan;
 #[cfg(test)]
 mod tests;
 mod turned;
 
+pub use at_fault::AtFault;
 pub use height::Height;
 pub use homes::NoMemory;
 pub use operations::operations_at;
+pub use place::Place;
 pub use scan::Scan;

@@ -1,15 +1,16 @@
 -- Heights that stand whole periods above others.
 use native.Mathlib.Decide.{dec_lt}
-use Rattle.std.proofs.Common.{◌≡◌, ℕ, zero, suc, ◌<◌, ℤ, pos, ◌+ℤ◌, ◌-ℤ◌, ◌*ℤ◌, ◌≤ℤ◌, ◌<ℤ◌, List, [], ◌∷◌, length, get_or, refl, sym, ◌∙◌, ap, subst, arith}
+use Rattle.std.proofs.Common.{◌≡◌, ℕ, zero, suc, ◌<◌, ℤ, pos, negsuc, ◌+ℤ◌, ◌-ℤ◌, ◌*ℤ◌, ◌≤ℤ◌, ◌<ℤ◌, List, [], ◌∷◌, length, get_or, refl, sym, ◌∙◌, ap, subst, arith}
 use Rattle.std.specs.Prelude.{All, AllPairs}
 use Rattle.std.proofs.lemmas.Int.{ints}
 use Rattle.std.proofs.lemmas.List.{length-map}
+use Rattle.fractions.specs.Fraction.{SameFraction}
 use Rattle.fractions.specs.declared.part.TheConstants.{UNIT}
 use Rattle.integers.proofs.Order.{mul-le-mul_right, mul_left_cancel_pos, small_multiple, zero-le-mul}
 use Rattle.integers.proofs.Ring.{mul_zero}
 use Rattle.integers.proofs.Solver.{Expr.{var, num, ◌⊕◌, ◌⊝◌, ◌⊗◌, neg}, given, linear, ring}
 use Rattle.symmetry.specs.Planes.{Height, IsHeight}
-use Rattle.symmetry.specs.Scans.{IsInPeriod, IsLower, SpecialHeight, StandsAt, heights_of, special_at}
+use Rattle.symmetry.specs.Scans.{IsInPeriod, IsLower, SpecialHeight, StandsAt, heights_of, raised_height, special_at}
 
 -- ---- numbers
 
@@ -57,6 +58,31 @@ once u d p q p' q' k p'' q'' l hu h h' h'' from' below' from'' below'' e e' =
   where
     flipped : (a b : ℤ) → a *ℤ b ≡ b *ℤ a
     flipped a b = omega (arith, ints)
+
+-- a height that is k periods above p/q, the half of t parts, is the half of t and 2 k periods, and the other way round
+module _ (u p q t : ℤ) (h : pos 1 ≤ℤ q) (level : q *ℤ t ≡ pos 2 *ℤ p *ℤ u) (d k P Q : ℤ) where
+  pub level_above : P *ℤ (q *ℤ u) ≡ (p *ℤ u +ℤ k *ℤ d *ℤ q) *ℤ Q → Q *ℤ (t +ℤ pos 2 *ℤ k *ℤ d) ≡ pos 2 *ℤ P *ℤ u
+  level_above is =
+      mul_left_cancel_pos q _ _ h
+      (linear (u ∷ p ∷ q ∷ t ∷ d ∷ k ∷ P ∷ Q ∷ [])
+      (var 2 ⊗ (var 7 ⊗ (var 3 ⊕ num (pos 2) ⊗ var 5 ⊗ var 4))) (var 2 ⊗ (num (pos 2) ⊗ var 6 ⊗ var 0))
+      (given (var 7) (var 2 ⊗ var 3) (num (pos 2) ⊗ var 1 ⊗ var 0)
+      ∷ given (num (negsuc 1)) (var 6 ⊗ (var 2 ⊗ var 0)) ((var 1 ⊗ var 0 ⊕ var 5 ⊗ var 4 ⊗ var 2) ⊗ var 7) ∷ []) tt (level, (is, tt)))
+
+  pub stands_above : Q *ℤ (t +ℤ pos 2 *ℤ k *ℤ d) ≡ pos 2 *ℤ P *ℤ u → P *ℤ (q *ℤ u) ≡ (p *ℤ u +ℤ k *ℤ d *ℤ q) *ℤ Q
+  stands_above is =
+      mul_left_cancel_pos (pos 2) _ _ (omega (arith, ints))
+      (linear (u ∷ p ∷ q ∷ t ∷ d ∷ k ∷ P ∷ Q ∷ [])
+      (num (pos 2) ⊗ (var 6 ⊗ (var 2 ⊗ var 0))) (num (pos 2) ⊗ ((var 1 ⊗ var 0 ⊕ var 5 ⊗ var 4 ⊗ var 2) ⊗ var 7))
+      (given (var 7) (var 2 ⊗ var 3) (num (pos 2) ⊗ var 1 ⊗ var 0)
+      ∷ given (num (negsuc 0) ⊗ var 2) (var 7 ⊗ (var 3 ⊕ num (pos 2) ⊗ var 5 ⊗ var 4)) (num (pos 2) ⊗ var 6 ⊗ var 0) ∷ []) tt (level, (is, tt)))
+
+-- and below a height that is k periods above it
+pub raised_back : (d k : ℤ) (s s' : Height) → SameFraction s' (raised_height d k s) → SameFraction s (raised_height d (negsuc 0 *ℤ k) s')
+raised_back d k s s' is =
+    linear (UNIT ∷ d ∷ k ∷ s.num ∷ s.den ∷ s'.num ∷ s'.den ∷ [])
+    (var 3 ⊗ (var 6 ⊗ var 0)) ((var 5 ⊗ var 0 ⊕ num (negsuc 0) ⊗ var 2 ⊗ var 1 ⊗ var 6) ⊗ var 4)
+    (given (num (negsuc 0)) (var 5 ⊗ (var 4 ⊗ var 0)) ((var 3 ⊗ var 0 ⊕ var 2 ⊗ var 1 ⊗ var 4) ⊗ var 6) ∷ []) tt (is, tt)
 
 -- ---- the listed heights
 

@@ -4,6 +4,9 @@ pub mod MotionLaws
 pub mod Coprime
 pub mod PlaneImages
 pub mod PlaneRows
+pub mod PlaneOrbits
+pub mod HeightsInPeriod
+pub mod PlaneCounts
 pub mod LatticeLaws
 pub mod GroupLaws
 pub mod FrameLaws
@@ -14,4 +17,6 @@ pub mod ListFacts
 pub mod PlaneLattice
 pub mod HomeLaws
 pub mod Heights
+pub mod Conjugates
+pub mod ScanLists
 mod Samples

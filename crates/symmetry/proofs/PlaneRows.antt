@@ -38,7 +38,7 @@ module _ (r : Vector) (s : Height) (g : Motion) (high : IsHeight s) where
         λ k. (k.0 ∙ sym (multiple-one r), same.1 (one.1 (ap (λ x. s.den *ℤ x) k.1 ∙ mul_zero s.den))),
       )
 
-  turned_is_moved : MovesRow r s s (negsuc 0) g ↔ TurnsRow r s g
+  pub turned_is_moved : MovesRow r s s (negsuc 0) g ↔ TurnsRow r s g
   turned_is_moved =
       let same = same_height (negsuc 0) s.num s.den (dot r g.shift) UNIT high in
       let two = turned (s.num *ℤ UNIT) (s.den *ℤ dot r g.shift) in (

@@ -7,3 +7,4 @@ pub mod Frames
 pub mod Lists
 pub mod Scans
 pub mod Orbits
+pub mod HeightMotions

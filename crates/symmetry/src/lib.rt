@@ -8,11 +8,15 @@
 mod frames;
 mod groups;
 mod lists;
+mod orbits;
 mod planes;
+mod scans;
 
 pub use frames::{
     difference_in_plane, frame_gives, mean_is_kept, period_agrees, special_by_listed,
 };
 pub use groups::{group_by_listed, lattice_in_group, lattice_is_group, sameness_is_equivalence};
 pub use lists::{lists_agree, lists_by_rows, lists_in_plane, one_for_each_listed, one_is_at_home};
+pub use orbits::{orbit_by_listed, orbits_are_classes, orbits_by_height_motions};
 pub use planes::{image_by_row, plane_by_row, special_by_row, stabiliser_by_rows};
+pub use scans::{scan_gives, stands_once};

@@ -1,0 +1,11 @@
+pub mod JoinedHeights
+pub mod HalfSizes
+pub mod FirstRows
+pub mod HalfMotions
+pub mod MotionLists
+pub mod MotionsSoFar
+pub mod Multiples
+pub mod Numbering
+pub mod RowLists
+pub mod ShiftRests
+pub mod SpecialHeights

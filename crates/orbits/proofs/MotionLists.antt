@@ -1,0 +1,24 @@
+-- Lists that the code reads: motions of planes, and heights in half parts.
+use Rattle.std.proofs.Common.{◌≡◌, ℕ, ◌+◌, ◌<◌, ◌≤◌, ℤ, pos, List, length, get_or, map, Any, sym, ◌∙◌}
+use Rattle.std.proofs.lemmas.List.{get_or-map}
+use Rattle.quotient.proofs.Items.{all_items, Contains-item}
+use Rattle.symmetry.specs.HeightMotions.{HeightMotion as MotionOfHeights}
+use Rattle.orbits.specs.HalfView.{count_at, count_of}
+use Rattle.orbits.specs.HeightMotionView.{height_motion_of}
+use Rattle.orbits.specs.declared.half_parts.HalfParts.{HalfParts}
+use Rattle.orbits.specs.declared.height_motion.HeightMotion.{HeightMotion}
+
+-- what stands where the list has nothing
+abbrev pub no_motion : MotionOfHeights
+no_motion = record { sign = pos 1; shift = pos 0 }
+
+module _ (P : MotionOfHeights → Type 0) (list : List HeightMotion) where
+  pub one_has : (i : ℕ) (x : HeightMotion) → i < length list → x ≡ get_or list i x → P (height_motion_of x) → Any P (map height_motion_of list)
+  one_has i x within is p = let (k, here, at) = Contains-item height_motion_of list i x within is in (k, height_motion_of x, here, at, p)
+
+  pub none_has : (i : ℕ) → length list ≤ i → ((k : ℕ) → k < i → ¬ P (get_or (map height_motion_of list) k no_motion)) → ¬ Any P (map height_motion_of list)
+  none_has i whole each (k, x, within, is, p) = all_items height_motion_of list (λ h. ¬ P h) no_motion i whole each x (k, within, is) p
+
+-- the height at a place
+pub count_is : (hs : List HalfParts) (i : ℕ) (d : HalfParts) → i < length hs → count_at hs i ≡ (get_or hs i d).count
+count_is hs i d h = get_or-map count_of hs i d (pos 0) h

@@ -1,0 +1,28 @@
+use Rattle.motions.specs.Signs.{sign_value}
+use Rattle.orbits.proofs.HalfMotions.{period_within, sum_fits, takes_is, twice_fits, twice_positive}
+use Rattle.orbits.proofs.numbers.takes.Goals as goal
+
+pub overflow_sub-turned : goal.overflow_sub-turned
+overflow_sub-turned c =
+    let q = c.args.frame.now in
+    sum_fits c.signed-turned.result c.args.motion.now.shift c.args.image.now.count q.period.0 c.signed-turned.ensures.small c.args.motion.now.in_range
+    c.args.image.now.in_range (period_within q)
+
+pub overflow_mul-frame : goal.overflow_mul-frame
+overflow_mul-frame c =
+    let q = c.args.frame.now in
+    twice_fits c.signed-turned.result c.args.motion.now.shift c.args.image.now.count q.period.0 c.signed-turned.ensures.small c.args.motion.now.in_range
+    c.args.image.now.in_range (period_within q)
+
+pub is_multiple-requires : goal.is_multiple-requires
+is_multiple-requires c =
+    let q = c.args.frame.now in
+    twice_positive c.signed-turned.result c.args.motion.now.shift c.args.image.now.count q.period.0 c.signed-turned.ensures.small c.args.motion.now.in_range
+    c.args.image.now.in_range (period_within q) q.above
+
+pub returns : goal.returns
+returns c =
+    let q = c.args.frame.now in
+    takes_is c.signed-turned.result c.args.motion.now.shift c.args.image.now.count q.period.0 c.signed-turned.ensures.small c.args.motion.now.in_range
+    c.args.image.now.in_range (period_within q) c.is_multiple.result (sign_value c.args.motion.now.sign) c.args.height.now.count c.signed-turned.ensures.is
+    c.is_multiple.ensures

@@ -1,0 +1,27 @@
+-- Quotient and remainder.
+use Rattle.std.proofs.Common.{◌≡◌, ◌*◌, ◌^◌, ℤ, pos, ◌*ℤ◌, ◌∙◌, ap, lit<, lit≤, rules, FitsSigned}
+use Rattle.std.specs.Int.{w128}
+use Rattle.std.proofs.lemmas.Int.{to_z-of_z}
+use Rattle.integers.specs.Size.{IsWithin}
+use Rattle.integers.proofs.Coded.{again_is}
+use Rattle.integers.proofs.Ring.{IsWithin-mul}
+use Rattle.scanning.proofs.Remainders.{periods_is}
+use Rattle.scanning.proofs.Wide.{wide, wide_is}
+use Rattle.scanning.proofs.class.periods_in.Goals as goal
+
+two_periods : (d from : ℤ) → IsWithin (2 ^ 40) d → from ≡ d → wide (pos 2 *ℤ wide from) ≡ pos 2 *ℤ d
+two_periods d from small is =
+    ap (λ x. wide (pos 2 *ℤ wide x)) is ∙ ap (λ x. wide (pos 2 *ℤ x)) (wide_is d (2 ^ 40) small (lit< tt))
+    ∙ wide_is (pos 2 *ℤ d) (2 * 2 ^ 40) (IsWithin-mul {m = 2} {a = pos 2} two small) (lit< tt)
+  where
+    two : IsWithin 2 (pos 2)
+    two = record { most = lit≤ tt }
+
+pub returns-clause-is : goal.returns-clause-is
+returns-clause-is c =
+    let d = c.args.period.0 in
+    let rest : FitsSigned w128 c.rem_euclid.result = search rules in
+    let times : FitsSigned w128 c.div_euclid.result = search rules in
+    periods_is _ _ c.args.level d (wide c.rem_euclid.result) (wide c.div_euclid.result) (to_z-of_z w128 c.args.level c.ranges.level)
+    (two_periods d c.from-two_periods.result c.requires.small (c.from-two_periods.ensures ∙ again_is d (2 ^ 40) c.requires.small (lit< tt))) c.requires.from
+    (to_z-of_z w128 c.rem_euclid.result rest ∙ c.rem_euclid.ensures.value) (to_z-of_z w128 c.div_euclid.result times ∙ c.div_euclid.ensures)
