@@ -2,7 +2,7 @@
 use Rattle.std.proofs.Common.{◌≡◌, ℕ, List, [], ◌∷◌, map, refl, sym, ap, subst, ◌∙◌}
 use Rattle.symmetry.specs.Frames.{IsFrame, IsPeriod, mean_of}
 use Rattle.symmetry.specs.Groups.{Listing}
-use Rattle.symmetry.specs.Vectors.{Vector}
+use Rattle.symmetry.specs.Vectors.{Vector, dot}
 use Rattle.symmetry.specs.Orbits.{AreOrbitNumbers, IsPlaneCount}
 use Rattle.symmetry.specs.Scans.{IsScan, Scan as ScanOfPlanes, heights_of}
 use Rattle.motions.specs.declared.basis.Basis.{Basis}
@@ -19,7 +19,7 @@ use Rattle.scanning.specs.HeightView.{levels_of}
 use Rattle.scanning.specs.ScanView.{scan_of, IsScanOf}
 use Rattle.report.specs.declared.report.Report.{Report}
 use Rattle.report.specs.FractionsView.{fractions_of}
-use Rattle.report.specs.Reports.{block_heights, block_orbits, scan_of_report, special_of_block, IsMean, IsReport}
+use Rattle.report.specs.Reports.{block_heights, special_of_block, IsMean}
 use Rattle.report.specs.ReportView.{report_of, IsReportOf}
 use Rattle.report.specs.Texts.{HeightBlock}
 use Rattle.report.specs.Shown.{Shows}
@@ -93,10 +93,11 @@ frame_made group frame (plane, basis, of) =
 pub report_of_scan : (group : Group) (frame : Frame) → IsMadeFor group frame → (scan : Scan) → IsScanOf group frame scan
     → (numbers : List ℕ) (planes : ℕ)
     → AreOrbitNumbers (group_listing group) (row_of scan.frame.plane) (levels_of scan.special.items) numbers
-    → IsPlaneCount (group_listing group) (row_of scan.frame.plane) scan.frame.period.0 planes
+    → IsPlaneCount (group_listing group) (row_of scan.frame.plane) (dot (row_of scan.frame.plane) (parts scan.frame.tau)) planes
     → (report : Report) → Shows scan numbers planes report → IsReportOf group frame report
 report_of_scan group frame (plane, basis, of) scan is numbers planes are_numbers is_count report shown =
     let g = group_listing group in
     report_made group frame basis (subst (λ p. IsFrameOf group p basis frame) (sym of.plane) of) scan numbers planes report shown is.frame_is is.is
     (subst (λ (f : Frame). AreOrbitNumbers g (row_of f.plane) (levels_of scan.special.items) numbers) is.frame_is are_numbers)
-    (subst (λ (f : Frame). IsPlaneCount g (row_of f.plane) f.period.0 planes) is.frame_is is_count)
+    (subst (λ (f : Frame). IsPlaneCount g (row_of f.plane) f.period.0 planes) is.frame_is
+        (subst (λ d. IsPlaneCount g (row_of scan.frame.plane) d planes) scan.frame.tau_gives is_count))

@@ -1,11 +1,9 @@
 -- The vector c' of a frame, in lowest terms.
-use Rattle.std.proofs.Common.{◌≡◌, ℕ, ℤ, pos, zero, suc, List, [], ◌∷◌, map, get_or, refl, arith}
+use Rattle.std.proofs.Common.{ℕ, zero, suc, List, [], ◌∷◌, arith}
 use Rattle.std.proofs.lemmas.Int.{ints}
 use Rattle.std.proofs.Math.Nat.{eq-one_of_dvd-one}
 use Rattle.fractions.specs.declared.ratio.Ratio.{Ratio}
-use Rattle.fractions.specs.Fraction.{Fraction, IsFraction, IsInLowestTerms, SameFraction}
-use Rattle.fractions.specs.FractionOf.{fraction_of}
-use Rattle.fractions.specs.LowestTerms.{IsLowestForm}
+use Rattle.fractions.specs.Fraction.{IsFraction, IsInLowestTerms}
 use Rattle.symmetry.specs.Motions.{Point}
 use Rattle.plane_lattice.specs.Scanning.{fraction_at, IsPointOf}
 use Rattle.report.specs.FractionsView.{fractions_of}

@@ -1,10 +1,10 @@
 -- Special heights and the numbers of their orbits, place by place.
-use Rattle.std.proofs.Common.{◌≡◌, ℕ, zero, suc, List, [], ◌∷◌, length, map, refl, ap, arith}
+use Rattle.std.proofs.Common.{◌≡◌, ℕ, List, [], ◌∷◌, length, map, refl, ap, arith}
 use Rattle.std.specs.List.{zip}
 use Rattle.scanning.specs.declared.height.Height.{Height}
 use Rattle.scanning.specs.HeightView.{levels_of, special_of, specials_of}
 use Rattle.report.specs.Numbered.{numbered}
-use Rattle.report.specs.Reports.{block_heights, block_orbits, special_of_block}
+use Rattle.report.specs.Reports.{block_orbits, special_of_block}
 use Rattle.report.specs.SectionView.{block_of, levels_of_sections}
 
 pub specials_of_numbered : (hs : List Height) (ns : List ℕ) → length ns ≡ length hs

@@ -1,5 +1,5 @@
 -- How the types are written.
-use Rattle.std.specs.Prelude.{◌≡◌, ℕ, ℤ, pos, Bool, true, false, int_div, List, [], ◌++◌, codes, decimal, flat_map, map}
+use Rattle.std.specs.Prelude.{◌≡◌, ℕ, pos, Bool, true, false, int_div, List, [], ◌++◌, codes, decimal, flat_map, map}
 use Rattle.symmetry.specs.Motions.{Motion}
 use Rattle.motions.specs.declared.layer.LayerMotion.{LayerMotion}
 use Rattle.motions.specs.declared.rod.RodMotion.{RodMotion}

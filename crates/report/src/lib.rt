@@ -1,7 +1,8 @@
-// What the program writes: lists of operations, the report of an orientation of planes, and the images of one.
+// What the program writes: the operations at a height, the report of an orientation of planes, the images of an orientation,
+// and the types.
 //
-// Promises to the crates above: `at_text` and `images_text` write exactly these texts; `Report::text` writes the text of a
-// report.
+// Promises to the crates above: `at_text`, `images_text` and `type_text` write exactly these texts; `Report::make` gives the
+// report of a group in a frame, and `Report::text` writes its text.
 #![tactic(auto)]
 
 mod at;

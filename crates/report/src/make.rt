@@ -1,13 +1,5 @@
 // The report of a group, an orientation and a frame.
 ghost use Rattle.std.specs.Prelude.{◌≡◌, IfOk, length};
-ghost use Rattle.symmetry.specs.Frames.{IsFrame};
-ghost use Rattle.symmetry.specs.Orbits.{AreOrbitNumbers, IsPlaneCount};
-ghost use Rattle.symmetry.specs.Scans.{IsScan};
-ghost use Rattle.motions.specs.Views.{row_of};
-ghost use Rattle.closure.specs.Groups.{group_listing};
-ghost use Rattle.plane_lattice.specs.FrameView.{basis_of_frame};
-ghost use Rattle.scanning.specs.HeightView.{levels_of};
-ghost use Rattle.scanning.specs.ScanView.{scan_of};
 ghost use Rattle.report.specs.Shown.{Shows};
 
 use crate::at::NoMemory;
@@ -15,6 +7,7 @@ use crate::numbered::numbered;
 use crate::report::Report;
 use crate::section::Section;
 use closure::Group;
+use orbits::{Orbits, height_orbits};
 use plane_lattice::Frame;
 use scanning::Scan;
 use std::alloc::Global;
@@ -24,7 +17,10 @@ impl Report {
     ghost use Rattle.plane_lattice.specs.FrameOf.{IsMadeFor};
     ghost use Rattle.report.specs.ReportView.{IsReportOf};
 
-    /// The report of the group in the frame, which is one that [`Frame::make`] gives for this group.
+    /// The report of the group in the frame: its scan, with the number of the orbit of each special height, and the number of
+    /// planes in the orbit of a general one.
+    ///
+    /// The frame is one that [`Frame::make`] gives for this group (International Tables, Volume E, part 5).
     pub fn make(alloc: Global, group: &Group, frame: &Frame) -> Result<Report, NoMemory>
         requires { IsMadeFor group.now frame.now }
         ensures { IfOk result (IsReportOf group.now frame.now) }
@@ -33,21 +29,6 @@ impl Report {
         let orbits = height_orbits(alloc, &scan, group)?;
         show(alloc, scan, orbits)
     }
-}
-
-#[derive(Drop)]
-struct Orbits {
-    of: Vec<u32>,
-    planes: u32,
-}
-
-fn height_orbits(alloc: Global, scan: &Scan, group: &Group) -> Result<Orbits, NoMemory>
-    requires frame { IsFrame (group_listing group.now) (row_of scan.now.frame.plane) (basis_of_frame scan.now.frame) }
-    requires scan { IsScan (group_listing group.now) (row_of scan.now.frame.plane) (basis_of_frame scan.now.frame) (scan_of scan.now) }
-    ensures numbers { IfOk result (λ orbits. AreOrbitNumbers (group_listing group.now) (row_of scan.now.frame.plane) (levels_of scan.now.special.items) orbits.of.items) }
-    ensures planes { IfOk result (λ orbits. IsPlaneCount (group_listing group.now) (row_of scan.now.frame.plane) scan.now.frame.period.0 orbits.planes) }
-{
-    Err(std::alloc::AllocError)
 }
 
 // The report that shows a scan and the orbits of its special heights.

@@ -152,12 +152,7 @@ fn p_1_has_an_inversion_at_each_half(rt: HostRuntime) -> Result<(), Fail> {
 fn c2_over_m_has_two_orbits_along_its_axis(rt: HostRuntime) -> Result<(), Fail> {
     let ops = [IDENTITY, TURN, INVERSION, MIRROR];
     let group = group_of(rt.alloc(), &ops, &[[HALF, HALF, NONE]])?;
-    let text = text_of(
-        rt.alloc(),
-        &group,
-        Miller::make(0, 1, 0)?,
-        along_the_axis(),
-    )?;
+    let text = text_of(rt.alloc(), &group, Miller::make(0, 1, 0)?, along_the_axis())?;
     assert_eq!(rt; text.as_slice(), C2_OVER_M.as_bytes());
     Ok(())
 }

@@ -1,8 +1,8 @@
-use Rattle.std.proofs.Common.{◌≡◌, map, refl, sym, ap, subst, ◌∙◌}
+use Rattle.std.proofs.Common.{map, refl, sym, ap, subst, ◌∙◌}
 use Rattle.std.specs.Prelude.{All}
-use Rattle.symmetry.specs.Scans.{IsInPeriod, Scan}
+use Rattle.symmetry.specs.Scans.{IsInPeriod}
 use Rattle.motions.specs.Views.{motion_of}
-use Rattle.scanning.specs.HeightView.{levels_of, IsInHalves}
+use Rattle.scanning.specs.HeightView.{IsInHalves}
 use Rattle.report.specs.Reports.{block_orbits, special_of_block}
 use Rattle.report.specs.SectionView.{block_of, levels_of_sections}
 use Rattle.report.proofs.NumberedHeights.{levels_of_numbered, orbits_of_numbered, specials_of_numbered}
