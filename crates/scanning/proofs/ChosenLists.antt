@@ -79,7 +79,6 @@ module _ (g : Listing) (apart : AllPairs (λ m n. ¬ SameModulo g m n) g.ops) wh
 pub op_has : (P : Motion → Type 0) (ops : List Motion3) (i : ℕ) (d : Motion3) → All P (map motion_of ops) → i < length ops → P (motion_of (get_or ops i d))
 op_has P ops i d all h = All-contains P (map motion_of ops) (motion_of (get_or ops i d)) all (op_listed ops i d h)
 
-
 pub homes_more : (r : Vector) (f : Basis) (ms : List Motion3) (m : Motion3) (more : List Motion3) → more ≡ ms ++ m ∷ []
     → All (λ (n : Motion3). IsHomeMotion r f (motion_of n)) ms → IsHomeMotion r f (motion_of m) → All (λ (n : Motion3). IsHomeMotion r f (motion_of n)) more
 homes_more r f ms m more is all one =

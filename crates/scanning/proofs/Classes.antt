@@ -47,14 +47,17 @@ module _ (g : Listing) (r : Vector) (f : Basis) (frame : IsFrame g r f) (group :
       let (m, member, (row, twice)) = (special_by_row g r s group coprime high).0 is_special in
       let (n, listed, alike) = same_listed g ms same member.of member.listed in
       let close : SameModulo g m n = same_trans g m member.of n member.same (same_sym g n member.of alike) in
-      let (k, apart) = periods_between g r f frame (IsMember g) n m close in
-      (dot r m.shift, sym twice, record {
-        op = n;
-        listed = listed;
-        row = ap (row_times r) (sym close.matrix) ∙ row;
-        periods = k;
-        is = moved (dot r m.shift) (dot r n.shift) (k *ℤ dot r f.tau) apart;
-      })
+      let (k, apart) = periods_between g r f frame (IsMember g) n m close in (
+        dot r m.shift,
+        sym twice,
+        record {
+          op = n;
+          listed = listed;
+          row = ap (row_times r) (sym close.matrix) ∙ row;
+          periods = k;
+          is = moved (dot r m.shift) (dot r n.shift) (k *ℤ dot r f.tau) apart;
+        },
+      )
     where
       moved : (a b c : ℤ) → a -ℤ b ≡ c → a ≡ b +ℤ c
       moved a b c e = omega (arith, ints)
@@ -63,10 +66,12 @@ module _ (g : Listing) (r : Vector) (f : Basis) (frame : IsFrame g r f) (group :
   turned_to_special s high t level turned =
       let k = turned.periods in
       let m = raised f k turned.op in
-      (special_by_row g r s group coprime high).1
-      (m, same_member g m turned.op (raised_same g r f frame k turned.op turned.op turned.op (same_refl g turned.op) refl (same_refl g turned.op).shift)
-      (All-contains (IsMember g) ms turned.op (same_members g ms same) turned.listed),
-      (turned.row, sym level ∙ ap (λ z. s.den *ℤ z) (turned.is ∙ sym (raised_level r f k turned.op))))
+      (special_by_row g r s group coprime high).1 (
+        m,
+        same_member g m turned.op (raised_same g r f frame k turned.op turned.op turned.op (same_refl g turned.op) refl (same_refl g turned.op).shift)
+            (All-contains (IsMember g) ms turned.op (same_members g ms same) turned.listed),
+        (turned.row, sym level ∙ ap (λ z. s.den *ℤ z) (turned.is ∙ sym (raised_level r f k turned.op))),
+      )
 
   module _ (ts : List ℤ) (levels : AreLevels r (dot r f.tau) ms ts) (sp : List SpecialHeight)
       (zip : AllZip (λ t (h : SpecialHeight). IsHeight h.height × IsLevel h.height t) ts sp)

@@ -38,9 +38,9 @@ module _ (u p q t : ℤ) (hu : pos 1 ≤ℤ u) (hq : pos 1 ≤ℤ q) (level : q 
       let there = ring (t' ∷ q ∷ q' ∷ []) (var 0 ⊗ (var 1 ⊗ var 2)) (var 1 ⊗ (var 2 ⊗ var 0)) tt in
       let below = mul-le-mul_right (p' *ℤ q) (p *ℤ q') (pos 2 *ℤ u) (omega (arith, ints)) le in
       let one = linear (u ∷ p ∷ q ∷ t ∷ q' ∷ []) (var 4 ⊗ (var 2 ⊗ var 3)) (var 1 ⊗ var 4 ⊗ (num (pos 2) ⊗ var 0))
-          (given (var 4) (var 2 ⊗ var 3) (num (pos 2) ⊗ var 1 ⊗ var 0) ∷ []) tt (level, tt) in
+      (given (var 4) (var 2 ⊗ var 3) (num (pos 2) ⊗ var 1 ⊗ var 0) ∷ []) tt (level, tt) in
       let other = linear (u ∷ p' ∷ q' ∷ t' ∷ q ∷ []) (var 4 ⊗ (var 2 ⊗ var 3)) (var 1 ⊗ var 4 ⊗ (num (pos 2) ⊗ var 0))
-          (given (var 4) (var 2 ⊗ var 3) (num (pos 2) ⊗ var 1 ⊗ var 0) ∷ []) tt (level', tt) in
+      (given (var 4) (var 2 ⊗ var 3) (num (pos 2) ⊗ var 1 ⊗ var 0) ∷ []) tt (level', tt) in
       absurd (omega (arith, ints)))
 
 -- whether q divides x

@@ -142,11 +142,14 @@ module _ (d : ℤ) (hs : List Height) (in_period : All (IsInPeriod d) (levels_of
   half_at i h =
       let u = (special_at sp i).height in
       let is = at_in_period d sp in_period rising i h in
-      let (t, level) = level_of_halves u (subst IsInHalves (get_or-heights sp i u h) (halves i u (long_heights i h))) in
-      (t, level, record {
-        from = level_from UNIT u.num u.den t (omega (arith, ints)) is.positive level is.from;
-        below = level_below UNIT u.num u.den t d is.positive level is.below;
-      })
+      let (t, level) = level_of_halves u (subst IsInHalves (get_or-heights sp i u h) (halves i u (long_heights i h))) in (
+        t,
+        level,
+        record {
+          from = level_from UNIT u.num u.den t (omega (arith, ints)) is.positive level is.from;
+          below = level_below UNIT u.num u.den t d is.positive level is.below;
+        },
+      )
     where
       long_heights : (i : ℕ) → i < length sp → i < length (levels_of hs)
       long_heights i h = let long = length-map sp (λ (h : SpecialHeight). h.height) in omega arith

@@ -27,8 +27,11 @@ rem_euclid_is z (pos n) h =
     let below = by.below in (
       subst (λ x. pos 0 ≤ℤ x) (sym by.rem) (omega (arith, ints)),
       subst (λ x. x <ℤ pos n) (sym by.rem) (omega (arith, ints)),
-      (neg_ℤ by.times, by.rem ∙ linear (z ∷ by.times ∷ pos n ∷ pos by.rest ∷ []) (var 3) (var 0 ⊕ neg (var 1) ⊗ var 2)
-      (given (num (negsuc 0)) (var 0) (var 1 ⊗ var 2 ⊕ var 3) ∷ []) tt (by.is, tt)),
+      (
+        neg_ℤ by.times,
+        by.rem ∙ linear (z ∷ by.times ∷ pos n ∷ pos by.rest ∷ []) (var 3) (var 0 ⊕ neg (var 1) ⊗ var 2)
+            (given (num (negsuc 0)) (var 0) (var 1 ⊗ var 2 ⊕ var 3) ∷ []) tt (by.is, tt),
+      ),
     )
 
 -- the same of numbers that the code has read again

@@ -43,10 +43,12 @@ pub same_listed : (g : Listing) (ms : List Motion) → AreSameMotions g g.ops ms
     → (n : Motion) × Contains ms n × SameModulo g n m
 same_listed g ms same m listed =
     let (i, within, at) = at_from_Contains g.ops m listed in
-    let long : length g.ops ≡ length ms = length_all_zip (λ m n. SameModulo g n m) g.ops ms same in
-    (get_or ms i identity, Contains-get_or ms i identity (omega arith),
-    subst (SameModulo g (get_or ms i identity)) (at identity)
-    (AllZip-get_or (λ m n. SameModulo g n m) g.ops ms i identity identity same within))
+    let long : length g.ops ≡ length ms = length_all_zip (λ m n. SameModulo g n m) g.ops ms same in (
+      get_or ms i identity,
+      Contains-get_or ms i identity (omega arith),
+      subst (SameModulo g (get_or ms i identity)) (at identity)
+          (AllZip-get_or (λ m n. SameModulo g n m) g.ops ms i identity identity same within),
+    )
 
 -- ---- what is chosen of them is chosen of the operations
 

@@ -53,7 +53,12 @@ impl Scan {
         }
         match self.class_at(s) {
             Place::General => Ok(Vec::from_slice(alloc, &self.general)?),
-            Place::Special { index, k } => Ok(moved(alloc, &self.special[index].ops, &self.frame, k as i64)?),
+            Place::Special { index, k } => Ok(moved(
+                alloc,
+                &self.special[index].ops,
+                &self.frame,
+                k as i64,
+            )?),
         }
     }
 }

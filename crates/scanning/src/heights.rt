@@ -16,7 +16,11 @@ use plane_lattice::Frame;
 use std::alloc::Global;
 
 /// The special heights from 0 to below the period, rising, with the operations at each.
-pub(crate) fn special_heights(alloc: Global, homes: &[Motion3], frame: &Frame) -> Result<Vec<Height>, NoMemory>
+pub(crate) fn special_heights(
+    alloc: Global,
+    homes: &[Motion3],
+    frame: &Frame,
+) -> Result<Vec<Height>, NoMemory>
     requires { All (λ m. IsHomeMotion (row_of frame.now.plane) (basis_of_frame frame.now) (motion_of m)) homes.now }
     ensures { IfOk result (λ heights. AreHeights frame.now (map motion_of homes.now) heights.items) }
 {
@@ -29,7 +33,12 @@ pub(crate) fn special_heights(alloc: Global, homes: &[Motion3], frame: &Frame) -
 }
 
 /// The height that is half of this number of parts, and the operations that map its plane to itself.
-fn height_at(alloc: Global, homes: &[Motion3], frame: &Frame, level: i64) -> Result<Height, NoMemory>
+fn height_at(
+    alloc: Global,
+    homes: &[Motion3],
+    frame: &Frame,
+    level: i64,
+) -> Result<Height, NoMemory>
     requires homes { All (λ m. IsHomeMotion (row_of frame.now.plane) (basis_of_frame frame.now) (motion_of m)) homes.now }
     requires level { IsInTwoPeriods frame.now.period.0 level }
     ensures { IfOk result (IsHeightAt frame.now (map motion_of homes.now) level) }

@@ -13,7 +13,11 @@ use std::alloc::Global;
 
 /// The numbers from 0 to below two periods that are whole periods from the (hkl).w of a motion that turns the row,
 /// rising: twice the special heights from 0 to below the period, in parts.
-pub(crate) fn special_levels(alloc: Global, homes: &[Motion3], frame: &Frame) -> Result<Vec<i64>, NoMemory>
+pub(crate) fn special_levels(
+    alloc: Global,
+    homes: &[Motion3],
+    frame: &Frame,
+) -> Result<Vec<i64>, NoMemory>
     requires { All (λ m. IsHomeMotion (row_of frame.now.plane) (basis_of_frame frame.now) (motion_of m)) homes.now }
     ensures { IfOk result (λ levels.
         AreLevels (row_of frame.now.plane) frame.now.period.0 (map motion_of homes.now) levels.items) }

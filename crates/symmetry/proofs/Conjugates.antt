@@ -119,7 +119,7 @@ module _ (r : Vector) (f : Basis) (k : ℤ) where
   lifted_turns s s' high above m (row, twice) = (
     row,
     sym (ap (λ x. s'.den *ℤ x) (lifted_turn m row)
-    ∙ level_above UNIT s.num s.den (dot r m.shift) high (sym twice) (dot r f.tau) k s'.num s'.den above),
+        ∙ level_above UNIT s.num s.den (dot r m.shift) high (sym twice) (dot r f.tau) k s'.num s'.den above),
   )
 
 -- where one height is k periods above the other, conjugation by k tau leads from the stabiliser of the one to that of the other

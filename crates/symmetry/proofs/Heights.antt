@@ -117,8 +117,10 @@ module _ (d : ℤ) (special : List SpecialHeight) (in_period : All (IsInPeriod d
       let t_in = at_in_period i here.within in
       let u_in = at_in_period j there.within in
       let one : Once t.num t.den k u.num u.den l =
-      once UNIT d s.num s.den t.num t.den k u.num u.den l (omega (arith, ints)) high t_in.positive u_in.positive t_in.from t_in.below u_in.from u_in.below here.is there.is in
-      (elim (dec_lt i j) [
-        | yes h ↦ absurd (not_equal i j h there.within one.height)
-        | no h ↦ elim (dec_lt j i) [ yes h' ↦ absurd (not_equal j i h' here.within (sym one.height)) | no h' ↦ omega arith ]
-      ], sym one.periods)
+      once UNIT d s.num s.den t.num t.den k u.num u.den l (omega (arith, ints)) high t_in.positive u_in.positive t_in.from t_in.below u_in.from u_in.below here.is there.is in (
+        elim (dec_lt i j) [
+          | yes h ↦ absurd (not_equal i j h there.within one.height)
+          | no h ↦ elim (dec_lt j i) [ yes h' ↦ absurd (not_equal j i h' here.within (sym one.height)) | no h' ↦ omega arith ]
+        ],
+        sym one.periods,
+      )

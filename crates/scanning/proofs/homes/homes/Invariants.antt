@@ -11,5 +11,5 @@ use Rattle.scanning.proofs.homes.homes.Given as goal
 abbrev pub invariant-loop-m : goal.invariant-loop-m
 invariant-loop-m l = record {
   same : AreSameMotions (group_listing l.group) (map motion_of (take l.m-index l.m-items)) (map motion_of l.homes.items);
-  home : All (λ (m : Motion3). IsHomeMotion (row_of l.frame.plane) (basis_of_frame l.frame) (motion_of m)) l.homes.items
+  home : All (λ (m : Motion3). IsHomeMotion (row_of l.frame.plane) (basis_of_frame l.frame) (motion_of m)) l.homes.items;
 }
