@@ -1,5 +1,5 @@
 -- The half parts of heights in a period.
-use Rattle.std.proofs.Common.{◌≡◌, ℕ, zero, suc, ◌+◌, ◌*◌, ◌<◌, ◌≤◌, ◌^◌, ℤ, pos, negsuc, ◌+ℤ◌, ◌-ℤ◌, ◌*ℤ◌, ◌≤ℤ◌, ◌<ℤ◌, inl, inr, ◌-◌, List, [], ◌∷◌, ◌++◌, length, get_or, unsigned_abs, All, AllPairs, lit≤, lit<, refl, sym, ap, subst, ◌∙◌, arith}
+use Rattle.std.proofs.Common.{◌≡◌, ℕ, zero, suc, ◌+◌, ◌*◌, ◌<◌, ◌^◌, ℤ, pos, ◌+ℤ◌, ◌*ℤ◌, ◌≤ℤ◌, ◌<ℤ◌, inl, inr, ◌-◌, List, [], ◌∷◌, ◌++◌, length, get_or, unsigned_abs, All, AllPairs, lit≤, lit<, sym, ap, subst, ◌∙◌, arith}
 use Rattle.std.specs.Prelude.{int_div, int_rem}
 use Rattle.std.proofs.lemmas.Int.{ints, quot-rem}
 use Rattle.std.proofs.lemmas.Bool.{cases_lt}
@@ -10,7 +10,7 @@ use Rattle.fractions.specs.LowestTerms.{lowest_terms, IsNoLarger}
 use Rattle.fractions.proofs.Lowest.{IsLowestForm-lowest_terms, IsNoLarger-lowest_terms, one_lowest}
 use Rattle.integers.specs.Size.{IsWithin}
 use Rattle.integers.proofs.Coded.{again, again_is}
-use Rattle.integers.proofs.Order.{mul-le-mul_right, mul_right_cancel_pos, one-le-mul}
+use Rattle.integers.proofs.Order.{mul_right_cancel_pos, one-le-mul}
 use Rattle.integers.proofs.Ring.{add_zero, mul_comm_lem, IsWithin-mul}
 use Rattle.integers.proofs.Solver.{Expr.{var, num, neg, ◌⊗◌}, given, linear, ring}
 use Rattle.symmetry.specs.Planes.{Height, IsHeight}

@@ -10,7 +10,7 @@ use Rattle.symmetry.specs.HeightMotions.{AreHeightMotions, HeightMotion, TakesHe
 use Rattle.symmetry.specs.Orbits.{AreInOneOrbit, AreOrbitNumbers, height_at, IsPlaneCount}
 use Rattle.symmetry.proofs.PlaneCounts.{orbit_by_motions, plane_count}
 use Rattle.symmetry.proofs.PlaneOrbits.{orbit_refl, orbit_sym, orbit_trans}
-use Rattle.orbits.specs.HalfHeights.{AreHalves, AreJoined, TakesHalf}
+use Rattle.orbits.specs.HalfHeights.{AreHalves, AreJoined}
 use Rattle.orbits.specs.HalfView.{AreJoinedAt, count_of}
 use Rattle.orbits.specs.HeightMotionView.{height_motion_of}
 use Rattle.orbits.specs.declared.half_parts.HalfParts.{HalfParts}

@@ -1,5 +1,5 @@
 -- Lists that the code reads: motions of planes, and heights in half parts.
-use Rattle.std.proofs.Common.{◌≡◌, ℕ, ◌+◌, ◌<◌, ◌≤◌, ℤ, pos, List, length, get_or, map, Any, sym, ◌∙◌}
+use Rattle.std.proofs.Common.{◌≡◌, ℕ, ◌<◌, ◌≤◌, pos, List, length, get_or, map, Any}
 use Rattle.std.proofs.lemmas.List.{get_or-map}
 use Rattle.quotient.proofs.Items.{all_items, Contains-item}
 use Rattle.symmetry.specs.HeightMotions.{HeightMotion as MotionOfHeights}

@@ -1,5 +1,5 @@
 -- Whole multiples, by the remainder.
-use Rattle.std.proofs.Common.{◌≡◌, ◌↔◌, ℤ, pos, ◌+ℤ◌, ◌*ℤ◌, ◌≤ℤ◌, IsTrue, FitsSigned, of_z, to_z, w64, sym, ap, ◌∙◌, arith}
+use Rattle.std.proofs.Common.{◌≡◌, ◌↔◌, ℤ, pos, ◌+ℤ◌, ◌*ℤ◌, ◌≤ℤ◌, IsTrue, FitsSigned, of_z, to_z, w64, sym, ap, ◌∙◌}
 use Rattle.std.specs.Prelude.{int_div, int_rem, nat_eq}
 use Rattle.std.proofs.lemmas.Bool.Decides.{Decides-eqb}
 use Rattle.std.proofs.lemmas.Int.{quot-rem, rem_is, to_z-of_z}

@@ -1,5 +1,5 @@
 -- What the motions of planes of the code say.
-use Rattle.std.specs.Prelude.{◌≡◌, ℤ, pos, ◌≤ℤ◌, ◌<ℤ◌, Option, Some, None}
+use Rattle.std.specs.Prelude.{ℤ, pos, ◌≤ℤ◌, ◌<ℤ◌, Option, Some, None}
 use Rattle.symmetry.specs.Vectors.{Vector}
 use Rattle.symmetry.specs.Motions.{Motion}
 use Rattle.symmetry.specs.Frames.{KeepsOrientation}

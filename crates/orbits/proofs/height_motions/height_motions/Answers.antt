@@ -1,5 +1,5 @@
 -- What each operation does to the planes is new or is listed.
-use Rattle.std.proofs.Common.{◌≤◌, ◌+◌, List, Any, ap, map, subst, sym, vec_len, ◌≡◌, ◌∙◌, arith}
+use Rattle.std.proofs.Common.{List, Any, ap, map, subst, sym, vec_len, ◌≡◌, ◌∙◌, arith}
 use Rattle.motions.specs.Views.{row_of}
 use Rattle.closure.specs.Groups.{group_listing}
 use Rattle.orbits.specs.HeightMotionView.{height_motion_of}
@@ -32,10 +32,11 @@ loop-m-preserved c =
                 w.in-Some.ensures (ap (λ v. v.items) w.motions-is) (subst P w.deref.ensures.value (w.lists_motion.ensures.0 w.if-not-lists_motion.false)),
             omega (arith, ap vec_len w.motions-is, c.loop-m.invariant.1),
           )
-      | in_default w ↦
-          (over r q.period.0 q.plane.coprime ops i _ c.loop-m-test.true c.loop-m.motions.items c.match-height_motion.motions.items c.loop-m.invariant.0
-          (ap (λ v. v.items) w.motions-is) w.in_default.ensures,
-          omega (arith, ap vec_len w.motions-is, c.loop-m.invariant.1))
+      | in_default w ↦ (
+        over r q.period.0 q.plane.coprime ops i _ c.loop-m-test.true c.loop-m.motions.items c.match-height_motion.motions.items c.loop-m.invariant.0
+            (ap (λ v. v.items) w.motions-is) w.in_default.ensures,
+        omega (arith, ap vec_len w.motions-is, c.loop-m.invariant.1),
+      )
     ]
 
 pub returns-clause-motions : goal.returns-clause-motions

@@ -1,6 +1,5 @@
 -- None of the motions so far takes the one height to the other.
-use Rattle.std.proofs.Common.{ℕ, ◌<◌, get_or, map, pos}
-use Rattle.symmetry.specs.HeightMotions.{HeightMotion}
+use Rattle.std.proofs.Common.{ℕ, ◌<◌, get_or, map}
 use Rattle.orbits.specs.HalfHeights.{TakesHalf}
 use Rattle.orbits.specs.HeightMotionView.{height_motion_of}
 use Rattle.orbits.proofs.MotionLists.{no_motion}

@@ -1,4 +1,4 @@
-use Rattle.std.proofs.Common.{◌≡◌, ◌<◌, ◌+◌, List, ℕ, ℤ, length, map, ap, subst, sym, ◌∙◌}
+use Rattle.std.proofs.Common.{◌≡◌, ◌<◌, List, ℕ, length, map, ap, subst, sym, ◌∙◌}
 use Rattle.symmetry.specs.Orbits.{number_at}
 use Rattle.orbits.specs.HalfHeights.{AreJoined}
 use Rattle.orbits.specs.HalfView.{AreJoinedAt, count_at, count_of}

@@ -13,7 +13,7 @@ use Rattle.orbits.specs.declared.half_parts.HalfParts.{HalfParts}
 use Rattle.orbits.specs.declared.height_motion.HeightMotion.{HeightMotion}
 use Rattle.orbits.proofs.HalfMotions.{period_within}
 use Rattle.orbits.proofs.HalfSizes.{few_heights}
-use Rattle.orbits.proofs.JoinedHeights.{as_many, coded_classes, coded_numbers, coded_planes}
+use Rattle.orbits.proofs.JoinedHeights.{coded_classes, coded_numbers, coded_planes}
 use Rattle.orbits.proofs.orbits.height_orbits.Goals as goal
 
 pub orbit_numbers-requires-clause-classes : goal.orbit_numbers-requires-clause-classes
