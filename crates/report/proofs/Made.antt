@@ -100,4 +100,4 @@ report_of_scan group frame (plane, basis, of) scan is numbers planes are_numbers
     report_made group frame basis (subst (λ p. IsFrameOf group p basis frame) (sym of.plane) of) scan numbers planes report shown is.frame_is is.is
     (subst (λ (f : Frame). AreOrbitNumbers g (row_of f.plane) (levels_of scan.special.items) numbers) is.frame_is are_numbers)
     (subst (λ (f : Frame). IsPlaneCount g (row_of f.plane) f.period.0 planes) is.frame_is
-        (subst (λ d. IsPlaneCount g (row_of scan.frame.plane) d planes) scan.frame.tau_gives is_count))
+    (subst (λ d. IsPlaneCount g (row_of scan.frame.plane) d planes) scan.frame.tau_gives is_count))
