@@ -1,0 +1,54 @@
+// The cases, by topic.
+use crate::case::Case;
+use crate::{
+    heights, images, refused_frames, refused_groups, refused_lines, refused_words, reports, types,
+};
+
+/// What a case is about.
+#[derive(Clone, Copy, PartialEq, Eq, Debug)]
+pub enum Topic {
+    /// The operations at one height.
+    Heights,
+    /// Reports of all heights of an orientation.
+    Reports,
+    /// The images of an orientation.
+    Images,
+    /// The operations of a type, by its number.
+    Types,
+    /// Words that are refused, whatever the input.
+    RefusedWords,
+    /// Inputs that are refused for a bad line.
+    RefusedLines,
+    /// Inputs that are refused since what they list is no group within the limits.
+    RefusedGroups,
+    /// Frames that are refused.
+    RefusedFrames,
+}
+
+/// Every topic.
+pub const TOPICS: [Topic; 8] = [
+    Topic::Heights,
+    Topic::Reports,
+    Topic::Images,
+    Topic::Types,
+    Topic::RefusedWords,
+    Topic::RefusedLines,
+    Topic::RefusedGroups,
+    Topic::RefusedFrames,
+];
+
+/// The cases of a topic.
+///
+/// One table of all cases is more than the prover can take in one declaration.
+pub fn cases(topic: Topic) -> &'static [Case] {
+    match topic {
+        Topic::Heights => heights::all(),
+        Topic::Reports => reports::all(),
+        Topic::Images => images::all(),
+        Topic::Types => types::all(),
+        Topic::RefusedWords => refused_words::all(),
+        Topic::RefusedLines => refused_lines::all(),
+        Topic::RefusedGroups => refused_groups::all(),
+        Topic::RefusedFrames => refused_frames::all(),
+    }
+}
