@@ -1,8 +1,8 @@
 -- What keeps a group from an answer, as its listings say it.
-use Rattle.std.proofs.Common.{◌≡◌, ◌≤◌, ℕ, List, length, inl, inr}
+use Rattle.std.proofs.Common.{◌≤◌, ℕ, List, length, inl, inr}
 use Rattle.symmetry.specs.Vectors.{Vector}
 use Rattle.symmetry.specs.Groups.{Listing}
-use Rattle.symmetry.specs.Frames.{Basis, IsFrame, IsSkewed}
+use Rattle.symmetry.specs.Frames.{Basis}
 use Rattle.motions.specs.BasisView.{basis_of}
 use Rattle.motions.specs.Views.{row_of}
 use Rattle.motions.specs.declared.basis.Basis.{Basis as BasisOfCode}

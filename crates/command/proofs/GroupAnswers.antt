@@ -17,7 +17,7 @@ use Rattle.motions.specs.declared.miller.Miller.{Miller}
 use Rattle.closure.specs.declared.group.Group.{Group}
 use Rattle.closure.specs.Groups.{group_listing}
 use Rattle.plane_lattice.specs.Coordinates.{vectors}
-use Rattle.plane_lattice.specs.FrameOf.{IsFrameOf, IsMadeFor}
+use Rattle.plane_lattice.specs.FrameOf.{IsFrameOf}
 use Rattle.plane_lattice.specs.FrameView.{basis_of_frame}
 use Rattle.plane_lattice.specs.declared.frame.Frame.{Frame}
 use Rattle.symmetry.specs.Scans.{IsScan, Scan as ScanOfPlanes}
@@ -38,7 +38,7 @@ use Rattle.command.specs.Obstacles.{obstacle_of_height, obstacle_of_orbits}
 use Rattle.command.specs.Limits.{IsHeightInRange}
 use Rattle.command.specs.Requests.{at_height, all_heights, image_rows}
 use Rattle.command.specs.Responses.{IsInputObstacle}
-use Rattle.command.specs.Alike.{AreAlike, IsGroupOf}
+use Rattle.command.specs.Alike.{IsGroupOf}
 use Rattle.command.specs.Answers.{IsOutput}
 use Rattle.command.specs.Causes.{IsFrameHere}
 use Rattle.command.specs.Contents.{IsFairFrame}
@@ -99,7 +99,7 @@ module _ (row : Vector) (basis : Basis) (group : Group) (frame : Frame) (here : 
     pub height_answer : (short : length input ≤ MOST_BYTES) (s : Fraction) (scan : ScanOfPlanes) (ops : List Motion) (text : List ℕ)
         → IsScan (group_listing group) (row_of frame.plane) (basis_of_frame frame) scan
         → ((g : Listing) → IsGroup g → IsFrame g (row_of frame.plane) (basis_of_frame frame) → IsScan g (row_of frame.plane) (basis_of_frame frame) scan
-          → IsListOf (SameModulo g) g.ops (IsAtHome (basis_of_frame frame)) (InStabiliser g (row_of frame.plane) s) ops)
+        → IsListOf (SameModulo g) g.ops (IsAtHome (basis_of_frame frame)) (InStabiliser g (row_of frame.plane) s) ops)
         → text ≡ at_text s ops → IsOutput (at_height row basis s) input text
     height_answer short s scan ops text is_scan list is =
         let g = of.listing in

@@ -10,7 +10,7 @@ use Rattle.report.specs.declared.kind.Kind.{Kind}
 use Rattle.command.specs.declared.refusal.Refusal.{Refusal}
 use Rattle.command.specs.declared.refusal.Refusal.TheVariants.{Usage, OutOfRange, AllZero, NotCoprime, FrameLimit, HeightLimit}
 use Rattle.command.specs.Words.{Command, at_words, layers_words, images_words, types_words, FrameWords, IsCommand}
-use Rattle.command.specs.Limits.{IsPlane, IsFrameInRange, IsHeightLimit, IsHeightInRange, IsBasisOf}
+use Rattle.command.specs.Limits.{IsPlane, IsFrameInRange, IsHeightLimit, IsBasisOf}
 
 -- what is asked: the operations at one height, those at all heights, the images of an orientation, or the table of a type
 pub data Asked : Type 0 where

@@ -13,11 +13,19 @@ pub enum Request {
         s: Ratio,
     },
     /// The report of all heights of the orientation, in the frame given.
-    Layers { plane: Miller, basis: Basis },
+    Layers {
+        plane: Miller,
+        basis: Basis,
+    },
     /// The images of the orientation.
-    Images { plane: Miller },
+    Images {
+        plane: Miller,
+    },
     /// The operations of a type by its number: 1 to 80 for layer, 1 to 75 for rod and 1 to 7 for frieze types.
-    Types { kind: Kind, n: u8 },
+    Types {
+        kind: Kind,
+        n: u8,
+    },
 }
 
 impl Request {

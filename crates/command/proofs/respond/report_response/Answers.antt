@@ -1,4 +1,3 @@
-use Rattle.std.proofs.Common.{◌∙◌}
 use Rattle.std.proofs.lemmas.Result.{err_from_is_err_and}
 use Rattle.motions.specs.BasisView.{basis_of}
 use Rattle.motions.specs.Views.{row_of}
