@@ -3,6 +3,8 @@
 // Promises to its user: the contract of `run`, over the words, the standard streams and the status of the process.
 #![tactic(auto)]
 
+#[cfg(test)]
+mod case_tests;
 mod commands;
 mod limits;
 mod obstacle;
