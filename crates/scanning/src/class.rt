@@ -23,7 +23,7 @@ impl Scan {
         requires { IsFractionWithin (10 ^ 18) (fraction_of s) }
         ensures { IsPlaceOf self.now.frame.period.0 (specials_of self.now.special.items) (fraction_of s) result }
     {
-        let Some(level) = wide_level(s) else {
+        let Some(level) = level_of(s) else {
             return Place::General;
         };
         let (k, rest) = periods_in(level, self.frame.period);
@@ -35,16 +35,16 @@ impl Scan {
 }
 
 /// Twice the height, in parts. None comes exactly where that is no whole number.
-fn wide_level(s: Ratio) -> Option<i128>
+fn level_of(s: Ratio) -> Option<i128>
     requires { IsFractionWithin (10 ^ 18) (fraction_of s) }
     ensures is { MatchOption result ((t : ℤ) → ¬ IsLevel (fraction_of s) t) (IsLevel (fraction_of s)) }
     ensures small { IfSome result (IsWithin (2 ^ 70)) }
 {
-    wide_quotient(2 * i128::from(UNIT) * s.num(), s.den())
+    whole_quotient(2 * i128::from(UNIT) * s.num(), s.den())
 }
 
 /// The quotient of two numbers, where it is a whole number. None comes exactly where it is not.
-fn wide_quotient(x: i128, d: i128) -> Option<i128>
+fn whole_quotient(x: i128, d: i128) -> Option<i128>
     requires { pos 1 ≤ℤ d }
     ensures is { MatchOption result ((q : ℤ) → ¬ (d *ℤ q ≡ x)) (λ q. d *ℤ q ≡ x) }
     ensures small { IfSome result (λ q. unsigned_abs q ≤ unsigned_abs x) }

@@ -1,27 +1,14 @@
-// Twice a height, in parts, and the periods between such numbers.
-ghost use Rattle.std.specs.Prelude.{◌≡◌, ◌≤◌, ◌^◌, ◌-ℤ◌, ◌*ℤ◌, ◌≤ℤ◌, ℤ, pos, IfSome, MatchOption, unsigned_abs};
+// The periods between the (hkl).w of motions.
+ghost use Rattle.std.specs.Prelude.{◌≡◌, ◌≤◌, ◌-ℤ◌, ◌*ℤ◌, ◌≤ℤ◌, ℤ, pos, IfSome, MatchOption, unsigned_abs};
 ghost use Rattle.fractions.specs.declared.part.TheConstants.{UNIT};
-ghost use Rattle.fractions.specs.Fraction.{IsFractionWithin};
-ghost use Rattle.fractions.specs.FractionOf.{fraction_of};
 ghost use Rattle.integers.specs.Size.{IsWithin};
 ghost use Rattle.symmetry.specs.Sizes.{IsSmall};
 ghost use Rattle.symmetry.specs.Vectors.{dot};
 ghost use Rattle.motions.specs.Views.{motion_of, row_of};
 ghost use Rattle.scanning.specs.Bounds.{largest_count, largest_level, largest_shift};
-ghost use Rattle.scanning.specs.Levels.{IsLevel};
 
-use fractions::{Ratio, UNIT};
 use motions::{Motion3, shift};
 use plane_lattice::Frame;
-
-/// Twice the height, in parts. None comes exactly where that is no whole number.
-pub(crate) fn level(s: Ratio) -> Option<i64>
-    requires { IsFractionWithin (10 ^ 9) (fraction_of s) }
-    ensures is { MatchOption result ((t : ℤ) → ¬ IsLevel (fraction_of s) t) (IsLevel (fraction_of s)) }
-    ensures small { IfSome result (IsWithin largest_level) }
-{
-    whole_quotient(2 * UNIT * s.num() as i64, s.den() as i64)
-}
 
 /// How many periods are between the (hkl).w of the motion and the level, where that is a whole number. None comes
 /// exactly where it is not.

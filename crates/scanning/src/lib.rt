@@ -2,7 +2,7 @@
 //
 // Promises to the crates above: `Scan::make` puts every height into one class, general or that of one special height, with
 // the list of the operations that map its plane to itself; `class_at` tells the class of a height, and `ops_at` gives the
-// list there, as `operations_at` does without a scan.
+// list there.
 #![tactic(auto)]
 
 mod at;
@@ -14,7 +14,6 @@ mod homes;
 mod levels;
 mod make;
 mod members;
-mod operations;
 mod place;
 mod raised;
 mod scan;
@@ -25,6 +24,5 @@ mod turned;
 pub use at_fault::AtFault;
 pub use height::Height;
 pub use homes::NoMemory;
-pub use operations::operations_at;
 pub use place::Place;
 pub use scan::Scan;

@@ -7,7 +7,6 @@ ghost use Rattle.motions.specs.Views.{motion_of, parts};
 ghost use Rattle.closure.specs.declared.limits.TheConstants.{MAX_ENTRY};
 
 use crate::at_fault::AtFault;
-use crate::operations::operations_at;
 use crate::place::Place;
 use crate::scan::Scan;
 use closure::{Group, GroupError};
@@ -133,7 +132,7 @@ fn operations(
 {
     let frame = Frame::make(group, plane, basis)?;
     let s = Ratio::make(num, den).unwrap();
-    Ok(operations_at(alloc, group, &frame, s)?)
+    Ok(Scan::make(alloc, group, &frame)?.ops_at(alloc, s)?)
 }
 
 fn c2_over_m(alloc: Global) -> Result<Group, GroupError> {

@@ -4,7 +4,7 @@ use Rattle.std.specs.Int.{w128}
 use Rattle.std.specs.Prelude.{int_rem}
 use Rattle.std.proofs.lemmas.Int.{to_z-of_z}
 use Rattle.scanning.proofs.Remainders.{rem-multiple}
-use Rattle.scanning.proofs.class.wide_quotient.Goals as goal
+use Rattle.scanning.proofs.class.whole_quotient.Goals as goal
 
 pub returns-else-x-d-eq0-clause-is : goal.returns-else-x-d-eq0-clause-is
 returns-else-x-d-eq0-clause-is c q e =
