@@ -5,9 +5,10 @@ ghost use Rattle.motions.specs.ListedSizes.{IsSmallWithin};
 ghost use Rattle.motions.specs.Views.{motion_of, parts};
 ghost use Rattle.closure.specs.declared.limits.TheConstants.{MAX_ENTRY};
 
+use crate::at::at_text;
 use crate::report::Report;
 use closure::{Group, GroupError};
-use fractions::{Part, UNIT};
+use fractions::{Part, Ratio, UNIT};
 use motions::{Basis, Listed, Miller, Motion3};
 use plane_lattice::Frame;
 use std::alloc::Global;
@@ -37,6 +38,12 @@ const TURN: Motion3 = Motion3 {
 const INVERSION: Motion3 = Motion3 {
     w: [[-1, 0, 0], [0, -1, 0], [0, 0, -1]],
     t: ORIGIN,
+};
+
+// -x,-y,-z-7
+const FAR_INVERSION: Motion3 = Motion3 {
+    w: [[-1, 0, 0], [0, -1, 0], [0, 0, -1]],
+    t: [NONE, NONE, Part(-7 * UNIT)],
 };
 
 // x,-y,z
@@ -130,6 +137,15 @@ fn text_of(alloc: Global, group: &Group, plane: Miller, basis: Basis) -> Result<
     let frame = Frame::make(group, plane, basis)?;
     let report = Report::make(alloc, group, &frame)?;
     Ok(report.text(alloc)?)
+}
+
+#[test]
+fn an_inversion_far_below(rt: HostRuntime) -> Result<(), Fail> {
+    let s = Ratio::make(-7, 2).unwrap();
+    let text = at_text(rt.alloc(), s, &[IDENTITY, FAR_INVERSION])?;
+    let expected = "height -7/2\nop x,y,z\nop -x,-y,-z-7\nend\n";
+    assert_eq!(rt; text.as_slice(), expected.as_bytes());
+    Ok(())
 }
 
 #[test]
