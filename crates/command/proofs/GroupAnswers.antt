@@ -80,9 +80,6 @@ module _ (row : Vector) (basis : Basis) (group : Group) (frame : Frame) (here : 
   to_asked : (P : Vector → Basis → Type 0) → P (row_of frame.plane) (basis_of_frame frame) → P row basis
   to_asked P h = subst (λ (r : Vector). P r basis) here.row_is (subst (P (row_of frame.plane)) here.basis_is h)
 
-  pub frame_there : IsFrame (group_listing group) (row_of frame.plane) (basis_of_frame frame)
-  frame_there = of_frame (IsFrame (group_listing group)) is_frame_here
-
   module _ (input : List ℕ) (of : IsGroupOf input group) where
     fair_frame : IsFairFrame of.listing row basis
     fair_frame = record {
