@@ -15,8 +15,8 @@ use Rattle.closure.specs.declared.limits.TheConstants.{MAX_RESIDUES}
 use Rattle.closure.specs.Residues.{residue}
 use Rattle.closure.specs.Spans.{AreResiduesOf, coset, with_centring}
 use Rattle.closure.specs.Fineness.{IsTooFine}
-use Rattle.closure.specs.ListLaws.{AllPairs-append, AllPairs-map, Contains-map, Contains-from_map}
-use Rattle.closure.specs.ResidueLaws.{residue-same, residue-residue, residue-plus, residue-minus}
+use Rattle.closure.specs.Laws.ListLaws.{AllPairs-append, AllPairs-map, Contains-map, Contains-from_map}
+use Rattle.closure.specs.Laws.ResidueLaws.{residue-same, residue-residue, residue-plus, residue-minus}
 use Rattle.closure.proofs.Spans.{multiple-zero, multiple-suc, lattice-multiple, lattice-by_residue, generates_with, lattice-with, lattice-centring}
 
 -- ---- sums of three vectors and multiples

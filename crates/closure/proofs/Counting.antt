@@ -13,8 +13,8 @@ use Rattle.closure.specs.declared.limits.TheConstants.{MAX_RESIDUES}
 use Rattle.closure.specs.Residues.{residue}
 use Rattle.closure.specs.Fineness.{IsTooFine}
 use Rattle.closure.specs.Spans.{AreResiduesOf}
-use Rattle.closure.specs.ListLaws.{distinct_from_apart}
-use Rattle.closure.specs.ResidueLaws.{whole_from_residues}
+use Rattle.closure.specs.Laws.ListLaws.{distinct_from_apart}
+use Rattle.closure.specs.Laws.ResidueLaws.{whole_from_residues}
 
 different : (m n : ℕ) → ¬ (m ≡ n) → eqb m n ≡ false
 different m n ne = go (eqb m n) refl

@@ -10,9 +10,9 @@ use Rattle.motions.specs.declared.motion.Motion3.{Motion3}
 use Rattle.motions.specs.Views.{parts, motion_of}
 use Rattle.closure.specs.declared.lattice.Lattice.{Lattice}
 use Rattle.closure.specs.Residues.{has_residue}
-use Rattle.closure.specs.ResidueLaws.{has_residue-is}
+use Rattle.closure.specs.Laws.ResidueLaws.{has_residue-is}
 use Rattle.closure.specs.Lattices.{residues_of, InLattice, IsLatticeShift, first_with, IsHome}
-use Rattle.closure.specs.ShiftLaws.{modulo, keeps_is, first_is_home}
+use Rattle.closure.specs.Laws.ShiftLaws.{modulo, keeps_is, first_is_home}
 
 module _ (lattice : Lattice) (m : Motion3) (now : List (List Part)) (is : map parts now ≡ residues_of lattice) where
   pub shift_decided : (b : Bool) → b ≡ has_residue (map parts now) (parts m.t) → (motion_of m).matrix ≡ unit_matrix → IsTrue b ↔ IsLatticeShift lattice m

@@ -12,15 +12,15 @@ use Rattle.symmetry.specs.Vectors.{Vector}
 use Rattle.symmetry.specs.Motions.{Motion, translation}
 use Rattle.symmetry.specs.Groups.{Listing, Generates, IsInLattice, SameModulo, IsMember, IsGroup}
 use Rattle.symmetry.proofs.LatticeLaws.{lattice-made}
-use Rattle.motions.specs.MotionLaws.{followed_by_laws}
+use Rattle.motions.specs.Laws.MotionLaws.{followed_by_laws}
 use Rattle.motions.specs.declared.motion.Motion3.{Motion3}
 use Rattle.motions.specs.Views.{motion_of}
 use Rattle.closure.specs.declared.lattice.Lattice.{Lattice}
 use Rattle.closure.specs.Fineness.{centrings_alone, IsTooFine}
 use Rattle.closure.specs.Lattices.{residues_of, IsLatticeOf}
-use Rattle.closure.specs.ResidueLaws.{residue-residue}
+use Rattle.closure.specs.Laws.ResidueLaws.{residue-residue}
 use Rattle.closure.specs.Residues.{residue}
-use Rattle.closure.specs.ShiftLaws.{modulo, shifts_lem, residues-reduced}
+use Rattle.closure.specs.Laws.ShiftLaws.{modulo, shifts_lem, residues-reduced}
 use Rattle.closure.proofs.Spans.{lattice-more, lattice-by_residue}
 use Rattle.closure.proofs.Made.{too_fine-more}
 use Rattle.closure.proofs.Members.{same_modulo, member_is, group_is}

@@ -16,7 +16,7 @@ use Rattle.symmetry.proofs.LatticeLaws.{lattice-opposite, same_refl, same_sym, s
 use Rattle.symmetry.proofs.MotionLaws.{inverse_by, followed_by-inverse_by, inverse_by-followed_by}
 use Rattle.closure.specs.declared.lattice.Lattice.{Lattice}
 use Rattle.closure.specs.Lattices.{IsLatticeOf}
-use Rattle.closure.specs.ShiftLaws.{modulo}
+use Rattle.closure.specs.Laws.ShiftLaws.{modulo}
 use Rattle.closure.specs.GroupErrors.{KeepsLattice, HasInverse, IsFirstOpen, AllKeepLattice, IsClosed, IsFaultAt}
 use Rattle.closure.proofs.Members.{same_modulo, member_is, keeps_lattice}
 use Rattle.closure.proofs.Firsts.{kept_listing, kept_lattice, kept_member}

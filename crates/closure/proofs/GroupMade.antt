@@ -16,7 +16,7 @@ use Rattle.symmetry.specs.Groups.{Listing, Generates, IsInLattice, SameModulo, I
 use Rattle.symmetry.specs.Lists.{ComesBefore}
 use Rattle.symmetry.specs.Sizes.{IsSmall, IsVectorWithin}
 use Rattle.motions.specs.declared.motion.Motion3.{Motion3}
-use Rattle.motions.specs.MotionLaws.{IsVectorWithin-more}
+use Rattle.motions.specs.Laws.MotionLaws.{IsVectorWithin-more}
 use Rattle.motions.specs.ListedSizes.{IsSmallWithin}
 use Rattle.motions.specs.Views.{motion_of, parts}
 use Rattle.symmetry.proofs.LatticeLaws.{same_sym}
@@ -30,9 +30,9 @@ use Rattle.closure.specs.Fineness.{centrings_alone, IsTooFine}
 use Rattle.closure.specs.FromLattice.{error_of}
 use Rattle.closure.specs.GroupErrors.{IsGroupError, IsWithinLimits}
 use Rattle.closure.specs.Lattices.{IsLatticeOf, residues_of}
-use Rattle.closure.specs.ResidueLaws.{has_residue-is}
+use Rattle.closure.specs.Laws.ResidueLaws.{has_residue-is}
 use Rattle.closure.specs.Operations.{listing_with, AreApart, HoldsTranslations}
-use Rattle.closure.specs.ShiftLaws.{modulo}
+use Rattle.closure.specs.Laws.ShiftLaws.{modulo}
 use Rattle.closure.proofs.FirstOrder.{same_order}
 use Rattle.closure.proofs.Firsts.{lattice_of_listed, too_fine_is, first_listed, kept_lattice, kept_member, kept_group}
 use Rattle.closure.proofs.GroupFaults.{fault_is, same_is_equivalence}

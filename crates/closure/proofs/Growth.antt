@@ -9,7 +9,7 @@ use Rattle.closure.specs.declared.limits.TheConstants.{MAX_RESIDUES}
 use Rattle.closure.specs.Fineness.{IsTooFine}
 use Rattle.closure.specs.Residues.{residue, has_residue}
 use Rattle.closure.specs.Spans.{AreResiduesOf, coset, with_centring}
-use Rattle.closure.specs.ResidueLaws.{residue-residue, has_residue-is, has_residue-false}
+use Rattle.closure.specs.Laws.ResidueLaws.{residue-residue, has_residue-is, has_residue-false}
 use Rattle.closure.proofs.Cosets.{AreCosets, cosets_none, cosets_more, cosets_all, cosets_too_fine}
 
 -- one more residue of the coset: the one at i, which the code reads from the list as it has grown

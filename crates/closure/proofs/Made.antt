@@ -15,11 +15,11 @@ use Rattle.closure.specs.Residues.{IsWhole, residue, IsResidue, IsResidueEntry}
 use Rattle.closure.specs.declared.lattice_fault.LatticeFault.{LatticeFault}
 use Rattle.closure.specs.declared.lattice_fault.LatticeFault.TheVariants.{TooFine, NoMemory}
 use Rattle.closure.specs.Faults.{IsLatticeFault}
-use Rattle.closure.specs.Remainders.{Divides-zero, Divides-self}
+use Rattle.closure.specs.Laws.Remainders.{Divides-zero, Divides-self}
 use Rattle.closure.specs.Fineness.{centrings_alone, IsTooFine}
 use Rattle.closure.specs.Spans.{AreResiduesOf, with_centring}
-use Rattle.closure.specs.ListLaws.{nothing_contained}
-use Rattle.closure.specs.ResidueLaws.{whole-origin, whole-plus, whole-minus, whole_from_residues, residue-same}
+use Rattle.closure.specs.Laws.ListLaws.{nothing_contained}
+use Rattle.closure.specs.Laws.ResidueLaws.{whole-origin, whole-plus, whole-minus, whole_from_residues, residue-same}
 use Rattle.closure.proofs.Spans.{lattice-whole, lattice-more}
 
 -- ---- no vectors: the cell edges alone

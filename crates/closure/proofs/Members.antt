@@ -11,7 +11,7 @@ use Rattle.symmetry.proofs.GroupLaws.{group_by_listed}
 use Rattle.closure.specs.declared.lattice.Lattice.{Lattice}
 use Rattle.closure.specs.Lattices.{IsLatticeOf}
 use Rattle.closure.specs.GroupErrors.{KeepsLattice}
-use Rattle.closure.specs.ShiftLaws.{modulo, same_is, keeps_vectors}
+use Rattle.closure.specs.Laws.ShiftLaws.{modulo, same_is, keeps_vectors}
 
 module _ (g : Listing) (lattice : Lattice) (h : IsLatticeOf g lattice) where
   pub same_modulo : (m n : Motion) → IsSame (modulo lattice) m n ↔ SameModulo g m n

@@ -7,7 +7,7 @@ use Rattle.symmetry.proofs.LatticeLaws.{lattice-made}
 use Rattle.motions.specs.Views.{parts}
 use Rattle.closure.specs.declared.group.Group.{Group}
 use Rattle.closure.specs.Residues.{residue, has_residue}
-use Rattle.closure.specs.ResidueLaws.{has_residue-is, residue-residue}
+use Rattle.closure.specs.Laws.ResidueLaws.{has_residue-is, residue-residue}
 use Rattle.closure.specs.Lattices.{residues_of, IsLatticeOf}
 use Rattle.closure.specs.Groups.{group_listing, lattice_of}
 use Rattle.closure.proofs.Spans.{lattice-by_residue}

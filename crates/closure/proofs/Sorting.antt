@@ -16,13 +16,13 @@ use Rattle.symmetry.specs.Groups.{Listing, IsInLattice, zero_vector}
 use Rattle.symmetry.specs.Frames.{same_vector}
 use Rattle.symmetry.proofs.LatticeLaws.{lattice-plus, lattice-opposite}
 use Rattle.motions.specs.Views.{parts}
-use Rattle.motions.specs.MotionLaws.{same_vector-is}
+use Rattle.motions.specs.Laws.MotionLaws.{same_vector-is}
 use Rattle.closure.specs.Residues.{residue, has_residue, vector_cmp, is_before, AreInOrder, IsResidue, IsResidueGroup}
 use Rattle.closure.specs.Spans.{AreResiduesOf}
-use Rattle.closure.specs.ResidueLaws.{has_residue-is}
-use Rattle.closure.specs.VectorOrder.{vector_cmp_total, before_from_not}
+use Rattle.closure.specs.Laws.ResidueLaws.{has_residue-is}
+use Rattle.closure.specs.Laws.VectorOrder.{vector_cmp_total, before_from_not}
 use Rattle.closure.proofs.Membership.{three_entries}
-use Rattle.closure.specs.ListLaws.{AllPairs-map, distinct_from_apart, apart_from_distinct}
+use Rattle.closure.specs.Laws.ListLaws.{AllPairs-map, distinct_from_apart, apart_from_distinct}
 
 -- ---- residues in another order
 

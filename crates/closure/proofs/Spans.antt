@@ -10,7 +10,7 @@ use Rattle.symmetry.proofs.VectorLaws.{vector_path, minus-plus}
 use Rattle.symmetry.proofs.LatticeLaws.{lattice-plus, lattice-opposite, lattice-made}
 use Rattle.closure.specs.Residues.{IsWhole, residue}
 use Rattle.closure.specs.Spans.{with_centring}
-use Rattle.closure.specs.ResidueLaws.{whole_from_residues}
+use Rattle.closure.specs.Laws.ResidueLaws.{whole_from_residues}
 
 -- ---- multiples
 

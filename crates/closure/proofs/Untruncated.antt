@@ -11,10 +11,10 @@ use Rattle.symmetry.specs.Motions.{Motion, followed_by, identity}
 use Rattle.symmetry.specs.Groups.{Listing, IsInLattice, SameModulo, IsGroup, IsListedGroup}
 use Rattle.symmetry.proofs.GroupLaws.{group_by_listed}
 use Rattle.motions.specs.Equality.{same_matrix}
-use Rattle.motions.specs.MotionLaws.{same_matrix-is}
+use Rattle.motions.specs.Laws.MotionLaws.{same_matrix-is}
 use Rattle.closure.specs.declared.lattice.Lattice.{Lattice}
 use Rattle.closure.specs.Residues.{has_residue}
-use Rattle.closure.specs.ResidueLaws.{has_residue-is}
+use Rattle.closure.specs.Laws.ResidueLaws.{has_residue-is}
 use Rattle.closure.specs.Lattices.{residues_of, IsLatticeOf}
 
 -- a motion of the list that passes a test, where there is known to be one

@@ -1,14 +1,9 @@
 pub mod Residues
-pub mod ListLaws
-pub mod Remainders
-pub mod ResidueLaws
-pub mod VectorOrder
+pub mod Laws
 pub mod Spans
 pub mod Fineness
 pub mod Faults
 pub mod Lattices
-pub mod FirstLaws
-pub mod ShiftLaws
 pub mod Operations
 pub mod FromLattice
 pub mod GroupErrors

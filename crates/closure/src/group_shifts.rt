@@ -4,7 +4,7 @@ ghost use Rattle.symmetry.specs.Sizes.{IsVectorWithin};
 ghost use Rattle.motions.specs.Views.{motion_of};
 ghost use Rattle.closure.specs.Groups.{lattice_of};
 ghost use Rattle.closure.specs.Lattices.{lattice_home, IsHome, IsLatticeShift};
-ghost use Rattle.closure.specs.ShiftLaws.{by_meaning_lem, shifts_lem, home_is_same_lem, homes_lem};
+ghost use Rattle.closure.specs.Laws.ShiftLaws.{by_meaning_lem, shifts_lem, home_is_same_lem, homes_lem};
 
 use crate::group::Group;
 use crate::lattice::Lattice;

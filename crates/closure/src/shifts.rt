@@ -7,7 +7,7 @@ ghost use Rattle.symmetry.specs.Vectors.{image, origin, unit_matrix};
 ghost use Rattle.motions.specs.Views.{motion_of, parts};
 ghost use Rattle.closure.specs.Residues.{has_residue, is_before, IsResidue};
 ghost use Rattle.closure.specs.Lattices.{first_with, lattice_home, IsHome, IsLatticeShift};
-ghost use Rattle.closure.specs.ShiftLaws.{modulo, by_meaning_lem, shifts_lem, home_is_same_lem, homes_lem};
+ghost use Rattle.closure.specs.Laws.ShiftLaws.{modulo, by_meaning_lem, shifts_lem, home_is_same_lem, homes_lem};
 
 use crate::lattice::Lattice;
 use crate::residues::{lists_residue, residue_of, residue_of_sum};

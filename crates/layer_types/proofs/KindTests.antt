@@ -7,14 +7,14 @@ use Rattle.quotient.specs.Order.{FormTests}
 use Rattle.quotient.proofs.CheckLemma.{TestsLaws}
 use Rattle.quotient.proofs.OrderLemma.{FormLaws}
 use Rattle.motions.specs.Signs.{same_sign}
-use Rattle.motions.specs.SignLaws.{same_sign-is}
+use Rattle.motions.specs.Laws.SignLaws.{same_sign-is}
 use Rattle.motions.specs.PlaneMatrices.{minus2, same_matrix2, same_pair}
-use Rattle.motions.specs.PlaneMatrixLaws.{same_matrix2-is, same_pair-is}
+use Rattle.motions.specs.Laws.PlaneMatrixLaws.{same_matrix2-is, same_pair-is}
 use Rattle.motions.specs.Layers.{PlanarMotion, planar_identity, same_planar}
-use Rattle.motions.specs.LayerLaws.{same_planar-is}
+use Rattle.motions.specs.Laws.LayerLaws.{same_planar-is}
 use Rattle.layer_types.specs.Lattices.{IsHome, home_vector, in_lattice, keeps_lattice, layer_kind}
-use Rattle.layer_types.specs.LatticeLaws.{home_is_home, in_lattice-is}
-use Rattle.layer_types.specs.ShiftLaws.{keeps_is, same_is}
+use Rattle.layer_types.specs.Laws.LatticeLaws.{home_is_home, in_lattice-is}
+use Rattle.layer_types.specs.Laws.ShiftLaws.{keeps_is, same_is}
 use Rattle.layer_types.specs.LayerTypes.{HaveOneBlock, block_entries, layer_form}
 
 -- whether two motions have one matrix and one sign

@@ -30,10 +30,10 @@ use Rattle.motions.specs.declared.layer.LayerMotion.{LayerMotion}
 use Rattle.motions.specs.PlaneMatrices.{Matrix2, Pair}
 use Rattle.motions.specs.PlaneSizes.{IsMatrix2Within, IsPairWithin}
 use Rattle.motions.specs.Layers.{HasHalfPart, IsOdd, IsPlanarSmall, PlanarMotion, planar_of, same_planar}
-use Rattle.motions.specs.LayerLaws.{planar_followed_by_laws, same_planar-is}
+use Rattle.motions.specs.Laws.LayerLaws.{planar_followed_by_laws, same_planar-is}
 use Rattle.layer_types.specs.declared.layer_type.LayerType.{LayerType}
 use Rattle.layer_types.specs.Lattices.{IsReduced, edge, keeps_lattice, layer_kind}
-use Rattle.layer_types.specs.ShiftLaws.{keeps_is, shifts_lem}
+use Rattle.layer_types.specs.Laws.ShiftLaws.{keeps_is, shifts_lem}
 use Rattle.layer_types.specs.Rows.{Row, layer_row}
 use Rattle.layer_types.specs.LayerTypes.{AreGenerators, HaveOneBlock, IsLayerType, layer_form}
 use Rattle.layer_types.proofs.KindTests.{apart_lem, layer_form_laws, layer_form_tests, layer_tests, layer_tests_laws, same_block}

@@ -1,6 +1,5 @@
 pub mod Generators
-pub mod LatticeLaws
+pub mod Laws
 pub mod Lattices
 pub mod LayerTypes
 pub mod Rows
-pub mod ShiftLaws

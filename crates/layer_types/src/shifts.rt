@@ -6,7 +6,7 @@ ghost use Rattle.motions.specs.PlaneMatrices.{image2, unit2};
 ghost use Rattle.motions.specs.PlaneSizes.{IsMatrix2Within, IsPairWithin};
 ghost use Rattle.motions.specs.PlaneViews.{matrix2_of, pair_of};
 ghost use Rattle.layer_types.specs.Lattices.{IsHome, IsLayerShift, centring, home_vector, in_lattice, keeps_lattice, layer_home, leaves};
-ghost use Rattle.layer_types.specs.ShiftLaws.{by_meaning_lem, home_is_same_lem, homes_lem, shifts_lem};
+ghost use Rattle.layer_types.specs.Laws.ShiftLaws.{by_meaning_lem, home_is_same_lem, homes_lem, shifts_lem};
 
 use fractions::UNIT;
 use motions::LayerMotion;

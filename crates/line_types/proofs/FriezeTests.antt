@@ -4,10 +4,10 @@ use Rattle.std.proofs.lemmas.Slice.Eq.{slice_eq-Decides}
 use Rattle.std.specs.Cmp.Lexicographic.{pointwise}
 use Rattle.motions.specs.declared.frieze.FriezeMotion.{FriezeMotion}
 use Rattle.motions.specs.FriezeMotions.{frieze_of, same_frieze}
-use Rattle.motions.specs.FriezeLaws.{same_frieze-is}
+use Rattle.motions.specs.Laws.FriezeLaws.{same_frieze-is}
 use Rattle.line_types.specs.declared.friezes.FriezeType.{FriezeType}
 use Rattle.line_types.specs.Friezes.{AreFriezeGenerators, IsFriezeType, frieze_line, frieze_type_of}
-use Rattle.line_types.specs.FriezeLaws.{frieze_line_laws}
+use Rattle.line_types.specs.Laws.FriezeLaws.{frieze_line_laws}
 use Rattle.line_types.specs.FriezeRows.{frieze_row}
 use Rattle.line_types.proofs.LineTests.{is_type, is_type_is}
 

@@ -23,7 +23,7 @@ use Rattle.quotient.specs.Order.{FormTests, in_order}
 use Rattle.quotient.proofs.CheckLemma.{TestsLaws, meets_is}
 use Rattle.quotient.proofs.OrderLemma.{FormLaws, in_order_is}
 use Rattle.line_types.specs.Lines.{Line, modulo_lattice, at_home}
-use Rattle.line_types.specs.LineLaws.{LineLaws, homes, entries_of_same, keeps, lattice_group}
+use Rattle.line_types.specs.Laws.LineLaws.{LineLaws, homes, entries_of_same, keeps, lattice_group}
 use Rattle.line_types.specs.Types.{Row, LineType, IsLineType, form_of, largest_order}
 
 module _ (L : Line) where

@@ -4,10 +4,10 @@ use Rattle.std.proofs.lemmas.Slice.Eq.{slice_eq-Decides}
 use Rattle.std.specs.Cmp.Lexicographic.{pointwise}
 use Rattle.motions.specs.declared.rod.RodMotion.{RodMotion}
 use Rattle.motions.specs.RodMotions.{rod_of, same_rod}
-use Rattle.motions.specs.RodLaws.{same_rod-is}
+use Rattle.motions.specs.Laws.RodLaws.{same_rod-is}
 use Rattle.line_types.specs.declared.rods.RodType.{RodType}
 use Rattle.line_types.specs.Rods.{AreRodGenerators, IsRodType, rod_line, rod_type_of}
-use Rattle.line_types.specs.RodLaws.{rod_line_laws}
+use Rattle.line_types.specs.Laws.RodLaws.{rod_line_laws}
 use Rattle.line_types.specs.RodRows.{rod_row}
 use Rattle.line_types.proofs.LineTests.{is_type, is_type_is}
 

@@ -1,7 +1,7 @@
 -- How code tells the lattice translations: by their home.
 use Rattle.std.proofs.Common.{◌≡◌, ◌↔◌, Bool, IsTrue, sym, ◌∙◌}
 use Rattle.line_types.specs.Lines.{Line, IsLatticeTranslation, at_home}
-use Rattle.line_types.specs.LineLaws.{LineLaws, translation_by_home}
+use Rattle.line_types.specs.Laws.LineLaws.{LineLaws, translation_by_home}
 
 pub by_equal_home : (L : Line) → LineLaws L → (m : L.Value) {home one : L.Operation} {b : Bool} → b ≡ L.same home one
     → home ≡ at_home L (L.of m) → one ≡ L.one → IsTrue b ↔ IsLatticeTranslation L m

@@ -2,9 +2,9 @@
 ghost use Rattle.std.specs.Prelude.{◌≡◌, ◌^◌, ◌≤ℤ◌, ◌<ℤ◌, pos};
 ghost use Rattle.fractions.specs.declared.part.TheConstants.{UNIT};
 ghost use Rattle.motions.specs.FriezeMotions.{frieze_of};
-ghost use Rattle.line_types.specs.FriezeLaws.{frieze_line_laws};
+ghost use Rattle.line_types.specs.Laws.FriezeLaws.{frieze_line_laws};
 ghost use Rattle.line_types.specs.Friezes.{frieze_home, frieze_line};
-ghost use Rattle.line_types.specs.LineLaws.{by_meaning, home_is_same, homes, lattice_group};
+ghost use Rattle.line_types.specs.Laws.LineLaws.{by_meaning, home_is_same, homes, lattice_group};
 ghost use Rattle.line_types.specs.Lines.{IsLatticeTranslation};
 
 use fractions::Part;

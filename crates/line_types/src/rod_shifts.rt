@@ -2,9 +2,9 @@
 ghost use Rattle.std.specs.Prelude.{◌≡◌, ◌^◌, ◌≤ℤ◌, ◌<ℤ◌, pos};
 ghost use Rattle.fractions.specs.declared.part.TheConstants.{UNIT};
 ghost use Rattle.motions.specs.RodMotions.{rod_of};
-ghost use Rattle.line_types.specs.RodLaws.{rod_line_laws};
+ghost use Rattle.line_types.specs.Laws.RodLaws.{rod_line_laws};
 ghost use Rattle.line_types.specs.Rods.{rod_home, rod_line};
-ghost use Rattle.line_types.specs.LineLaws.{by_meaning, home_is_same, homes, lattice_group};
+ghost use Rattle.line_types.specs.Laws.LineLaws.{by_meaning, home_is_same, homes, lattice_group};
 ghost use Rattle.line_types.specs.Lines.{IsLatticeTranslation};
 
 use fractions::Part;

@@ -6,7 +6,7 @@ use Rattle.symmetry.specs.Vectors.{Matrix, Vector, dot, image, multiple, plus, p
 use Rattle.symmetry.specs.Motions.{Motion, followed_by}
 use Rattle.symmetry.proofs.VectorLaws.{vector_path}
 use Rattle.symmetry.proofs.MatrixLaws.{matrix_path}
-use Rattle.motions.specs.SignLaws.{sign_value-sign_product}
+use Rattle.motions.specs.Laws.SignLaws.{sign_value-sign_product}
 use Rattle.motions.specs.Signs.{sign_value}
 use Rattle.motions.specs.Layers.{IsBlockForm, PlanarMotion, block_matrix, planar_followed_by}
 

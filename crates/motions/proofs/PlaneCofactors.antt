@@ -5,11 +5,11 @@ use Rattle.integers.proofs.Spread.{spread}
 use Rattle.integers.proofs.Solver.{Expr.{var, ◌⊕◌, ◌⊝◌, ◌⊗◌}, ring}
 use Rattle.integers.proofs.Ring.{mul-eq-one}
 use Rattle.motions.specs.PlaneMatrices.{Pair, Matrix2, adjugate2, determinant2, image2, opposite2, opposite_adjugate2, origin2, plus2, product2, unit2}
-use Rattle.motions.specs.PlaneMatrixLaws.{image2-opposite, image2-product, image2-unit, matrix2_path, opposite-plus2_same, pair_path, plus2-opposite}
+use Rattle.motions.specs.Laws.PlaneMatrixLaws.{image2-opposite, image2-product, image2-unit, matrix2_path, opposite-plus2_same, pair_path, plus2-opposite}
 use Rattle.motions.specs.Signs.{sign_product}
-use Rattle.motions.specs.SignLaws.{sign_product-same}
+use Rattle.motions.specs.Laws.SignLaws.{sign_product-same}
 use Rattle.motions.specs.Layers.{PlanarMotion, planar_followed_by, planar_identity}
-use Rattle.motions.specs.LayerLaws.{planar_path}
+use Rattle.motions.specs.Laws.LayerLaws.{planar_path}
 
 -- a product with a number whose sign is changed
 product-negative : (a b : ℤ) → a *ℤ (negsuc 0 *ℤ b) ≡ negsuc 0 *ℤ (a *ℤ b)

@@ -3,10 +3,10 @@ use Rattle.std.proofs.Common.{◌≡◌, ℤ, pos, ◌+ℤ◌, ◌*ℤ◌, neg_�
 use Rattle.integers.proofs.Solver.{Expr.{var, num, neg, ◌⊕◌, ◌⊗◌}, linear, given}
 use Rattle.motions.specs.declared.motion.Sign.{Sign}
 use Rattle.motions.specs.Signs.{sign_value, sign_product}
-use Rattle.motions.specs.SignLaws.{sign_product-same, sign_value-sign_product}
+use Rattle.motions.specs.Laws.SignLaws.{sign_product-same, sign_value-sign_product}
 use Rattle.motions.specs.PlaneMatrices.{product2, unit2}
 use Rattle.motions.specs.RodMotions.{RodOperation, rod_followed_by, rod_identity}
-use Rattle.motions.specs.RodLaws.{rod_path}
+use Rattle.motions.specs.Laws.RodLaws.{rod_path}
 
 along_back : (e : Sign) (t u : ℤ) → u ≡ neg_ℤ (sign_value e *ℤ t) → (sign_value e *ℤ t +ℤ u ≡ pos 0) × (sign_value e *ℤ u +ℤ t ≡ pos 0)
 along_back e t u is =

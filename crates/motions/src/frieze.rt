@@ -4,8 +4,8 @@ ghost use Rattle.std.specs.Cmp.{on_equiv, partial_equiv_from_equiv};
 ghost use Rattle.integers.specs.Size.{IsWithin};
 ghost use Rattle.integers.proofs.Ring.{IsWithin-more};
 ghost use Rattle.motions.specs.FriezeMotions.{FriezeOperation, frieze_followed_by, frieze_identity, frieze_of, same_frieze};
-ghost use Rattle.motions.specs.FriezeLaws.{frieze_laws, same_frieze-is, same_frieze_laws};
-ghost use Rattle.motions.specs.LineLaws.{along_within, nothing_within};
+ghost use Rattle.motions.specs.Laws.FriezeLaws.{frieze_laws, same_frieze-is, same_frieze_laws};
+ghost use Rattle.motions.specs.Laws.LineLaws.{along_within, nothing_within};
 
 use crate::line::{shift_along, shift_back};
 use crate::motion::Sign;

@@ -2,7 +2,7 @@
 ghost use Rattle.std.specs.Cmp.{on_equiv, partial_equiv_from_equiv};
 ghost use Rattle.std.specs.Prelude.{◌≡◌, ◌↔◌, ◌*ℤ◌, pos, IfSome, IsNone, MatchOption};
 ghost use Rattle.symmetry.specs.Motions.{Motion as MotionOfSpace, followed_by};
-ghost use Rattle.motions.specs.LayerLaws.{IsPairWithin-more, planar_followed_by_laws, planar_followed_by_within, planar_identity_within, same_planar-is, same_planar_laws};
+ghost use Rattle.motions.specs.Laws.LayerLaws.{IsPairWithin-more, planar_followed_by_laws, planar_followed_by_within, planar_identity_within, same_planar-is, same_planar_laws};
 ghost use Rattle.motions.specs.Layers.{HasHalfPart, IsBlockForm, IsOdd, IsPlanarSmall, PlanarMotion, planar_followed_by, planar_identity, planar_of, same_planar};
 ghost use Rattle.motions.specs.PlaneSizes.{IsPairWithin};
 ghost use Rattle.motions.specs.Views.{motion_of};

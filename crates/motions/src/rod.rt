@@ -4,8 +4,8 @@ ghost use Rattle.std.specs.Cmp.{on_equiv, partial_equiv_from_equiv};
 ghost use Rattle.integers.specs.Size.{IsWithin};
 ghost use Rattle.integers.proofs.Ring.{IsWithin-more};
 ghost use Rattle.motions.specs.RodMotions.{IsRodSmall, RodOperation, rod_block, rod_followed_by, rod_identity, rod_of, same_rod};
-ghost use Rattle.motions.specs.RodLaws.{rod_laws, same_rod-is, same_rod_laws};
-ghost use Rattle.motions.specs.LineLaws.{along_within, nothing_within};
+ghost use Rattle.motions.specs.Laws.RodLaws.{rod_laws, same_rod-is, same_rod_laws};
+ghost use Rattle.motions.specs.Laws.LineLaws.{along_within, nothing_within};
 ghost use Rattle.motions.specs.Views.{motion_of};
 
 use crate::line::{shift_along, shift_back};

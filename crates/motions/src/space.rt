@@ -3,7 +3,7 @@ ghost use Rattle.std.specs.Cmp.{on_equiv, partial_equiv_from_equiv};
 ghost use Rattle.symmetry.specs.Motions.{Motion as MotionOfSpace, followed_by, identity};
 ghost use Rattle.symmetry.specs.Sizes.{IsSmall, IsVectorWithin};
 ghost use Rattle.motions.specs.Equality.{same_motion};
-ghost use Rattle.motions.specs.MotionLaws.{same_motion_laws, same_motion-is, followed_by_laws, followed_by_within, identity_within, IsVectorWithin-more};
+ghost use Rattle.motions.specs.Laws.MotionLaws.{same_motion_laws, same_motion-is, followed_by_laws, followed_by_within, identity_within, IsVectorWithin-more};
 ghost use Rattle.motions.specs.Views.{motion_of};
 
 use crate::equality::{is_same_matrix, is_same_shift};

@@ -17,7 +17,7 @@ use Rattle.symmetry.specs.Groups.{Listing}
 use Rattle.symmetry.specs.Frames.{same_vector}
 use Rattle.symmetry.specs.Sizes.{IsSmall, IsVectorWithin}
 use Rattle.motions.specs.ListedSizes.{IsSmallWithin}
-use Rattle.motions.specs.MotionLaws.{same_vector-is}
+use Rattle.motions.specs.Laws.MotionLaws.{same_vector-is}
 use Rattle.motions.specs.Views.{motion_of, vector_of}
 use Rattle.motions.specs.declared.motion.Motion3.{Motion3}
 use Rattle.orbits.specs.declared.limits.TheConstants.{WIDE}

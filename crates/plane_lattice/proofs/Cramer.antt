@@ -11,7 +11,7 @@ use Rattle.plane_lattice.specs.Skews.{IsFar}
 use Rattle.symmetry.proofs.VectorLaws.{vector_path}
 use Rattle.symmetry.proofs.FrameLaws.{combination-multiple, cramer}
 use Rattle.plane_lattice.specs.Coordinates.{volume, scaled, IsPlaneCombination}
-use Rattle.plane_lattice.specs.QuotientLaws.{scaled-combination}
+use Rattle.plane_lattice.specs.Laws.QuotientLaws.{scaled-combination}
 
 -- a common factor other than zero
 pub multiple_cancel : (k : ℤ) (v w : Vector) → ¬ (k ≡ pos 0) → multiple k v ≡ multiple k w → v ≡ w

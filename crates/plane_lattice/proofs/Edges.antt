@@ -10,7 +10,7 @@ use Rattle.symmetry.specs.Frames.{Basis, combination}
 use Rattle.symmetry.proofs.VectorLaws.{vector_path, dot-multiple}
 use Rattle.symmetry.proofs.FrameLaws.{combination-multiple}
 use Rattle.plane_lattice.specs.Coordinates.{volume, scaled, HoldsEdges, IsCombination}
-use Rattle.plane_lattice.specs.QuotientLaws.{combination-plus}
+use Rattle.plane_lattice.specs.Laws.QuotientLaws.{combination-plus}
 use Rattle.plane_lattice.proofs.Cramer.{whole_x, whole_y, whole_z, combination_of}
 use Rattle.plane_lattice.proofs.Quotients.{rem-multiple, exact_quotient}
 

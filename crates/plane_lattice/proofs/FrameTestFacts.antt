@@ -9,7 +9,7 @@ use Rattle.symmetry.proofs.LatticeLaws.{lattice-plus, lattice-minus, lattice-mad
 use Rattle.plane_lattice.specs.FrameTests.{PassesFrameTests}
 use Rattle.symmetry.proofs.FrameLaws.{combination-minus}
 use Rattle.plane_lattice.specs.Coordinates.{volume}
-use Rattle.plane_lattice.specs.QuotientLaws.{along_a, along_b, combination-origin, combination-plus}
+use Rattle.plane_lattice.specs.Laws.QuotientLaws.{along_a, along_b, combination-origin, combination-plus}
 use Rattle.plane_lattice.proofs.Cramer.{combination_once}
 
 multiple-zero : (v : Vector) → multiple (pos 0) v ≡ origin

@@ -15,7 +15,7 @@ use Rattle.motions.specs.declared.index.TheConstants.{INDEX}
 use Rattle.plane_lattice.specs.Bounds.{largest_entry, largest_level, largest_home}
 use Rattle.plane_lattice.specs.Coordinates.{volume, scaled, IsPlaneCombination}
 use Rattle.plane_lattice.specs.PlaneLattice.{whole_part, home_shift, home_motion}
-use Rattle.plane_lattice.specs.QuotientLaws.{div_euclid_from, div_euclid_below}
+use Rattle.plane_lattice.specs.Laws.QuotientLaws.{div_euclid_from, div_euclid_below}
 use Rattle.plane_lattice.proofs.Sizes.{dot_within}
 
 minus-minus : (v w : Vector) → minus v (minus v w) ≡ w

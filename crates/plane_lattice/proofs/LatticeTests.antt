@@ -13,7 +13,7 @@ use Rattle.symmetry.proofs.LatticeLaws.{lattice-made}
 use Rattle.symmetry.proofs.VectorLaws.{vector_path, minus-plus}
 use Rattle.motions.specs.Views.{parts}
 use Rattle.closure.specs.Residues.{residue, IsWhole}
-use Rattle.closure.specs.ResidueLaws.{whole-minus_residue}
+use Rattle.closure.specs.Laws.ResidueLaws.{whole-minus_residue}
 use Rattle.plane_lattice.specs.Coordinates.{IsCombination, HoldsEdges}
 use Rattle.plane_lattice.proofs.Edges.{combination-sum, whole_edges}
 

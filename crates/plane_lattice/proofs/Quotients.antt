@@ -4,7 +4,7 @@ use Rattle.std.proofs.Math.Nat.{div-le_self}
 use Rattle.integers.specs.Size.{IsWithin}
 use Rattle.std.specs.Int.{int_div_euclid, int_rem_euclid}
 use Rattle.std.proofs.lemmas.Int.{ints}
-use Rattle.plane_lattice.specs.QuotientLaws.{div_euclid-multiple}
+use Rattle.plane_lattice.specs.Laws.QuotientLaws.{div_euclid-multiple}
 
 -- the remainder is what the quotient leaves
 pub rem_euclid_is : (x d : ℤ) → pos 1 ≤ℤ d → int_rem_euclid x d ≡ x -ℤ d *ℤ int_div_euclid x d

@@ -4,6 +4,6 @@ pub mod FrameOf
 pub mod FrameTests
 pub mod FrameView
 pub mod PlaneLattice
-pub mod QuotientLaws
+pub mod Laws
 pub mod Scanning
 pub mod Skews

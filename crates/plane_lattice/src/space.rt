@@ -8,7 +8,7 @@ ghost use Rattle.motions.specs.Views.{motion_of, row_of};
 ghost use Rattle.plane_lattice.specs.Coordinates.{IsPlaneCombination, volume};
 ghost use Rattle.plane_lattice.specs.FrameView.{basis_of_frame};
 ghost use Rattle.plane_lattice.specs.PlaneLattice.{IsPlaneShift, home_of_motion};
-ghost use Rattle.plane_lattice.specs.QuotientLaws.{plane_by_meaning, plane_shifts, plane_home_is_same, plane_homes};
+ghost use Rattle.plane_lattice.specs.Laws.QuotientLaws.{plane_by_meaning, plane_shifts, plane_home_is_same, plane_homes};
 
 use crate::coordinates::{is_in_plane, scaled, volume, whole_part, without};
 use crate::frame::Frame;

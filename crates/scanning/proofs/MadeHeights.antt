@@ -11,7 +11,7 @@ use Rattle.integers.proofs.Solver.{Expr.{var, num, ◌⊗◌}, given, linear}
 use Rattle.symmetry.specs.Motions.{Motion}
 use Rattle.symmetry.specs.Planes.{Height as HeightOfPlane, IsHeight}
 use Rattle.symmetry.specs.Scans.{IsInPeriod, IsLower, SpecialHeight}
-use Rattle.closure.specs.ListLaws.{AllPairs-map}
+use Rattle.closure.specs.Laws.ListLaws.{AllPairs-map}
 use Rattle.plane_lattice.specs.declared.frame.Frame.{Frame}
 use Rattle.scanning.specs.declared.height.Height.{Height}
 use Rattle.scanning.specs.HeightView.{IsInHalves, levels_of, special_of, specials_of}

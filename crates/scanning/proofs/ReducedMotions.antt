@@ -8,11 +8,11 @@ use Rattle.symmetry.specs.Vectors.{Vector}
 use Rattle.symmetry.specs.Motions.{Motion}
 use Rattle.symmetry.specs.Groups.{Listing, SameModulo}
 use Rattle.symmetry.specs.Sizes.{IsSmall, IsMatrixWithin, IsVectorWithin}
-use Rattle.motions.specs.MotionLaws.{IsVectorWithin-more}
+use Rattle.motions.specs.Laws.MotionLaws.{IsVectorWithin-more}
 use Rattle.closure.specs.declared.lattice.Lattice.{Lattice}
 use Rattle.closure.specs.Lattices.{IsHome, IsLatticeOf}
 use Rattle.closure.specs.Residues.{residue}
-use Rattle.closure.specs.Remainders.{zero-le-rem, rem-below}
+use Rattle.closure.specs.Laws.Remainders.{zero-le-rem, rem-below}
 
 reduced_within : (z : ℤ) → reduced_parts z ≡ z → IsWithin (unsigned_abs UNIT) z
 reduced_within z e =

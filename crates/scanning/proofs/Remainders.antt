@@ -7,7 +7,7 @@ use Rattle.integers.proofs.Order.{small_multiple}
 use Rattle.integers.proofs.Ring.{mul_zero}
 use Rattle.integers.proofs.Solver.{Expr.{var, num, ◌⊕◌, ◌⊗◌, neg}, given, linear, ring}
 use Rattle.integers.proofs.Spread.{spread}
-use Rattle.closure.specs.Remainders.{divided}
+use Rattle.closure.specs.Laws.Remainders.{divided}
 
 -- a multiple of d leaves nothing
 pub rem-multiple : (d q : ℤ) → pos 1 ≤ℤ d → int_rem (d *ℤ q) d ≡ pos 0

@@ -1,4 +1,5 @@
 pub mod Bytes
+pub mod Laws
 pub mod Marks
 pub mod Denominators
 pub mod Rows

@@ -1,6 +1,5 @@
 -- How large the numbers are that a reader keeps, by how many bytes it has read of the line.
 use Rattle.std.specs.Prelude.{ℕ, ◌*◌, ◌<◌, ◌≤◌, nat_abs}
-use Rattle.std.specs.Coded.{×_prop, →_prop, Unit-prop, le_prop}
 use Rattle.triplets.specs.declared.part.Row.{Row}
 use Rattle.triplets.specs.declared.part.PartReader.{PartReader}
 use Rattle.triplets.specs.declared.part.Spot.{Spot}
@@ -34,20 +33,3 @@ IsPlaceWithin n places.Start = Unit {0}
 IsPlaceWithin n (places.Closed v) = Unit {0}
 IsPlaceWithin n places.Behind = Unit {0}
 IsPlaceWithin n (places.Comment o) = Unit {0}
-
-IsSpotWithin-prop : (s : Spot) → IsProp (IsSpotWithin s)
-IsSpotWithin-prop (Digits n v) = ×_prop le_prop (×_prop le_prop (×_prop le_prop (×_prop (→_prop le_prop) (→_prop le_prop))))
-IsSpotWithin-prop (Divided v) = le_prop
-IsSpotWithin-prop (Below v d) = le_prop
-IsSpotWithin-prop Begin = Unit-prop
-IsSpotWithin-prop Signed = Unit-prop
-IsSpotWithin-prop Behind = Unit-prop
-
--- there is one proof of it at most
-pub IsPlaceWithin-prop : (n : ℕ) (p : LinePlace) → IsProp (IsPlaceWithin n p)
-IsPlaceWithin-prop n (places.Operation t) = ×_prop le_prop (IsSpotWithin-prop t.part.spot)
-IsPlaceWithin-prop n (places.Coordinates v) = ×_prop le_prop (IsSpotWithin-prop v.part.spot)
-IsPlaceWithin-prop n places.Start = Unit-prop
-IsPlaceWithin-prop n (places.Closed v) = Unit-prop
-IsPlaceWithin-prop n places.Behind = Unit-prop
-IsPlaceWithin-prop n (places.Comment o) = Unit-prop

@@ -1,6 +1,7 @@
 // The reader of a group text, in pieces.
 ghost use Rattle.std.specs.Prelude.{◌≤◌, ◌+◌};
-ghost use Rattle.triplets.specs.PlaceBounds.{IsPlaceWithin, IsPlaceWithin-prop};
+ghost use Rattle.triplets.specs.PlaceBounds.{IsPlaceWithin};
+ghost use Rattle.triplets.specs.Laws.PlaceLaws.{IsPlaceWithin-prop};
 
 use crate::fault::{TextFault, TextKind};
 use crate::line::LinePlace;

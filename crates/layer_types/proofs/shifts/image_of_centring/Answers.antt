@@ -2,7 +2,7 @@
 use Rattle.std.proofs.Common.{ℕ, ◌∷◌, List, []}
 use Rattle.integers.proofs.Solver.{Expr, Expr.{var, num, ◌⊕◌, ◌⊗◌}}
 use Rattle.integers.proofs.Coded.{code_is}
-use Rattle.motions.specs.PlaneMatrixLaws.{pair_path}
+use Rattle.motions.specs.Laws.PlaneMatrixLaws.{pair_path}
 use Rattle.motions.specs.PlaneViews.{matrix2_of}
 use Rattle.layer_types.specs.Lattices.{half_edge}
 use Rattle.layer_types.proofs.shifts.image_of_centring.Goals as goal

@@ -2,7 +2,7 @@
 use Rattle.std.proofs.Common.{ℕ, ◌^◌, ◌∷◌, List, []}
 use Rattle.integers.proofs.Solver.{Expr.{var, ◌⊕◌}}
 use Rattle.integers.proofs.Coded.{code_is}
-use Rattle.motions.specs.PlaneMatrixLaws.{pair_path}
+use Rattle.motions.specs.Laws.PlaneMatrixLaws.{pair_path}
 use Rattle.motions.specs.PlaneSizes.{largest_image2}
 use Rattle.motions.specs.PlaneViews.{pair_of}
 use Rattle.motions.proofs.plane_matrices.sum2.Goals as goal

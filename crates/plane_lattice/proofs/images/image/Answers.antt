@@ -4,7 +4,7 @@ use Rattle.symmetry.specs.Motions.{Motion, followed_by}
 use Rattle.symmetry.specs.Sizes.{IsVectorWithin}
 use Rattle.symmetry.specs.Vectors.{image}
 use Rattle.symmetry.proofs.VectorLaws.{plus-origin}
-use Rattle.motions.specs.MotionLaws.{IsVectorWithin-more}
+use Rattle.motions.specs.Laws.MotionLaws.{IsVectorWithin-more}
 use Rattle.motions.specs.Views.{motion_of, parts}
 use Rattle.plane_lattice.specs.Bounds.{largest_turned}
 use Rattle.plane_lattice.proofs.Sizes.{image_within}

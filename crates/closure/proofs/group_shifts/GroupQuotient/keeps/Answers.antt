@@ -1,7 +1,7 @@
 use Rattle.std.proofs.Common.{◌↔◌, IsTrue, subst}
 use Rattle.quotient.specs.Kind.{Keeps}
 use Rattle.motions.specs.Views.{motion_of}
-use Rattle.closure.specs.ShiftLaws.{modulo}
+use Rattle.closure.specs.Laws.ShiftLaws.{modulo}
 use Rattle.closure.proofs.group_shifts.GroupQuotient.keeps.Goals as goal
 
 pub returns : goal.returns

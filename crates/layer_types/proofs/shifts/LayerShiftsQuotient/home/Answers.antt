@@ -2,7 +2,7 @@
 use Rattle.std.proofs.Common.{subst, sym}
 use Rattle.motions.specs.Layers.{planar_of}
 use Rattle.layer_types.specs.Lattices.{IsHome}
-use Rattle.layer_types.specs.LatticeLaws.{home_is_home}
+use Rattle.layer_types.specs.Laws.LatticeLaws.{home_is_home}
 use Rattle.layer_types.proofs.shifts.LayerShiftsQuotient.home.Goals as goal
 
 pub returns-clause-first : goal.returns-clause-first

@@ -1,7 +1,7 @@
 -- A translation is a shift where its vector is in the lattice.
 use Rattle.std.proofs.Common.{sym, ◌∙◌}
 use Rattle.motions.specs.Layers.{planar_of}
-use Rattle.layer_types.specs.LatticeLaws.{in_lattice-is}
+use Rattle.layer_types.specs.Laws.LatticeLaws.{in_lattice-is}
 use Rattle.layer_types.proofs.shifts.LayerShiftsQuotient.is_shift.Goals as goal
 
 pub returns-then-is_translation : goal.returns-then-is_translation

@@ -2,7 +2,7 @@
 use Rattle.std.proofs.lemmas.Bool.Decides.{Decides-at}
 use Rattle.motions.specs.Layers.{planar_of}
 use Rattle.layer_types.specs.Lattices.{keeps_lattice}
-use Rattle.layer_types.specs.ShiftLaws.{keeps_is}
+use Rattle.layer_types.specs.Laws.ShiftLaws.{keeps_is}
 use Rattle.layer_types.proofs.shifts.LayerShiftsQuotient.keeps.Goals as goal
 
 pub returns : goal.returns

@@ -1,4 +1,4 @@
-use Rattle.line_types.specs.FriezeLaws.{frieze_line_laws}
+use Rattle.line_types.specs.Laws.FriezeLaws.{frieze_line_laws}
 use Rattle.line_types.specs.Friezes.{frieze_line}
 use Rattle.line_types.proofs.ShiftTests.{by_equal_home}
 use Rattle.line_types.proofs.frieze_shifts.FriezeShiftsQuotient.is_shift.Goals as goal

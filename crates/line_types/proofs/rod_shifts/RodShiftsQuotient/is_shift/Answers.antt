@@ -1,4 +1,4 @@
-use Rattle.line_types.specs.RodLaws.{rod_line_laws}
+use Rattle.line_types.specs.Laws.RodLaws.{rod_line_laws}
 use Rattle.line_types.specs.Rods.{rod_line}
 use Rattle.line_types.proofs.ShiftTests.{by_equal_home}
 use Rattle.line_types.proofs.rod_shifts.RodShiftsQuotient.is_shift.Goals as goal

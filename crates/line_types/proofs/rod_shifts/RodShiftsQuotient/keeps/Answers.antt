@@ -1,7 +1,7 @@
 use Rattle.std.proofs.Common.{refl}
 use Rattle.motions.specs.RodMotions.{rod_of}
-use Rattle.line_types.specs.LineLaws.{keeps}
-use Rattle.line_types.specs.RodLaws.{rod_line_laws}
+use Rattle.line_types.specs.Laws.LineLaws.{keeps}
+use Rattle.line_types.specs.Laws.RodLaws.{rod_line_laws}
 use Rattle.line_types.specs.Rods.{rod_line}
 use Rattle.line_types.proofs.rod_shifts.RodShiftsQuotient.keeps.Goals as goal
 

@@ -5,7 +5,7 @@ use Rattle.symmetry.specs.Vectors.{image}
 use Rattle.motions.specs.Views.{motion_of}
 use Rattle.plane_lattice.specs.Coordinates.{IsPlaneCombination}
 use Rattle.plane_lattice.specs.FrameView.{basis_of_frame}
-use Rattle.plane_lattice.specs.QuotientLaws.{plane_keeps}
+use Rattle.plane_lattice.specs.Laws.QuotientLaws.{plane_keeps}
 use Rattle.plane_lattice.proofs.space.FrameQuotient.keeps.Goals as goal
 
 pub returns : goal.returns

@@ -1,9 +1,9 @@
 -- Proofs that frieze motions meet the laws of operations along a line. They stand here since an `impl` cites them.
 use Rattle.std.proofs.Common.{refl, ◌+ℤ◌, ap}
 use Rattle.integers.proofs.Ring.{one_mul}
-use Rattle.motions.specs.SignLaws.{sign_product-plus}
-use Rattle.motions.specs.FriezeLaws.{frieze_laws, frieze_path, same_frieze-is}
-use Rattle.line_types.specs.LineLaws.{LineLaws}
+use Rattle.motions.specs.Laws.SignLaws.{sign_product-plus}
+use Rattle.motions.specs.Laws.FriezeLaws.{frieze_laws, frieze_path, same_frieze-is}
+use Rattle.line_types.specs.Laws.LineLaws.{LineLaws}
 use Rattle.line_types.specs.Friezes.{frieze_line}
 
 pub frieze_line_laws : LineLaws frieze_line

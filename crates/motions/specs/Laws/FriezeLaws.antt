@@ -7,8 +7,8 @@ use Rattle.std.proofs.lemmas.Bool.Decides.{Decides-int_eq}
 use Rattle.integers.proofs.Ring.{add_zero, one_mul}
 use Rattle.quotient.specs.Kind.{IsMonoid}
 use Rattle.motions.specs.Signs.{same_sign}
-use Rattle.motions.specs.SignLaws.{same_sign-is, sign_product_assoc, sign_product-plus}
-use Rattle.motions.specs.LineLaws.{along_assoc, along_from_zero}
+use Rattle.motions.specs.Laws.SignLaws.{same_sign-is, sign_product_assoc, sign_product-plus}
+use Rattle.motions.specs.Laws.LineLaws.{along_assoc, along_from_zero}
 use Rattle.motions.specs.FriezeMotions.{FriezeOperation, frieze_followed_by, frieze_identity, same_frieze}
 
 pub frieze_path : {m n : FriezeOperation} → m.along ≡ n.along → m.across ≡ n.across → m.shift ≡ n.shift → m ≡ n

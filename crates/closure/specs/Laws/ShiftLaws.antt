@@ -12,8 +12,8 @@ use Rattle.motions.specs.declared.motion.Motion3.{Motion3}
 use Rattle.motions.specs.Views.{parts, motion_of}
 use Rattle.closure.specs.declared.lattice.Lattice.{Lattice}
 use Rattle.closure.specs.Residues.{IsWhole, residue, has_residue}
-use Rattle.closure.specs.ResidueLaws.{has_residue-is, residue-same, residue-parts, whole_from_residues, whole-image, residue-residue}
-use Rattle.closure.specs.FirstLaws.{in_plus, in_flip, first-in, first-reduced, first-first, first-same}
+use Rattle.closure.specs.Laws.ResidueLaws.{has_residue-is, residue-same, residue-parts, whole_from_residues, whole-image, residue-residue}
+use Rattle.closure.specs.Laws.FirstLaws.{in_plus, in_flip, first-in, first-reduced, first-first, first-same}
 use Rattle.closure.specs.Lattices.{residues_of, InLattice, IsLatticeShift, array_of, first_with, lattice_home, IsHome}
 
 -- the kind of motions modulo the lattice

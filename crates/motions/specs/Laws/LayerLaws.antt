@@ -6,9 +6,9 @@ use Rattle.integers.specs.Size.{IsWithin}
 use Rattle.integers.proofs.Ring.{IsWithin-add, IsWithin-mul, IsWithin-more}
 use Rattle.quotient.specs.Kind.{IsMonoid}
 use Rattle.motions.specs.Signs.{same_sign}
-use Rattle.motions.specs.SignLaws.{same_sign-is, sign_product_assoc, sign_product-plus}
+use Rattle.motions.specs.Laws.SignLaws.{same_sign-is, sign_product_assoc, sign_product-plus}
 use Rattle.motions.specs.PlaneMatrices.{Pair, dot2, image2, origin2, plus2, same_matrix2, same_pair}
-use Rattle.motions.specs.PlaneMatrixLaws.{image2-origin, image2-plus, image2-product, image2-unit, origin-plus2, plus2-origin, plus2_assoc, product2-unit_left, product2-unit_right, product2_assoc, same_matrix2-is, same_pair-is}
+use Rattle.motions.specs.Laws.PlaneMatrixLaws.{image2-origin, image2-plus, image2-product, image2-unit, origin-plus2, plus2-origin, plus2_assoc, product2-unit_left, product2-unit_right, product2_assoc, same_matrix2-is, same_pair-is}
 use Rattle.motions.specs.PlaneSizes.{IsPairWithin}
 use Rattle.motions.specs.Layers.{IsPlanarSmall, PlanarMotion, planar_followed_by, planar_identity, planar_translation, same_planar}
 

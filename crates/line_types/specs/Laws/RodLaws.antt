@@ -2,11 +2,11 @@
 use Rattle.std.proofs.Common.{pos, ◌+ℤ◌, ◌^◌, All, ap, refl, lit≤}
 use Rattle.integers.specs.Size.{IsWithin}
 use Rattle.integers.proofs.Ring.{one_mul, IsWithin-more}
-use Rattle.motions.specs.SignLaws.{sign_product-plus}
-use Rattle.motions.specs.PlaneMatrixLaws.{product2-unit_left, product2-unit_right}
+use Rattle.motions.specs.Laws.SignLaws.{sign_product-plus}
+use Rattle.motions.specs.Laws.PlaneMatrixLaws.{product2-unit_left, product2-unit_right}
 use Rattle.motions.specs.RodMotions.{IsRodSmall, RodOperation}
-use Rattle.motions.specs.RodLaws.{rod_laws, rod_path, same_rod-is}
-use Rattle.line_types.specs.LineLaws.{LineLaws}
+use Rattle.motions.specs.Laws.RodLaws.{rod_laws, rod_path, same_rod-is}
+use Rattle.line_types.specs.Laws.LineLaws.{LineLaws}
 use Rattle.line_types.specs.Rods.{rod_entries, rod_line}
 
 small_rod : (m : RodOperation) → All (IsWithin 1) (rod_entries m) → IsWithin (2 ^ 40) m.shift → IsRodSmall m

@@ -6,7 +6,7 @@ use Rattle.integers.proofs.Solver.{Expr.{var, neg, ◌⊕◌, ◌⊗◌}, linear
 use Rattle.motions.specs.declared.motion.Sign.{Sign}
 use Rattle.motions.specs.declared.motion.Sign.TheVariants.{Plus, Minus}
 use Rattle.motions.specs.Signs.{sign_value, sign_product}
-use Rattle.motions.specs.SignLaws.{sign_value-sign_product}
+use Rattle.motions.specs.Laws.SignLaws.{sign_value-sign_product}
 
 -- the translations of three motions, one after the other
 pub along_assoc : (a b : Sign) (x y z : ℤ)

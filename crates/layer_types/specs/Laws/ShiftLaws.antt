@@ -6,11 +6,11 @@ use Rattle.quotient.specs.Kind.{AreShiftsGroup, IsInverse, IsSame, Keeps}
 use Rattle.motions.specs.declared.motion.Sign.TheVariants.{Plus}
 use Rattle.motions.specs.declared.layer.LayerMotion.{LayerMotion}
 use Rattle.motions.specs.PlaneMatrices.{Pair, image2, minus2, opposite2, origin2, plus2}
-use Rattle.motions.specs.PlaneMatrixLaws.{minus2-plus, opposite-plus2_same, plus2-minus_first, plus2-opposite, plus2_comm}
+use Rattle.motions.specs.Laws.PlaneMatrixLaws.{minus2-plus, opposite-plus2_same, plus2-minus_first, plus2-opposite, plus2_comm}
 use Rattle.motions.specs.Layers.{PlanarMotion, planar_followed_by, planar_of, planar_translation}
-use Rattle.motions.specs.LayerLaws.{followed_by-planar_translation, planar_path, planar_translation-followed_by}
+use Rattle.motions.specs.Laws.LayerLaws.{followed_by-planar_translation, planar_path, planar_translation-followed_by}
 use Rattle.layer_types.specs.Lattices.{InLattice, IsLayerShift, array_of, keeps_lattice, layer_home, layer_kind}
-use Rattle.layer_types.specs.LatticeLaws.{home-same, home_is_home, in_opposite, in_origin, in_plus, keeps_lattice-is, same_home}
+use Rattle.layer_types.specs.Laws.LatticeLaws.{home-same, home_is_home, in_opposite, in_origin, in_plus, keeps_lattice-is, same_home}
 
 -- the code's form of a translation
 abbrev translation_by : Pair → LayerMotion

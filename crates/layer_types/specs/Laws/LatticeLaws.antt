@@ -8,7 +8,7 @@ use Rattle.std.proofs.lemmas.Int.{ints}
 use Rattle.std.proofs.lemmas.Bool.Decides.{Decides-int_eq, Decides-and, Decides-or, Decides-like}
 use Rattle.integers.proofs.Spread.{spread}
 use Rattle.motions.specs.PlaneMatrices.{Matrix2, Pair, image2, minus2, opposite2, origin2, plus2}
-use Rattle.motions.specs.PlaneMatrixLaws.{pair_path, image2-plus, minus2-plus}
+use Rattle.motions.specs.Laws.PlaneMatrixLaws.{pair_path, image2-plus, minus2-plus}
 use Rattle.layer_types.specs.Lattices.{IsHome, IsLexAtMost, IsReduced, IsWholeVector, InLattice, centring, edge, half_edge, home_vector, in_lattice, keeps_lattice, leaves, rest_of_edge}
 
 -- ---- sums and multiples

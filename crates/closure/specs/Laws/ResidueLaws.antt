@@ -13,9 +13,9 @@ use Rattle.symmetry.specs.Frames.{same_vector}
 use Rattle.fractions.specs.Parts.{reduced_parts}
 use Rattle.fractions.specs.declared.part.Part.{Part}
 use Rattle.motions.specs.Views.{parts, part_at}
-use Rattle.motions.specs.MotionLaws.{same_vector-is}
+use Rattle.motions.specs.Laws.MotionLaws.{same_vector-is}
 use Rattle.closure.specs.Residues.{IsWhole, residue, has_residue, IsResidue}
-use Rattle.closure.specs.Remainders.{rem-same, same_rem, minus-rem, rem-small, Divides-zero, Divides-add, Divides-multiple}
+use Rattle.closure.specs.Laws.Remainders.{rem-same, same_rem, minus-rem, rem-small, Divides-zero, Divides-add, Divides-multiple}
 
 -- the parts of an edge
 abbrev edge : ℕ

@@ -7,10 +7,10 @@ use Rattle.std.proofs.lemmas.Bool.Decides.{Decides-int_eq}
 use Rattle.integers.proofs.Ring.{add_zero, one_mul}
 use Rattle.quotient.specs.Kind.{IsMonoid}
 use Rattle.motions.specs.Signs.{same_sign}
-use Rattle.motions.specs.SignLaws.{same_sign-is, sign_product_assoc, sign_product-plus}
+use Rattle.motions.specs.Laws.SignLaws.{same_sign-is, sign_product_assoc, sign_product-plus}
 use Rattle.motions.specs.PlaneMatrices.{same_matrix2}
-use Rattle.motions.specs.PlaneMatrixLaws.{product2-unit_left, product2-unit_right, product2_assoc, same_matrix2-is}
-use Rattle.motions.specs.LineLaws.{along_assoc, along_from_zero}
+use Rattle.motions.specs.Laws.PlaneMatrixLaws.{product2-unit_left, product2-unit_right, product2_assoc, same_matrix2-is}
+use Rattle.motions.specs.Laws.LineLaws.{along_assoc, along_from_zero}
 use Rattle.motions.specs.RodMotions.{RodOperation, rod_followed_by, rod_identity, same_rod}
 
 pub rod_path : {m n : RodOperation} → m.matrix ≡ n.matrix → m.along ≡ n.along → m.shift ≡ n.shift → m ≡ n

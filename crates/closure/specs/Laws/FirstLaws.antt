@@ -13,10 +13,10 @@ use Rattle.std.proofs.lemmas.List.Sorted.{ranks_by}
 use Rattle.std.proofs.lemmas.Int.{ints}
 use Rattle.symmetry.specs.Vectors.{Vector, origin, plus, minus, multiple, opposite}
 use Rattle.symmetry.proofs.VectorLaws.{vector_path, minus-plus, minus-same, opposite-minus, minus-plus-minus}
-use Rattle.closure.specs.ListLaws.{Contains-map, Contains-from_map}
+use Rattle.closure.specs.Laws.ListLaws.{Contains-map, Contains-from_map}
 use Rattle.closure.specs.Residues.{residue, has_residue, vector_cmp, is_before, IsResidueGroup}
-use Rattle.closure.specs.ResidueLaws.{residue-residue, residue-plus, has_residue-is}
-use Rattle.closure.specs.VectorOrder.{vector_cmp_total, vector_cmp_equal}
+use Rattle.closure.specs.Laws.ResidueLaws.{residue-residue, residue-plus, has_residue-is}
+use Rattle.closure.specs.Laws.VectorOrder.{vector_cmp_total, vector_cmp_equal}
 use Rattle.closure.specs.Spans.{coset}
 use Rattle.closure.specs.Lattices.{first_with}
 

@@ -1,0 +1,6 @@
+pub mod ListLaws
+pub mod Remainders
+pub mod ResidueLaws
+pub mod VectorOrder
+pub mod FirstLaws
+pub mod ShiftLaws

@@ -1,0 +1,2 @@
+pub mod LatticeLaws
+pub mod ShiftLaws

@@ -1,0 +1,7 @@
+pub mod MotionLaws
+pub mod SignLaws
+pub mod PlaneMatrixLaws
+pub mod LayerLaws
+pub mod LineLaws
+pub mod RodLaws
+pub mod FriezeLaws
