@@ -11,6 +11,7 @@ pub mod PlaneFaults
 pub mod PlaneMatrices
 pub mod PlaneSizes
 pub mod PlaneViews
+pub mod Rationals
 pub mod RodMotions
 pub mod Signs
 pub mod Views
