@@ -20,3 +20,5 @@ pub mod Heights
 pub mod Conjugates
 pub mod ScanLists
 mod Samples
+pub mod Alike
+pub mod AlikeScans

@@ -7,4 +7,5 @@ pub mod Frames
 pub mod Lists
 pub mod Scans
 pub mod Orbits
+pub mod Listings
 pub mod HeightMotions

@@ -7,6 +7,7 @@
 
 mod frames;
 mod groups;
+mod listings;
 mod lists;
 mod orbits;
 mod planes;
@@ -16,6 +17,9 @@ pub use frames::{
     difference_in_plane, frame_gives, mean_is_kept, period_agrees, special_by_listed,
 };
 pub use groups::{group_by_listed, lattice_in_group, lattice_is_group, sameness_is_equivalence};
+pub use listings::{
+    alike_frames, alike_groups, alike_is_equivalence, alike_lists, alike_orbits, alike_scans,
+};
 pub use lists::{lists_agree, lists_by_rows, lists_in_plane, one_for_each_listed, one_is_at_home};
 pub use orbits::{orbit_by_listed, orbits_are_classes, orbits_by_height_motions};
 pub use planes::{image_by_row, plane_by_row, special_by_row, stabiliser_by_rows};
