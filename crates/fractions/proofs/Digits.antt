@@ -11,18 +11,17 @@ use Rattle.std.proofs.lemmas.List.Sums.{take_while-cons}
 use Rattle.std.proofs.lemmas.Str.{digit_value_digit}
 use Rattle.std.proofs.lemmas.Str.Parse.{digit_at, digit_from_value, digits_value-take-le, digits_value_short, numerals_by_value, tells_digits}
 use Rattle.std.proofs.lemmas.Int.Digits.{digits_value_more}
-use Rattle.fractions.specs.declared.read.TheConstants.{MOST_DIGITS}
 
-pub digits_value-short : (ds : List ℕ) → AllDigits 10 ds → length ds ≤ MOST_DIGITS → digits_value 10 ds < 10 ^ MOST_DIGITS
-digits_value-short ds digits short = digits_value_short (numerals_by_value _ tells_digits) ds MOST_DIGITS digits short
+pub digits_value-short : (ds : List ℕ) → AllDigits 10 ds → length ds ≤ 18 → digits_value 10 ds < 10 ^ 18
+digits_value-short ds digits short = digits_value_short (numerals_by_value _ tells_digits) ds 18 digits short
 
 -- the number n of the first i digits, and the next digit behind them
 pub record IsNext (ds : List ℕ) (n i : ℕ) : Type 0 where
   pub is_digit : 48 ≤ get_or ds i 0
   pub grows : n * 10 + (get_or ds i 0 - 48) ≡ digits_value 10 (take (i + 1) ds)
-  pub below : n * 10 + (get_or ds i 0 - 48) < 10 ^ MOST_DIGITS
+  pub below : n * 10 + (get_or ds i 0 - 48) < 10 ^ 18
 
-pub next_digit : (ds : List ℕ) (n i : ℕ) → AllDigits 10 ds → length ds ≤ MOST_DIGITS → i < length ds → n ≡ digits_value 10 (take i ds) → IsNext ds n i
+pub next_digit : (ds : List ℕ) (n i : ℕ) → AllDigits 10 ds → length ds ≤ 18 → i < length ds → n ≡ digits_value 10 (take i ds) → IsNext ds n i
 next_digit ds n i digits short inside e =
     let range = digit_at ds i digits inside in
     let worth = digit_value_digit (get_or ds i 0) range in

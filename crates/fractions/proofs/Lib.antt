@@ -3,4 +3,5 @@ pub mod Divisor
 pub mod Faults
 pub mod Gcd
 pub mod Lowest
+pub mod Multiples
 pub mod Reduced

@@ -1,5 +1,6 @@
 pub mod Fraction
 pub mod FractionOf
+pub mod Fractions
 pub mod LowestTerms
 pub mod Parts
 pub mod RatioText

@@ -6,7 +6,6 @@ use Rattle.std.specs.Char.{is_ascii_digit}
 use Rattle.std.specs.Str.Parse.{digits_value}
 use Rattle.fractions.specs.declared.read.FractionFault.{FractionFault}
 use Rattle.fractions.specs.declared.read.FractionFault.TheVariants.{NoDigit, TooLong, ZeroDenominator}
-use Rattle.fractions.specs.declared.read.TheConstants.{MOST_DIGITS}
 
 -- ---- runs of digits
 
@@ -22,11 +21,11 @@ behind_digits bytes place = place + length (digits_at bytes place)
 abbrev pub number_at : List ℕ → ℕ → ℕ
 number_at bytes place = digits_value 10 (digits_at bytes place)
 
--- what is wrong with it: it is empty, or has a digit more than the most
+-- what is wrong with it: it is empty, or has a digit more than the most, which are 18
 abbrev pub run_fault : List ℕ → ℕ → Option FractionFault
 run_fault bytes place =
     let count = length (digits_at bytes place) in
-    if count == 0 then Some (NoDigit place) else if nat_lt MOST_DIGITS count then Some (TooLong (place + MOST_DIGITS)) else None
+    if count == 0 then Some (NoDigit place) else if nat_lt 18 count then Some (TooLong (place + 18)) else None
 
 -- ---- the numerator
 

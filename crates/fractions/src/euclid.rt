@@ -1,4 +1,5 @@
 // Euclid's algorithm.
+ghost use Rattle.std.specs.Int.{IsGcd};
 ghost use Rattle.std.specs.Prelude.{◌≡◌, ◌^◌, pos};
 ghost use Rattle.integers.specs.Size.{IsWithin};
 ghost use Rattle.fractions.specs.LowestTerms.{gcd, signed_gcd};
@@ -13,9 +14,10 @@ pub fn signed_divisor(num: i128, den: i128) -> i128
     if den < 0 { -divisor } else { divisor }
 }
 
-// The greatest common divisor, by remainders.
-fn greatest_common_divisor(a: u128, b: u128) -> u128
-    ensures { result ≡ gcd a b }
+/// The greatest common divisor of two numbers, by Euclid's remainders. Of 0 and 0 it is 0.
+pub fn greatest_common_divisor(a: u128, b: u128) -> u128
+    ensures is { result ≡ gcd a b }
+    ensures greatest { IsGcd a b result }
 {
     let (mut greater, mut less) = (a, b);
     while less > 0 {

@@ -1,7 +1,11 @@
 // Whole numbers of parts.
 ghost use Rattle.std.specs.Prelude.{◌≡◌, ◌+ℤ◌, ◌-ℤ◌, ◌*ℤ◌, FitsSigned};
 ghost use Rattle.std.specs.Int.{w64};
+ghost use Rattle.fractions.specs.FractionOf.{fraction_of};
+ghost use Rattle.fractions.specs.LowestTerms.{lowest_terms};
 ghost use Rattle.fractions.specs.Parts.{reduced_parts, IsReduced};
+
+use crate::ratio::Ratio;
 
 /// How many parts a cell edge has: translations are counted in these.
 pub const UNIT: i64 = 24;
@@ -41,5 +45,12 @@ impl Part {
         ensures reduced { IsReduced self.0 result.0 }
     {
         Part(self.0.rem_euclid(UNIT))
+    }
+
+    /// The number of parts as a ratio of the cell edge.
+    pub fn in_edges(self) -> Ratio
+        ensures { fraction_of result ≡ lowest_terms self.0 UNIT }
+    {
+        Ratio::make(i128::from(self.0), i128::from(UNIT)).unwrap()
     }
 }

@@ -48,7 +48,7 @@ pub fn read_ratio(bytes: &[u8], at: usize) -> Result<(Ratio, usize), FractionFau
         ≡ lowest_terms (numerator bytes.now at) (denominator bytes.now at)) }
     ensures number { IfOk result (λ read. IsLowestForm (fraction_of read.0)
         (numerator bytes.now at) (denominator bytes.now at)) }
-    ensures small { IfOk result (λ read. IsFractionWithin (10 ^ MOST_DIGITS) (fraction_of read.0)) }
+    ensures small { IfOk result (λ read. IsFractionWithin (10 ^ 18) (fraction_of read.0)) }
     ensures end { IfOk result (λ read. read.1 ≡ ratio_end bytes.now at) }
     ensures within { IfOk result (λ read. (at < read.1) × (read.1 ≤ length bytes.now)) }
     ensures fault { result_err result ≡ ratio_fault bytes.now at }
@@ -62,7 +62,7 @@ pub fn read_ratio(bytes: &[u8], at: usize) -> Result<(Ratio, usize), FractionFau
 fn read_numerator(bytes: &[u8], at: usize) -> Result<(i128, usize), FractionFault>
     requires { at ≤ length bytes.now }
     ensures value { IfOk result (λ read. read.0 ≡ numerator bytes.now at) }
-    ensures small { IfOk result (λ read. IsWithin (10 ^ MOST_DIGITS) read.0) }
+    ensures small { IfOk result (λ read. IsWithin (10 ^ 18) read.0) }
     ensures end { IfOk result (λ read. read.1 ≡ numerator_end bytes.now at) }
     ensures within { IfOk result (λ read. (at < read.1) × (read.1 ≤ length bytes.now)) }
     ensures fault { result_err result ≡ run_fault bytes.now (numerator_place bytes.now at) }
@@ -81,7 +81,7 @@ fn read_numerator(bytes: &[u8], at: usize) -> Result<(i128, usize), FractionFaul
 fn read_denominator(bytes: &[u8], slash: usize) -> Result<(i128, usize), FractionFault>
     requires { slash ≤ length bytes.now }
     ensures value { IfOk result (λ read. read.0 ≡ denominator_behind bytes.now slash) }
-    ensures small { IfOk result (λ read. IsWithin (10 ^ MOST_DIGITS) read.0) }
+    ensures small { IfOk result (λ read. IsWithin (10 ^ 18) read.0) }
     ensures positive { IfOk result (λ read. pos 0 <ℤ read.0) }
     ensures end { IfOk result (λ read. read.1 ≡ end_behind bytes.now slash) }
     ensures within { IfOk result (λ read. (slash ≤ read.1) × (read.1 ≤ length bytes.now)) }
@@ -101,7 +101,7 @@ fn read_denominator(bytes: &[u8], slash: usize) -> Result<(i128, usize), Fractio
 fn read_digits(bytes: &[u8], place: usize) -> Result<(u64, usize), FractionFault>
     requires { place ≤ length bytes.now }
     ensures value { IfOk result (λ read. read.0 ≡ number_at bytes.now place) }
-    ensures small { IfOk result (λ read. read.0 < 10 ^ MOST_DIGITS) }
+    ensures small { IfOk result (λ read. read.0 < 10 ^ 18) }
     ensures end { IfOk result (λ read. read.1 ≡ behind_digits bytes.now place) }
     ensures within { IfOk result (λ read. (place < read.1) × (read.1 ≤ length bytes.now)) }
     ensures fault { result_err result ≡ run_fault bytes.now place }
@@ -129,10 +129,10 @@ fn digit_count(bytes: &[u8]) -> usize
 
 // The number that the digits write.
 fn number(digits: &[u8]) -> u64
-    requires short { length digits.now ≤ MOST_DIGITS }
+    requires short { length digits.now ≤ 18 }
     requires digits { AllDigits 10 digits.now }
     ensures value { result ≡ digits_value 10 digits.now }
-    ensures small { result < 10 ^ MOST_DIGITS }
+    ensures small { result < 10 ^ 18 }
 {
     let mut number = 0;
     for digit in digits {

@@ -1,5 +1,8 @@
 // Each call once on its happy path, and the texts that the reader refuses.
-use crate::{FractionFault, NoMemory, Part, Ratio, UNIT, read_ratio, write_ratio};
+use crate::{
+    FractionFault, NoMemory, Part, Ratio, UNIT, greatest_common_divisor, read_ratio,
+    whole_quotient, write_ratio,
+};
 use std::alloc::Global;
 use std::test::Fail;
 
@@ -18,6 +21,23 @@ fn the_sign_stands_at_the_numerator(rt: HostRuntime) {
     assert_eq!(rt; made.map(|ratio| ratio.num()), Some(-3));
     assert_eq!(rt; made.map(|ratio| ratio.den()), Some(4));
     assert_eq!(rt; Ratio::make(1, 0), None);
+}
+
+#[test]
+fn divisors_and_quotients(rt: HostRuntime) {
+    assert_eq!(rt; greatest_common_divisor(84, 30), 6);
+    assert_eq!(rt; greatest_common_divisor(0, 0), 0);
+    assert_eq!(rt; whole_quotient(-84, 6), Some(-14));
+    assert_eq!(rt; whole_quotient(-85, 6), None);
+}
+
+#[test]
+fn parts_are_shown_in_cell_edges(rt: HostRuntime) -> Result<(), Fail> {
+    let part = Part(-UNIT / 4);
+    assert_eq!(rt; part.in_edges(), Ratio::make(-1, 4).unwrap());
+    let text = format!(in rt.alloc(); "{part}")?;
+    assert_eq!(rt; text.as_str(), "-1/4");
+    Ok(())
 }
 
 fn is_written(alloc: Global, ratio: Ratio, text: &str) -> Result<bool, NoMemory> {
