@@ -14,7 +14,7 @@ use Rattle.motions.specs.Layers.{IsBlockForm, PlanarMotion, block_matrix, planar
 in_plane : (a b p r : ℤ) → a *ℤ p +ℤ b *ℤ r +ℤ pos 0 *ℤ pos 0 ≡ a *ℤ p +ℤ b *ℤ r
 in_plane a b p r = omega (arith, ints)
 
-block_products : (m n : PlanarMotion) → product (block_matrix n) (block_matrix m) ≡ block_matrix (planar_followed_by m n)
+pub block_products : (m n : PlanarMotion) → product (block_matrix n) (block_matrix m) ≡ block_matrix (planar_followed_by m n)
 unfolding plus multiple
 block_products m n =
     matrix_path

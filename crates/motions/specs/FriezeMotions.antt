@@ -1,6 +1,7 @@
 -- Motions of a plane that map a line of it to itself.
 use Rattle.std.specs.Prelude.{ℤ, pos, ◌+ℤ◌, ◌*ℤ◌, Bool, ◌&&◌}
 use Rattle.std.specs.Ordering.{int_eq}
+use Rattle.symmetry.specs.Motions.{Motion}
 use Rattle.motions.specs.declared.motion.Sign.{Sign}
 use Rattle.motions.specs.declared.motion.Sign.TheVariants.{Plus}
 use Rattle.motions.specs.declared.frieze.FriezeMotion.{FriezeMotion}
@@ -35,3 +36,14 @@ frieze_identity = frieze_translation (pos 0)
 -- whether two operations are equal
 abbrev pub same_frieze : FriezeOperation → FriezeOperation → Bool
 same_frieze m n = same_sign m.along n.along && same_sign m.across n.across && int_eq m.shift n.shift
+
+-- the motion of space: f along the first axis with the translation along it, e along the second, and the third as it is
+abbrev pub frieze_block : FriezeOperation → Motion
+frieze_block m = record {
+  matrix = record {
+    first = record { x = sign_value m.along; y = pos 0; z = pos 0 };
+    second = record { x = pos 0; y = sign_value m.across; z = pos 0 };
+    third = record { x = pos 0; y = pos 0; z = pos 1 };
+  };
+  shift = record { x = m.shift; y = pos 0; z = pos 0 };
+}

@@ -3,18 +3,20 @@
 //
 // Promises to the crates above: `Motion3`, `LayerMotion`, `RodMotion` and `FriezeMotion` meet the laws of `Motion`, with
 // product and inverse exact; `triple` gives the block form of a motion of a layer, exactly where it has one in whole
-// parts, and of each motion of a rod; `Miller::make` gives the orientation or names what is wrong; `side` and `shift` say
-// exactly what a motion does to the planes of an orientation.
+// parts, and of each motion of a rod, and products are those of the block forms; `image` says what the matrix of a
+// motion does to a vector; `Miller::make` gives the orientation or names what is wrong; `side` and `shift` say exactly
+// what a motion does to the planes of an orientation.
 #![tactic(auto)]
 
 mod basis;
-mod divisors;
 mod equality;
 mod frame_fault;
 mod frieze;
 mod index;
 mod inverses;
+mod laws;
 mod layer;
+mod limits;
 mod line;
 mod listed;
 mod miller;
@@ -32,7 +34,9 @@ pub use basis::Basis;
 pub use frame_fault::FrameFault;
 pub use frieze::FriezeMotion;
 pub use index::INDEX;
+pub use laws::{limits_in_numbers, product_of_friezes, product_of_rods};
 pub use layer::{LayerMotion, product_of_block_forms};
+pub use limits::{MAX_COEFFICIENT, MOST_ENTRY};
 pub use listed::Listed;
 pub use miller::Miller;
 pub use motion::{Motion3, Sign};

@@ -5,9 +5,9 @@ ghost use Rattle.motions.specs.declared.index.TheConstants.{INDEX};
 ghost use Rattle.symmetry.specs.Planes.{IsCoprime};
 ghost use Rattle.symmetry.specs.Sizes.{IsVectorWithin};
 
-use crate::divisors::greatest_common_divisor;
 use crate::index::INDEX;
 use crate::plane_fault::PlaneFault;
+use fractions::greatest_common_divisor;
 
 /// The Miller indices (hkl) of an orientation: coprime, and each from -[`INDEX`](crate::INDEX) to it.
 #[derive(Clone, Copy, PartialEq, Eq, Debug)]
@@ -66,6 +66,6 @@ fn common_divisor(h: i64, k: i64, l: i64) -> i64
     ensures is { IsGreatestDivisor (unsigned_abs result) (record { x = h; y = k; z = l }) }
     ensures size { pos 0 ≤ℤ result }
 {
-    let of_two = greatest_common_divisor(h.unsigned_abs(), k.unsigned_abs());
-    greatest_common_divisor(of_two, l.unsigned_abs()) as i64
+    let of_two = greatest_common_divisor(h.unsigned_abs().into(), k.unsigned_abs().into());
+    greatest_common_divisor(of_two, l.unsigned_abs().into()) as i64
 }

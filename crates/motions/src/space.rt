@@ -1,10 +1,12 @@
-// Motions of space: equality, product and inverse.
+// Motions of space: images of vectors, equality, product and inverse.
+ghost use Rattle.std.specs.Prelude.{◌≡◌, ◌↔◌, ◌^◌, ◌*◌, ℕ, IsTrue};
 ghost use Rattle.std.specs.Cmp.{on_equiv, partial_equiv_from_equiv};
 ghost use Rattle.symmetry.specs.Motions.{Motion as MotionOfSpace, followed_by, identity};
 ghost use Rattle.symmetry.specs.Sizes.{IsSmall, IsVectorWithin};
+ghost use Rattle.symmetry.specs.Vectors.{image, unit_matrix};
 ghost use Rattle.motions.specs.Equality.{same_motion};
 ghost use Rattle.motions.specs.Laws.MotionLaws.{same_motion_laws, same_motion-is, followed_by_laws, followed_by_within, identity_within, IsVectorWithin-more};
-ghost use Rattle.motions.specs.Views.{motion_of};
+ghost use Rattle.motions.specs.Views.{motion_of, parts};
 
 use crate::equality::{is_same_matrix, is_same_shift};
 use crate::inverses::inverse_matrix;
@@ -12,6 +14,25 @@ use crate::motion::Motion3;
 use crate::products::{matrix_by_matrix, matrix_by_vector, opposite, sum};
 use fractions::Part;
 use quotient::Motion;
+
+impl Motion3 {
+    /// Where the matrix of the motion takes a vector: `w v`.
+    pub fn image(&self, v: &[Part; 3]) -> [Part; 3]
+        requires motion { IsSmall (motion_of self.now) }
+        requires vector { IsVectorWithin (2 ^ 40) (parts v.now) }
+        ensures is { parts result ≡ image (motion_of self.now).matrix (parts v.now) }
+        ensures within { (n : ℕ) → IsVectorWithin n (parts v.now) → IsVectorWithin (1500 * n) (parts result) }
+    {
+        matrix_by_vector(&self.w, v)
+    }
+
+    /// Whether the motion is a translation: whether its matrix is the unit matrix.
+    pub fn is_translation(&self) -> bool
+        ensures { IsTrue result ↔ ((motion_of self.now).matrix ≡ unit_matrix) }
+    {
+        is_same_matrix(&self.w, &Motion3::identity().w)
+    }
+}
 
 impl PartialEq for Motion3 {
     ghost eq = { λ m n. same_motion (motion_of m) (motion_of n) };

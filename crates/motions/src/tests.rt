@@ -32,6 +32,13 @@ const THREEFOLD: Motion3 = Motion3 {
     t: [NONE, NONE, THIRD],
 };
 
+#[test]
+fn the_matrix_of_a_threefold_screw_takes_a_vector_to_another(rt: HostRuntime) {
+    let image = [NONE, HALF, THIRD];
+    assert_eq!(rt; THREEFOLD.image(&[HALF, NONE, THIRD]), image);
+    assert!(rt; !THREEFOLD.is_translation());
+}
+
 fn twice<M: Motion>(motion: &M) -> M
     requires { M.IsSmall (M.meaning motion.now) }
 {

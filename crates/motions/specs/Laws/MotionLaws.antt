@@ -85,7 +85,7 @@ IsVectorWithin-more h le = record { x = IsWithin-more h.x le; y = IsWithin-more 
 pub identity_within : IsVectorWithin 0 identity.shift
 identity_within = record { x = record { most = lit≤ tt }; y = record { most = lit≤ tt }; z = record { most = lit≤ tt } }
 
-dot_within : {m n : ℕ} {r v : Vector} → IsVectorWithin m r → IsVectorWithin n v → IsWithin (m * n + m * n + m * n) (dot r v)
+pub dot_within : {m n : ℕ} {r v : Vector} → IsVectorWithin m r → IsVectorWithin n v → IsWithin (m * n + m * n + m * n) (dot r v)
 unfolding dot
 dot_within h k = IsWithin-add (IsWithin-add (IsWithin-mul h.x k.x) (IsWithin-mul h.y k.y)) (IsWithin-mul h.z k.z)
 

@@ -10,10 +10,10 @@ use Rattle.motions.proofs.miller.common_divisor.Goals.{After-greatest_common_div
 divisor : (c : After-greatest_common_divisor) → IsGreatestDivisor c.greatest_common_divisor.result (row c.args.h c.args.k c.args.l)
 divisor c =
     greatest_of_three (row c.args.h c.args.k c.args.l)
-    (c.unsigned_abs.ensures.value ∙ ap unsigned_abs (to_z-of_z w64 c.args.h c.ranges.h))
-    (c.unsigned_abs-2.ensures.value ∙ ap unsigned_abs (to_z-of_z w64 c.args.k c.ranges.k))
-    (c.unsigned_abs-3.ensures.value ∙ ap unsigned_abs (to_z-of_z w64 c.args.l c.ranges.l))
-    c.greatest_common_divisor-of_two.ensures c.greatest_common_divisor.ensures
+    (c.into.ensures ∙ c.unsigned_abs.ensures.value ∙ ap unsigned_abs (to_z-of_z w64 c.args.h c.ranges.h))
+    (c.into-2.ensures ∙ c.unsigned_abs-2.ensures.value ∙ ap unsigned_abs (to_z-of_z w64 c.args.k c.ranges.k))
+    (c.into-3.ensures ∙ c.unsigned_abs-3.ensures.value ∙ ap unsigned_abs (to_z-of_z w64 c.args.l c.ranges.l))
+    c.greatest_common_divisor-of_two.ensures.greatest c.greatest_common_divisor.ensures.greatest
 
 small : (c : After-greatest_common_divisor) → c.greatest_common_divisor.result ≤ unsigned_abs INDEX
 small c = greatest_within (unsigned_abs INDEX) c.greatest_common_divisor.result (row c.args.h c.args.k c.args.l) c.requires (divisor c)
