@@ -6,4 +6,5 @@ pub mod FrameView
 pub mod PlaneLattice
 pub mod Laws
 pub mod Scanning
+pub mod Sections
 pub mod Skews

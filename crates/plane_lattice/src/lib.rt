@@ -3,18 +3,25 @@
 //
 // Promises to the crates above: `Frame::make` gives exactly the frames of a group and an orientation that are not
 // skewed, with the period and the vector c', and else names what is wrong; `coords` gives coordinates in a frame;
-// motions are taken modulo the plane lattice, and `home` brings each to the one at home.
+// motions are taken modulo the plane lattice, and `home` brings each to the one at home; `section` tells what a motion
+// does to a plane, as a motion of a layer, exactly where it maps the plane to itself.
 #![tactic(auto)]
 
 mod coordinates;
 mod frame;
 mod frame_tests;
 mod images;
+mod laws;
 mod make;
 mod means;
+mod sections;
 mod skews;
 mod space;
 #[cfg(test)]
 mod tests;
 
 pub use frame::Frame;
+pub use laws::{
+    general_section_by_list, mean_is_above, one_general_section, section_by_list,
+    section_of_height, seen_once, special_in_steps,
+};
