@@ -1,0 +1,14 @@
+use Rattle.std.proofs.Common.{refl}
+use Rattle.std.specs.Prelude.{Any}
+use Rattle.motions.specs.PlaneViews.{matrix2_of}
+use Rattle.recognition.specs.Listed.{IsPaired}
+use Rattle.recognition.proofs.Loops.{one_more}
+use Rattle.recognition.proofs.change.all_have_target.Goals as goal
+
+pub returns-then-not-has_target : goal.returns-then-not-has_target
+returns-then-not-has_target c = (λ t. absurd (cc), λ all. c.if-not-has_target.ensures.1 (all c.loop-m.m-index _ c.loop-m-test.true))
+
+pub loop-m-preserved : goal.loop-m-preserved
+loop-m-preserved c =
+    one_more (λ m. Any (λ n. IsPaired (matrix2_of c.args.p.now) c.args.x c.args.y m n) c.args.ops.now) c.args.section.now c.loop-m.m-index _ c.loop-m-test.true
+    (c.if-not-has_target.ensures.0 refl) c.loop-m.invariant

@@ -1,0 +1,9 @@
+use Rattle.motions.specs.PlaneViews.{matrix2_of}
+use Rattle.recognition.specs.Listed.{IsPaired}
+use Rattle.recognition.proofs.Loops.{one_more}
+use Rattle.recognition.proofs.change.has_source.Goals as goal
+
+pub loop-m-preserved : goal.loop-m-preserved
+loop-m-preserved c =
+    one_more (λ m. ¬ (IsPaired (matrix2_of c.args.p.now) c.args.x c.args.y m c.args.n.now)) c.args.section.now c.loop-m.m-index _ c.loop-m-test.true
+    (λ h. let t = c.if-is_paired.ensures.1 h in cc) c.loop-m.invariant
