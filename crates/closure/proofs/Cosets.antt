@@ -11,7 +11,6 @@ use Rattle.symmetry.specs.Vectors.{Vector, origin, plus, minus, multiple, opposi
 use Rattle.symmetry.specs.Groups.{Listing, IsInLattice, zero_vector, added, subtracted}
 use Rattle.symmetry.proofs.VectorLaws.{vector_path, minus-plus, plus-origin}
 use Rattle.symmetry.proofs.LatticeLaws.{lattice-plus, lattice-minus, lattice-opposite, lattice-made}
-use Rattle.closure.specs.declared.limits.TheConstants.{MAX_RESIDUES}
 use Rattle.closure.specs.Residues.{residue}
 use Rattle.closure.specs.Spans.{AreResiduesOf, coset, with_centring}
 use Rattle.closure.specs.Fineness.{IsTooFine}
@@ -292,8 +291,8 @@ cosets_all g v size rs step h closed = record {
   same = λ u. (λ is. coset_inside g v h.count u ((h.same u).0 is), λ is. (h.same u).1 (all_members g v size rs step h closed u is));
 }
 
--- more than MAX_RESIDUES residues in cosets are more than the lattice with v may have
-pub cosets_too_fine : (g : Listing) (v : Vector) (size : ℕ) (rs : List Vector) (step : Vector) → AreCosets g v size rs step → MAX_RESIDUES < length rs
+-- more than 64 residues in cosets are more than the lattice with v may have
+pub cosets_too_fine : (g : Listing) (v : Vector) (size : ℕ) (rs : List Vector) (step : Vector) → AreCosets g v size rs step → 64 < length rs
     → IsTooFine (with_centring g v)
 cosets_too_fine g v size rs step h many = record {
   members = rs;

@@ -9,7 +9,6 @@ use Rattle.std.proofs.lemmas.Map.Views.{Contains-from_any}
 use borrow.Author.Tests.{eqb-true}
 use Rattle.symmetry.specs.Vectors.{Vector, origin}
 use Rattle.symmetry.specs.Groups.{Listing, IsInLattice}
-use Rattle.closure.specs.declared.limits.TheConstants.{MAX_RESIDUES}
 use Rattle.closure.specs.Residues.{residue}
 use Rattle.closure.specs.Fineness.{IsTooFine}
 use Rattle.closure.specs.Spans.{AreResiduesOf}
@@ -49,7 +48,7 @@ module _ (g : Listing) (rs : List Vector) (h : AreResiduesOf g rs) where
       get_or_default rs c.0 origin (residue m) c.1 ∙ c.2
   place-is (m ∷ ms) inside (suc k) d v l = place-is ms (All-tail (IsInLattice g) m ms inside) k d v (omega arith)
 
-  pub not_too_fine : length rs ≤ MAX_RESIDUES → ¬ IsTooFine g
+  pub not_too_fine : length rs ≤ 64 → ¬ IsTooFine g
   not_too_fine few f =
       let ms = f.members in
       let ks = places ms f.inside in

@@ -1,8 +1,9 @@
--- The first operations of a list keep the order in which the list's first ones stand.
-use Rattle.std.proofs.Common.{◌≡◌, ℕ, ◌+◌, ◌<◌, ◌≤◌, ◌↔◌, inl, inr, arith, refl, sym, ap, subst, ◌∙◌, List, [], ◌∷◌, ◌++◌, length}
-use Rattle.std.specs.Prelude.{Any, Contains}
+-- The first operations of a list keep the order in which the list's first ones stand, and are all of it where no two are
+-- the same.
+use Rattle.std.proofs.Common.{◌≡◌, ℕ, ◌+◌, ◌<◌, ◌≤◌, ◌↔◌, inl, inr, arith, refl, sym, ap, subst, ◌∙◌, List, [], ◌∷◌, ◌++◌, get_or, length}
+use Rattle.std.specs.Prelude.{AllPairs, Any, Contains}
 use Rattle.std.proofs.lemmas.Bool.{cases_lt}
-use Rattle.std.proofs.lemmas.List.{get_or_append_left, get_or_default, get_or_push, length-append}
+use Rattle.std.proofs.lemmas.List.{append-nil, append_assoc, get_or_append_left, get_or_default, get_or_push, length-append}
 use Rattle.std.proofs.lemmas.List.Elements.{Contains-get_or}
 use Rattle.quotient.specs.Kind.{IsEquivalence}
 use Rattle.quotient.specs.Lists.{AreFirst}
@@ -10,6 +11,28 @@ use Rattle.quotient.specs.Lists.AreFirst.{none, kept, left_out}
 use Rattle.quotient.proofs.Firsts.{Contains-from_firsts, firsts_cover}
 use Rattle.symmetry.specs.Motions.{Motion, identity}
 use Rattle.symmetry.specs.Lists.{IsFirstPlace, ComesBefore, motion_at}
+use Rattle.closure.specs.Laws.ListLaws.{AllPairs-front}
+
+-- ---- a list of which no two are the same
+
+module _ {A : Type 0} (Same : A → A → Type 0) where
+  last_is_new : (list : List A) (x : A) → AllPairs (λ y z. ¬ Same z y) (list ++ x ∷ []) → ¬ Any (Same x) list
+  last_is_new list x apart (k, y, within, is, same) =
+      apart k (length list) y within (omega (arith, length-append list (x ∷ [])))
+      (subst (λ u. Same u (get_or (list ++ x ∷ []) k y)) (sym (get_or_push list x y (length list) refl))
+      (subst (Same x) (sym (get_or_append_left list (x ∷ []) y k within ∙ is)) same))
+
+  firsts_with : (list more : List A) → AllPairs (λ y z. ¬ Same z y) (list ++ more) → AreFirst Same list list
+      → AreFirst Same (list ++ more) (list ++ more)
+  firsts_with list [] apart f = subst (λ l. AreFirst Same l l) (sym (append-nil list)) f
+  firsts_with list (x ∷ more) apart f =
+      let e : (list ++ x ∷ []) ++ more ≡ list ++ x ∷ more = append_assoc list (x ∷ []) more in
+      let apart_here = subst (AllPairs (λ y z. ¬ Same z y)) (sym e) apart in
+      let new = last_is_new list x (AllPairs-front (λ y z. ¬ Same z y) (list ++ x ∷ []) more apart_here) in
+      subst (λ l. AreFirst Same l l) e (firsts_with (list ++ x ∷ []) more apart_here (kept list list x f new))
+
+  pub firsts_of_distinct : (list : List A) → AllPairs (λ y z. ¬ Same z y) list → AreFirst Same list list
+  firsts_of_distinct list apart = firsts_with [] list apart none
 
 -- ---- the first place of a list with one more motion
 

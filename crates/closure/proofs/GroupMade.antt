@@ -14,6 +14,7 @@ use Rattle.symmetry.specs.Vectors.{Vector}
 use Rattle.symmetry.specs.Motions.{Motion}
 use Rattle.symmetry.specs.Groups.{Listing, Generates, IsInLattice, SameModulo, IsMember, IsGroup}
 use Rattle.symmetry.specs.Lists.{ComesBefore}
+use Rattle.symmetry.specs.Listings.{AreAlike}
 use Rattle.symmetry.specs.Sizes.{IsSmall, IsVectorWithin}
 use Rattle.motions.specs.declared.motion.Motion3.{Motion3}
 use Rattle.motions.specs.Laws.MotionLaws.{IsVectorWithin-more}
@@ -24,7 +25,6 @@ use Rattle.closure.specs.declared.lattice.Lattice.{Lattice}
 use Rattle.closure.specs.declared.lattice_fault.LatticeFault.{LatticeFault}
 use Rattle.closure.specs.declared.lattice_fault.LatticeFault.TheVariants.{TooFine, NoMemory}
 use Rattle.closure.specs.declared.group_error.GroupError.TheVariants.{Fault, NoMemory as OutOfMemory}
-use Rattle.closure.specs.declared.limits.TheConstants.{MAX_OPERATIONS}
 use Rattle.closure.specs.Faults.{IsLatticeFault}
 use Rattle.closure.specs.Fineness.{centrings_alone, IsTooFine}
 use Rattle.closure.specs.FromLattice.{error_of}
@@ -78,7 +78,7 @@ module _ (g : Listing) (vectors : List (List Part)) (same : (v : Vector) → Gen
   listed_fault NoMemory f = tt
 
 -- a fault of the lattice is one of the group
-pub lattice_refused : (g : Listing) → length g.ops ≤ MAX_OPERATIONS → (fault : LatticeFault) → IsLatticeFault g fault → IsGroupError g (error_of fault)
+pub lattice_refused : (g : Listing) → length g.ops ≤ 192 → (fault : LatticeFault) → IsLatticeFault g fault → IsGroupError g (error_of fault)
 lattice_refused g few TooFine f = (few, f)
 lattice_refused g few NoMemory f = tt
 
@@ -136,3 +136,6 @@ module _ (g : Listing) (lattice : Lattice) (h : IsLatticeOf g lattice) (ops : Li
 
   pub kept_order : (m n : Motion) → ComesBefore (SameModulo g) g.ops m n ↔ ComesBefore (SameModulo g) (map motion_of ops) m n
   kept_order = same_order (SameModulo g) (same_is_equivalence g) g.ops (map motion_of ops) f
+
+  pub kept_alike : AreAlike g (listing_with ops lattice)
+  kept_alike = record { lattice = kept_vectors; members = kept_members; order = kept_order }

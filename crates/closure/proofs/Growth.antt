@@ -5,7 +5,6 @@ use Rattle.fractions.specs.declared.part.Part.{Part}
 use Rattle.symmetry.specs.Vectors.{Vector, plus}
 use Rattle.symmetry.specs.Groups.{Listing}
 use Rattle.motions.specs.Views.{parts}
-use Rattle.closure.specs.declared.limits.TheConstants.{MAX_RESIDUES}
 use Rattle.closure.specs.Fineness.{IsTooFine}
 use Rattle.closure.specs.Residues.{residue, has_residue}
 use Rattle.closure.specs.Spans.{AreResiduesOf, coset, with_centring}
@@ -57,12 +56,12 @@ module _ (g : Listing) (v : Vector) (size : ℕ) (now : List (List Part)) (step 
   cosets_turn new next e n = subst (λ rs. AreCosets g v size rs (parts next)) (sym e) (subst (AreCosets g v size _) (sym n) grown)
 
   -- a turn that would list too many residues
-  pub cosets_overflow : MAX_RESIDUES < length now + size → IsTooFine (with_centring g v)
+  pub cosets_overflow : 64 < length now + size → IsTooFine (with_centring g v)
   cosets_overflow many =
       let all = map parts now ++ coset (parts step) (take size (map parts now)) in
       let whole : length all ≡ length now + size =
       length-with_coset (map parts now) all (parts step) size h.within refl ∙ ap (λ n. n + size) (length-map now parts) in
-      cosets_too_fine g v size all (residue (plus (parts step) v)) grown (subst (λ n. MAX_RESIDUES < n) (sym whole) many)
+      cosets_too_fine g v size all (residue (plus (parts step) v)) grown (subst (λ n. 64 < n) (sym whole) many)
 
 -- after the last turn
 pub cosets_end : (g : Listing) (v : Vector) (size : ℕ) (now : List (List Part)) (step : List Part) → AreCosets g v size (map parts now) (parts step)

@@ -1,6 +1,5 @@
 -- Lattices with too many residues.
 use Rattle.std.specs.Prelude.{◌<◌, All, AllPairs, List, [], length}
-use Rattle.closure.specs.declared.limits.TheConstants.{MAX_RESIDUES}
 use Rattle.symmetry.specs.Vectors.{Vector, minus}
 use Rattle.symmetry.specs.Groups.{Listing, IsInLattice}
 use Rattle.closure.specs.Residues.{IsWhole}
@@ -9,9 +8,9 @@ use Rattle.closure.specs.Residues.{IsWhole}
 abbrev pub centrings_alone : List Vector → Listing
 centrings_alone vectors = record { ops = []; centrings = vectors }
 
--- more than MAX_RESIDUES members of the lattice, of which no two differ by whole edges
+-- more than 64 members of the lattice, of which no two differ by whole edges
 pub record IsTooFine (g : Listing) : Type 0 where
   pub members : List Vector
-  pub many : MAX_RESIDUES < length members
+  pub many : 64 < length members
   pub inside : All (IsInLattice g) members
   pub apart : AllPairs (λ v w. ¬ IsWhole (minus v w)) members

@@ -8,7 +8,6 @@ use Rattle.quotient.specs.Lists.{AreFirst}
 use Rattle.symmetry.specs.Vectors.{Vector, image, unit_matrix}
 use Rattle.symmetry.specs.Motions.{Motion, followed_by, identity}
 use Rattle.symmetry.specs.Groups.{Listing, IsInLattice, IsMember, SameModulo}
-use Rattle.closure.specs.declared.limits.TheConstants.{MAX_OPERATIONS}
 use Rattle.closure.specs.declared.group_error.GroupError.{GroupError}
 use Rattle.closure.specs.declared.group_error.GroupError.TheVariants.{TooMany, TooFine, Fault, NoMemory}
 use Rattle.closure.specs.Fineness.{IsTooFine}
@@ -61,14 +60,14 @@ IsFaultAt g ops (NoInverse i) =
 abbrev pub IsGroupFault : Listing → GroupFault → Type 0
 IsGroupFault g fault = (ops : List Motion) × AreFirst (SameModulo g) g.ops ops × IsFaultAt g ops fault
 
--- within the limits: no more than MAX_OPERATIONS listed operations, and a lattice that is not too fine
+-- within the limits: no more than 192 listed operations, and a lattice that is not too fine
 pub record IsWithinLimits (g : Listing) : Type 0 where
-  pub few : length g.ops ≤ MAX_OPERATIONS
+  pub few : length g.ops ≤ 192
   pub fine : ¬ IsTooFine g
 
 -- why there is no Group of what is listed; want of memory has no cause
 abbrev pub IsGroupError : Listing → GroupError → Type 0
-IsGroupError g (TooMany n) = (n ≡ length g.ops) × (MAX_OPERATIONS < n)
-IsGroupError g TooFine = (length g.ops ≤ MAX_OPERATIONS) × IsTooFine g
+IsGroupError g (TooMany n) = (n ≡ length g.ops) × (192 < n)
+IsGroupError g TooFine = (length g.ops ≤ 192) × IsTooFine g
 IsGroupError g (Fault fault) = IsWithinLimits g × IsGroupFault g fault
 IsGroupError g NoMemory = Unit {0}

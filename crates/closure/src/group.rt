@@ -1,15 +1,14 @@
 // A space group: operations, each once modulo the translation lattice.
-ghost use Rattle.std.specs.Prelude.{◌≡◌, ◌≤◌, ◌↔◌, All, IfErr, IfOk, IsTrue, length, map, unsigned_abs, vec_len};
+ghost use Rattle.std.specs.Prelude.{◌≡◌, ◌≤◌, ◌↔◌, All, IfErr, IfOk, IsTrue, length, map, vec_len};
 ghost use Rattle.quotient.specs.Lists.{AreFirst};
 ghost use Rattle.symmetry.specs.Groups.{IsGroup, IsInLattice, IsMember, SameModulo};
 ghost use Rattle.symmetry.specs.Lists.{ComesBefore};
 ghost use Rattle.symmetry.specs.Motions.{Motion as MotionOfSpace};
 ghost use Rattle.symmetry.specs.Vectors.{Vector};
-ghost use Rattle.motions.specs.ListedSizes.{IsListedSmall, IsSmallWithin};
+ghost use Rattle.motions.specs.ListedSizes.{IsListedSmall};
 ghost use Rattle.motions.specs.Views.{listing_of, motion_of, parts};
-ghost use Rattle.closure.specs.declared.limits.TheConstants.{MAX_ENTRY, MAX_OPERATIONS};
 ghost use Rattle.closure.specs.Lattices.{InLattice, IsLatticeOf};
-ghost use Rattle.closure.specs.Operations.{listing_with, AreApart, HoldsTranslations};
+ghost use Rattle.closure.specs.Operations.{listing_with, AreApart, HasSmallEntries, HoldsTranslations};
 
 use crate::group_error::GroupError;
 use crate::lattice::Lattice;
@@ -32,14 +31,15 @@ pub struct Group {
     pub ghost group: { ∥ IsGroup (listing_with ops.items lattice) ∥₁ },
     pub ghost apart: { AreApart (listing_with ops.items lattice) },
     pub ghost translations: { HoldsTranslations (listing_with ops.items lattice) lattice },
-    pub ghost small: { All (IsSmallWithin (unsigned_abs MAX_ENTRY)) (map motion_of ops.items) },
-    pub ghost few: { vec_len ops ≤ MAX_OPERATIONS },
+    pub ghost small: { All HasSmallEntries (map motion_of ops.items) },
+    pub ghost few: { vec_len ops ≤ 192 },
 }
 
 impl Group {
     ghost use Rattle.closure.specs.declared.group_error.GroupError.TheVariants.{NoMemory};
     ghost use Rattle.closure.specs.GroupErrors.{IsGroupError, IsWithinLimits};
-    ghost use Rattle.closure.specs.Groups.{group_listing, lattice_of};
+    ghost use Rattle.closure.specs.Fineness.{IsTooFine};
+    ghost use Rattle.closure.specs.Groups.{group_listing, lattice_of, IsGroupOf};
 
     /// The group of what is listed: all products of the listed operations and the translations of the lattice.
     ///
@@ -50,8 +50,9 @@ impl Group {
     /// It is made exactly where the listed operations are a group modulo the lattice. The error is the first that
     /// stands in [`GroupError`], and a fault the first that stands in [`GroupFault`](quotient::GroupFault).
     pub fn make(alloc: Global, listed: Listed) -> Result<Group, GroupError>
-        requires { IsListedSmall (unsigned_abs MAX_ENTRY) listed }
+        requires { IsListedSmall 50 listed }
         ensures limits { IfOk result (λ _. IsWithinLimits (listing_of listed)) }
+        ensures made { IfOk result (IsGroupOf (listing_of listed)) }
         ensures group { IfOk result (λ _. IsGroup (listing_of listed)) }
         ensures lattice { IfOk result (λ group. IsLatticeOf (listing_of listed) (lattice_of group)) }
         ensures vectors { IfOk result (λ group. (v : Vector)
@@ -82,8 +83,8 @@ impl Group {
         ensures ops { map motion_of result.now ≡ (group_listing self.now).ops }
         ensures group { IsGroup (group_listing self.now) }
         ensures apart { AreApart (group_listing self.now) }
-        ensures small { All (IsSmallWithin (unsigned_abs MAX_ENTRY)) (map motion_of result.now) }
-        ensures few { length result.now ≤ MAX_OPERATIONS }
+        ensures small { All HasSmallEntries (map motion_of result.now) }
+        ensures few { length result.now ≤ 192 }
     {
         &self.ops
     }
@@ -92,6 +93,7 @@ impl Group {
     pub fn lattice(&self) -> &Lattice
         ensures lattice { result.now ≡ lattice_of self.now }
         ensures same { IsLatticeOf (group_listing self.now) result.now }
+        ensures fine { ¬ IsTooFine (group_listing self.now) }
     {
         &self.lattice
     }
@@ -110,11 +112,11 @@ fn first_operations(
     lattice: &Lattice,
     listed: &Listed,
 ) -> Result<Vec<Motion3>, AllocError>
-    requires small { IsListedSmall (unsigned_abs MAX_ENTRY) listed.now }
+    requires small { IsListedSmall 50 listed.now }
     requires lattice { IsLatticeOf (listing_of listed.now) lattice.now }
     ensures first { IfOk result (λ ops.
         AreFirst (SameModulo (listing_of listed.now)) (listing_of listed.now).ops (map motion_of ops.items)) }
-    ensures small { IfOk result (λ ops. All (IsSmallWithin (unsigned_abs MAX_ENTRY)) (map motion_of ops.items)) }
+    ensures small { IfOk result (λ ops. All HasSmallEntries (map motion_of ops.items)) }
     ensures few { IfOk result (λ ops. vec_len ops ≤ vec_len listed.now.ops) }
 {
     distinct(alloc, lattice, &listed.ops)

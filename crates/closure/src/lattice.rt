@@ -2,7 +2,6 @@
 ghost use Rattle.std.specs.Prelude.{◌≡◌, ◌≤◌, ◌^◌, All, map, vec_len, IfOk, IfErr};
 ghost use Rattle.motions.specs.Views.{parts};
 ghost use Rattle.symmetry.specs.Sizes.{IsVectorWithin};
-ghost use Rattle.closure.specs.declared.limits.TheConstants.{MAX_RESIDUES};
 ghost use Rattle.closure.specs.Residues.{IsResidue, IsResidueGroup, AreInOrder};
 ghost use Rattle.closure.specs.Fineness.{centrings_alone, IsTooFine};
 
@@ -20,7 +19,7 @@ pub struct Lattice {
     pub ghost group: { IsResidueGroup (map parts residues.items) },
     pub ghost reduced: { All IsResidue residues.items },
     pub ghost ordered: { AreInOrder (map parts residues.items) },
-    pub ghost few: { vec_len residues ≤ MAX_RESIDUES },
+    pub ghost few: { vec_len residues ≤ 64 },
 }
 
 impl Lattice {

@@ -21,5 +21,5 @@ pub use group::Group;
 pub use group_error::GroupError;
 pub use lattice::Lattice;
 pub use lattice_fault::LatticeFault;
-pub use laws::{no_group_and_error, one_group_error};
+pub use laws::{no_group_and_error, one_group_error, own_group};
 pub use limits::{MAX_ENTRY, MAX_OPERATIONS, MAX_RESIDUES};

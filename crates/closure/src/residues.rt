@@ -4,7 +4,6 @@ ghost use Rattle.motions.specs.Views.{parts};
 ghost use Rattle.symmetry.specs.Groups.{Listing};
 ghost use Rattle.symmetry.specs.Vectors.{plus};
 ghost use Rattle.symmetry.specs.Sizes.{IsVectorWithin};
-ghost use Rattle.closure.specs.declared.limits.TheConstants.{MAX_RESIDUES};
 ghost use Rattle.closure.specs.Residues.{residue, has_residue, IsResidue};
 ghost use Rattle.closure.specs.Spans.{AreResiduesOf, coset, with_centring};
 ghost use Rattle.closure.specs.Fineness.{centrings_alone};
@@ -67,11 +66,11 @@ fn append_coset(
 pub(crate) fn add_vector(residues: &mut Vec<[Part; 3]>, v: &[Part; 3]) -> Result<(), LatticeFault>
     requires reduced { All IsResidue residues.old.items }
     requires some { 0 < vec_len residues.old }
-    requires few { vec_len residues.old ≤ MAX_RESIDUES }
+    requires few { vec_len residues.old ≤ 64 }
     requires vector { IsVectorWithin (2 ^ 40) (parts v.now) }
     ensures reduced { OnOk result (All IsResidue residues.new.items) }
     ensures some { OnOk result (0 < vec_len residues.new) }
-    ensures few { OnOk result (vec_len residues.new ≤ MAX_RESIDUES) }
+    ensures few { OnOk result (vec_len residues.new ≤ 64) }
     ensures lattice { OnOk result ((g : Listing) → AreResiduesOf g (map parts residues.old.items)
         → AreResiduesOf (with_centring g (parts v.now)) (map parts residues.new.items)) }
     ensures fault { IfErr result (λ fault. (g : Listing) → AreResiduesOf g (map parts residues.old.items)
@@ -98,7 +97,7 @@ pub(crate) fn residues_of_sums(
 ) -> Result<Vec<[Part; 3]>, LatticeFault>
     requires { All (λ v. IsVectorWithin (2 ^ 40) (parts v)) vectors.now }
     ensures reduced { IfOk result (λ residues. All IsResidue residues.items) }
-    ensures few { IfOk result (λ residues. vec_len residues ≤ MAX_RESIDUES) }
+    ensures few { IfOk result (λ residues. vec_len residues ≤ 64) }
     ensures lattice { IfOk result (λ residues. AreResiduesOf (centrings_alone (map parts vectors.now)) (map parts residues.items)) }
     ensures fault { IfErr result (IsLatticeFault (centrings_alone (map parts vectors.now))) }
 {

@@ -3,7 +3,7 @@ ghost use Rattle.std.specs.Prelude.{◌^◌, All, unsigned_abs};
 ghost use Rattle.symmetry.specs.Sizes.{IsVectorWithin};
 ghost use Rattle.motions.specs.ListedSizes.{IsSmallWithin};
 ghost use Rattle.motions.specs.Views.{motion_of, parts};
-ghost use Rattle.closure.specs.declared.limits.TheConstants.{MAX_ENTRY};
+ghost use Rattle.closure.specs.Operations.{HasSmallEntries};
 
 use crate::group::Group;
 use crate::group_error::GroupError;
@@ -95,7 +95,7 @@ const PROJECTION: Motion3 = Motion3 {
 };
 
 fn group_of(alloc: Global, ops: &[Motion3], centrings: &[[Part; 3]]) -> Result<Group, GroupError>
-    requires ops { All (λ m. IsSmallWithin (unsigned_abs MAX_ENTRY) (motion_of m)) ops.now }
+    requires ops { All (λ m. HasSmallEntries (motion_of m)) ops.now }
     requires centrings { All (λ v. IsVectorWithin (2 ^ 40) (parts v)) centrings.now }
 {
     let ops = Vec::from_slice(alloc, ops)?;

@@ -1,11 +1,10 @@
 // The lattice of what is listed, and the vectors that it is made of.
-ghost use Rattle.std.specs.Prelude.{◌↔◌, ◌^◌, All, IfErr, IfOk, map, unsigned_abs};
+ghost use Rattle.std.specs.Prelude.{◌↔◌, ◌^◌, All, IfErr, IfOk, map};
 ghost use Rattle.symmetry.specs.Groups.{Generates};
 ghost use Rattle.symmetry.specs.Sizes.{IsVectorWithin};
 ghost use Rattle.symmetry.specs.Vectors.{Vector};
 ghost use Rattle.motions.specs.ListedSizes.{IsListedSmall};
 ghost use Rattle.motions.specs.Views.{listing_of, parts};
-ghost use Rattle.closure.specs.declared.limits.TheConstants.{MAX_ENTRY};
 ghost use Rattle.closure.specs.Faults.{IsLatticeFault};
 ghost use Rattle.closure.specs.Fineness.{centrings_alone, IsTooFine};
 ghost use Rattle.closure.specs.Lattices.{IsLatticeOf};
@@ -21,7 +20,7 @@ use std::alloc::{AllocError, Global};
 ///
 /// [`LatticeFault::TooFine`] comes exactly where it has more than [`MAX_RESIDUES`](crate::MAX_RESIDUES) residues.
 pub(crate) fn listed_lattice(alloc: Global, listed: &Listed) -> Result<Lattice, LatticeFault>
-    requires { IsListedSmall (unsigned_abs MAX_ENTRY) listed.now }
+    requires { IsListedSmall 50 listed.now }
     ensures lattice { IfOk result (IsLatticeOf (listing_of listed.now)) }
     ensures fine { IfOk result (λ _. ¬ IsTooFine (listing_of listed.now)) }
     ensures fault { IfErr result (IsLatticeFault (listing_of listed.now)) }
@@ -32,7 +31,7 @@ pub(crate) fn listed_lattice(alloc: Global, listed: &Listed) -> Result<Lattice, 
 
 /// The centring vectors, and the vectors of the listed translations.
 fn lattice_vectors(alloc: Global, listed: &Listed) -> Result<Vec<[Part; 3]>, AllocError>
-    requires { IsListedSmall (unsigned_abs MAX_ENTRY) listed.now }
+    requires { IsListedSmall 50 listed.now }
     ensures small { IfOk result (λ vectors. All (λ v. IsVectorWithin (2 ^ 40) (parts v)) vectors.items) }
     ensures same { IfOk result (λ vectors. (v : Vector)
         → Generates (centrings_alone (map parts vectors.items)) v ↔ Generates (listing_of listed.now) v) }

@@ -1,19 +1,18 @@
-use Rattle.std.proofs.Common.{subst, sym, map, arith, All, unsigned_abs}
+use Rattle.std.proofs.Common.{subst, sym, map, arith, All}
 use Rattle.std.proofs.lemmas.List.{length-map}
 use Rattle.std.proofs.lemmas.List.Elements.{All-map}
 use Rattle.std.proofs.lemmas.Result.{IfOk-weaker}
 use Rattle.symmetry.specs.Groups.{SameModulo}
 use Rattle.motions.specs.declared.motion.Motion3.{Motion3}
-use Rattle.motions.specs.ListedSizes.{IsSmallWithin}
 use Rattle.motions.specs.Views.{listing_of, motion_of}
-use Rattle.closure.specs.declared.limits.TheConstants.{MAX_ENTRY}
 use Rattle.closure.proofs.GroupMade.{moves_little, firsts_within, length-firsts, kept_first}
+use Rattle.closure.specs.Operations.{HasSmallEntries}
 use Rattle.closure.proofs.group.first_operations.Goals as goal
 
 pub distinct-requires : goal.distinct-requires
 distinct-requires c =
-    moves_little (unsigned_abs MAX_ENTRY) c.deref.result.now
-    (subst (All (λ (m : Motion3). IsSmallWithin (unsigned_abs MAX_ENTRY) (motion_of m))) (sym c.deref.ensures.value) c.requires.small.ops)
+    moves_little 50 c.deref.result.now
+    (subst (All (λ (m : Motion3). HasSmallEntries (motion_of m))) (sym c.deref.ensures.value) c.requires.small.ops)
 
 pub returns-clause-first : goal.returns-clause-first
 returns-clause-first c =
@@ -25,9 +24,9 @@ pub returns-clause-small : goal.returns-clause-small
 returns-clause-small c =
     let g = listing_of c.args.listed.now in
     IfOk-weaker c.distinct.result _ _
-    (λ ops f. firsts_within (unsigned_abs MAX_ENTRY) g (map motion_of ops.items)
+    (λ ops f. firsts_within 50 g (map motion_of ops.items)
     (kept_first g c.args.lattice.now c.requires.lattice c.args.listed.now.ops.items c.deref.result.now ops.items c.deref.ensures.value f)
-    (All-map (IsSmallWithin (unsigned_abs MAX_ENTRY)) motion_of c.args.listed.now.ops.items c.requires.small.ops))
+    (All-map HasSmallEntries motion_of c.args.listed.now.ops.items c.requires.small.ops))
     c.distinct.ensures
 
 pub returns-clause-few : goal.returns-clause-few

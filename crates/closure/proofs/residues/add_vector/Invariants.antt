@@ -1,7 +1,6 @@
 use Rattle.std.proofs.Common.{◌-◌, ◌<◌, ◌≤◌, All, map, vec_len}
 use Rattle.symmetry.specs.Groups.{Listing}
 use Rattle.motions.specs.Views.{parts}
-use Rattle.closure.specs.declared.limits.TheConstants.{MAX_RESIDUES}
 use Rattle.closure.specs.Residues.{IsResidue}
 use Rattle.closure.specs.Spans.{AreResiduesOf}
 use Rattle.closure.proofs.Cosets.{AreCosets}
@@ -13,10 +12,10 @@ invariant-loop-step l = record {
   step : IsResidue l.step;
   some : 0 < l.size;
   size : l.size ≤ vec_len l.residues;
-  few : vec_len l.residues ≤ MAX_RESIDUES;
+  few : vec_len l.residues ≤ 64;
   cosets : (g : Listing) → AreResiduesOf g (map parts l.fn.residues.items)
       → AreCosets g (parts l.v) l.size (map parts l.residues.items) (parts l.step);
 }
 
 abbrev pub decreases-loop-step : goal.decreases-loop-step
-decreases-loop-step l = MAX_RESIDUES - vec_len l.residues
+decreases-loop-step l = 64 - vec_len l.residues

@@ -1,15 +1,14 @@
-use Rattle.std.proofs.Common.{◌≤◌, arith, refl, sym, subst, length, map, unsigned_abs, All, List, vec_len}
+use Rattle.std.proofs.Common.{◌≤◌, arith, refl, sym, subst, length, map, All, List, vec_len}
 use Rattle.std.proofs.lemmas.Result.{err_from_is_err_and}
 use Rattle.std.proofs.lemmas.Bool.{true≢false}
 use Rattle.std.proofs.lemmas.List.{length-map}
 use Rattle.std.proofs.lemmas.List.Elements.{All-weaker}
 use Rattle.symmetry.specs.Sizes.{IsSmall}
 use Rattle.motions.specs.declared.motion.Motion3.{Motion3}
-use Rattle.motions.specs.ListedSizes.{IsSmallWithin}
 use Rattle.motions.specs.Views.{motion_of, listing_of}
-use Rattle.closure.specs.declared.limits.TheConstants.{MAX_ENTRY, MAX_OPERATIONS}
 use Rattle.closure.specs.GroupErrors.{IsWithinLimits}
-use Rattle.closure.proofs.GroupMade.{lattice_refused, lattice_accepted, kept_apart, kept_translations, accepted_group, kept_is_group, refused_fault, refused_group, kept_vectors, kept_members, kept_order}
+use Rattle.closure.proofs.GroupMade.{lattice_refused, lattice_accepted, kept_apart, kept_translations, accepted_group, kept_is_group, refused_fault, refused_group, kept_vectors, kept_members, kept_order, kept_alike}
+use Rattle.closure.specs.Operations.{HasSmallEntries}
 use Rattle.closure.proofs.group.Group.make.Goals as goal
 
 pub returns-in_err-lattice-clause-accepted : goal.returns-in_err-lattice-clause-accepted
@@ -20,13 +19,13 @@ returns-in_err-lattice-clause-accepted c limits group =
 pub returns-in_err-lattice-clause-refused : goal.returns-in_err-lattice-clause-refused
 returns-in_err-lattice-clause-refused c =
     let p = err_from_is_err_and c.from_residual.result c.from_residual.ensures.1 in
-    let few : length (map motion_of c.args.listed.ops.items) ≤ MAX_OPERATIONS = omega (arith, length-map c.args.listed.ops.items motion_of) in
+    let few : length (map motion_of c.args.listed.ops.items) ≤ 192 = omega (arith, length-map c.args.listed.ops.items motion_of) in
     rw (p.1, p.2) (lattice_refused (listing_of c.args.listed) few c.in_err-lattice.field-0.0 c.in_err-lattice.ensures.fault)
 
 pub check_group-requires-clause-small : goal.check_group-requires-clause-small
 check_group-requires-clause-small c =
     subst (λ (ops : List Motion3). All IsSmall (map motion_of ops)) (sym c.deref.ensures.value)
-    (All-weaker (IsSmallWithin (unsigned_abs MAX_ENTRY)) IsSmall (λ m s. s.small) (map motion_of c.in_ok-ops.ops.items) c.in_ok-ops.ensures.small)
+    (All-weaker HasSmallEntries IsSmall (λ m s. s.small) (map motion_of c.in_ok-ops.ops.items) c.in_ok-ops.ensures.small)
 
 pub returns-in_err-check_group-clause-accepted : goal.returns-in_err-check_group-clause-accepted
 returns-in_err-check_group-clause-accepted c limits group =
@@ -52,7 +51,7 @@ invariant_of-result c =
     let g = listing_of c.args.listed in
     let lattice = c.in_ok-lattice in
     let ops = c.in_ok-ops in
-    let few : vec_len ops.ops ≤ MAX_OPERATIONS = let f = ops.ensures.few in omega arith in
+    let few : vec_len ops.ops ≤ 192 = let f = ops.ensures.few in omega arith in
     record {
       group = ∣ kept_is_group g lattice.lattice lattice.ensures.lattice ops.ops.items ops.ensures.first
           c.deref.result.now c.deref.ensures.value (c.in_ok-check_group.ensures.accepted.0 refl) ∣₁;
@@ -64,6 +63,17 @@ invariant_of-result c =
 
 pub returns-clause-limits : goal.returns-clause-limits
 returns-clause-limits c = record { few = omega (arith, length-map c.args.listed.ops.items motion_of); fine = c.in_ok-lattice.ensures.fine }
+
+pub returns-clause-made : goal.returns-clause-made
+returns-clause-made c =
+    let lattice = c.in_ok-lattice in
+    let ops = c.in_ok-ops in
+    record {
+      is_group = accepted_group (listing_of c.args.listed) lattice.lattice lattice.ensures.lattice ops.ops.items ops.ensures.first c.deref.result.now c.deref.ensures.value
+          (c.in_ok-check_group.ensures.accepted.0 refl);
+      alike = kept_alike (listing_of c.args.listed) lattice.lattice lattice.ensures.lattice ops.ops.items ops.ensures.first;
+      firsts = ops.ensures.first;
+    }
 
 pub returns-clause-group : goal.returns-clause-group
 returns-clause-group c =
