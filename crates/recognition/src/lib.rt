@@ -24,6 +24,8 @@ mod matrices;
 mod origins;
 mod recognise;
 mod steps;
+#[cfg(test)]
+mod tests;
 
 pub use found::Found;
 pub use grid::GRID;
