@@ -16,12 +16,7 @@ fn has_match(p: &[[i64; 2]; 2], m: &LayerMotion, ops: &[LayerMotion]) -> bool
     requires ops { All IsSmallMotion ops.now }
     ensures { IsTrue result ↔ Any (λ n. IsLike (matrix2_of p.now) m.now n) ops.now }
 {
-    for n in ops {
-        if is_like(p, m, n) {
-            return true;
-        }
-    }
-    false
+    ops.iter().any(|n| is_like(p, m, n))
 }
 
 /// Whether a motion of the type has one of the section with its sign and matrix.
@@ -31,12 +26,7 @@ fn is_matched(p: &[[i64; 2]; 2], n: &LayerMotion, section: &[LayerMotion]) -> bo
     requires section { All IsSmallMotion section.now }
     ensures { IsTrue result ↔ Any (λ m. IsLike (matrix2_of p.now) m n.now) section.now }
 {
-    for m in section {
-        if is_like(p, m, n) {
-            return true;
-        }
-    }
-    false
+    section.iter().any(|m| is_like(p, m, n))
 }
 
 /// Whether all motions of the section have one of the type.
