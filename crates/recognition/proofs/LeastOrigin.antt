@@ -1,14 +1,14 @@
 -- The least origin from its steps.
 use Rattle.std.proofs.Common.{◌≡◌, ℕ, ◌<◌, ◌⊎◌, inl, inr, sym, subst, arith}
 use Rattle.recognition.specs.Grid.{grid}
-use Rattle.recognition.specs.Search.{IsLeastOrigin, IsNone, IsOrigin}
+use Rattle.recognition.specs.Search.{HasNoNumber, IsLeastOrigin, IsOrigin}
 use Rattle.recognition.specs.Order.{IsOriginBefore}
 
 compare : (i j : ℕ) → (i < j) ⊎ ((i ≡ j) ⊎ (j < i))
 compare i j = grind arith
 
 module _ (C : ℕ → ℕ → Type 0) where
-  pub least_origin : (x y : ℕ) → x < grid → ((u : ℕ) → u < x → IsNone (C u)) → y < grid → C x y → ((v : ℕ) → v < y → ¬ C x v) → IsLeastOrigin C x y
+  pub least_origin : (x y : ℕ) → x < grid → ((u : ℕ) → u < x → HasNoNumber (C u)) → y < grid → C x y → ((v : ℕ) → v < y → ¬ C x v) → IsLeastOrigin C x y
   least_origin x y hx before hy has least = record { origin = (hx, hy); has = has; least = later }
     where
       later : (u v : ℕ) → IsOrigin u v → C u v → ((u ≡ x) × (v ≡ y)) ⊎ IsOriginBefore x y u v

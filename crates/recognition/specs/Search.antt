@@ -17,8 +17,8 @@ pub record IsLeast (C : ℕ → Type 0) (y : ℕ) : Type 0 where
   pub least : (v : ℕ) → v < y → ¬ (C v)
 
 -- no number of the grid has the property
-abbrev pub IsNone : (ℕ → Type 0) → Type 0
-IsNone C = (v : ℕ) → v < grid → ¬ (C v)
+abbrev pub HasNoNumber : (ℕ → Type 0) → Type 0
+HasNoNumber C = (v : ℕ) → v < grid → ¬ (C v)
 
 -- x and y are from 0 to below grid
 abbrev pub IsOrigin : ℕ → ℕ → Type 0

@@ -2,7 +2,7 @@
 ghost use Rattle.std.specs.Prelude.{◌≡◌, ◌↔◌, ℕ, pos, ◌+ℤ◌, ◌*ℤ◌, ◌<◌, ◌≤◌, IsTrue, MatchOption};
 ghost use Rattle.recognition.specs.Grid.{grid};
 ghost use Rattle.recognition.specs.Classes.{InClass, IsOnLine, Meets, MeetsFirst};
-ghost use Rattle.recognition.specs.Search.{IsLeast, IsNone};
+ghost use Rattle.recognition.specs.Search.{HasNoNumber, IsLeast};
 
 use crate::classes::{Class, Congruence, narrow};
 use crate::conditions::MOST;
@@ -95,7 +95,7 @@ fn narrow_by(class: &Class, condition: &Condition, x: u32) -> Option<Class>
 pub(crate) fn least_y(conditions: &[Condition; MOST], count: usize, x: u32) -> Option<u32>
     requires count { count ≤ 24 }
     requires x { x < grid }
-    ensures { MatchOption result (IsNone (MeetsFirst count conditions.now x)) (IsLeast (MeetsFirst count conditions.now x)) }
+    ensures { MatchOption result (HasNoNumber (MeetsFirst count conditions.now x)) (IsLeast (MeetsFirst count conditions.now x)) }
 {
     let mut class = Class { y: 0, step: 1 };
     for i in 0..count {

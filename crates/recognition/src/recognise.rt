@@ -111,6 +111,9 @@ fn first_of_type<L: Ledger>(
 
 /// The first bounded change that carries the section onto a layer type. None comes exactly where there is none.
 ///
+/// The section has small motions, of which no two differ by a whole vector; it need not be known to be a group. Nothing
+/// is allocated, so that `NoMemory` does not come.
+///
 /// The count rises by at most four times [`GRID`](crate::GRID) for each pair of a type and a matrix that agrees with
 /// the section and, where a change is found, does not stand behind it.
 pub fn layer_type<L: Ledger>(
