@@ -22,6 +22,7 @@ pub mod TextEnds
 pub mod TextShown
 pub mod Answered
 pub mod OneFault
+mod RowTexts
 mod Terms
 mod NumberTrees
 mod TermTrees

@@ -1,17 +1,11 @@
 -- The terms of a part, one behind another.
-use Rattle.std.proofs.Common.{◌≡◌, ◌≢◌, ◌⊎◌, inl, inr, ℕ, zero, suc, ◌+◌, ◌/◌, ◌%◌, ◌<◌, ◌≤◌, ◌==◌, nat_lt, Bool, true, false, cond, if◌then◌else◌, ℤ, pos, negsuc, List, [], ◌∷◌, ◌++◌, length, drop, get_or, refl, sym, ap, ◌∙◌, arith, length-append, append_assoc}
-use Rattle.std.specs.Prelude.{codes}
+use Rattle.std.proofs.Common.{◌≡◌, ◌≢◌, ◌⊎◌, inl, inr, ℕ, zero, suc, ◌+◌, ◌/◌, ◌%◌, ◌<◌, ◌≤◌, ◌==◌, nat_lt, Bool, true, false, cond, if◌then◌else◌, ℤ, pos, negsuc, ◌≤ℤ◌, List, [], ◌∷◌, ◌++◌, length, drop, get_or, refl, ap, arith, length-append}
 use Rattle.std.specs.Fmt.{digits, digits_onto, digit_glyph, decimal, signed_decimal}
 use Rattle.std.specs.Str.Parse.{without_leading_plus}
-use Rattle.std.proofs.lemmas.Bool.{eq-eqb, ne_eqb}
+use Rattle.std.proofs.lemmas.Int.{ints}
 use Rattle.std.proofs.lemmas.Str.Parse.{without_leading_plus_none}
 use Rattle.std.proofs.lemmas.List.{get_or_append_left}
-use Rattle.triplets.specs.Writing.{letter_term, number_term, number_text, terms_text, placed, plus_text, or_zero}
-use Rattle.symmetry.specs.Vectors.{Vector}
-
--- a text that is none, or shows without its plus
-abbrev pub IsShown : List ℕ → Type 0
-IsShown text = (text ≡ []) ⊎ (0 < length (without_leading_plus text))
+use Rattle.triplets.specs.Writing.{letter_term, number_term, number_text, placed}
 
 -- the first byte is a digit or stands behind them
 pub record BeginsWithDigit (bs : List ℕ) : Type 0 where
@@ -51,30 +45,16 @@ pub without_leading_plus-more : (a b : List ℕ) → 0 < length (without_leading
 without_leading_plus-more [] b h = absurd (omega arith)
 without_leading_plus-more (a ∷ as_) b h = without_leading_plus-cons (a == 43) a as_ b
 
-placed-further : (n : ℕ) (text : List ℕ) → 0 < n → placed (n == 0) text ≡ text
-placed-further n text h = ap (λ v. placed v text) (ne_eqb n 0 (λ e. omega arith))
-
-pub without_leading_plus-append : (a b : List ℕ) → IsShown a
-    → without_leading_plus (a ++ b) ≡ without_leading_plus a ++ placed (length (without_leading_plus a) == 0) b
-without_leading_plus-append [] b h = refl
-without_leading_plus-append (a ∷ as_) b (inl e) = cc
-without_leading_plus-append (a ∷ as_) b (inr h) = without_leading_plus-cons (a == 43) a as_ b ∙ ap (λ c. without_leading_plus (a ∷ as_) ++ c) (sym (placed-further _ b h))
-
-pub shown-append : (a b : List ℕ) → IsShown a → IsShown b → IsShown (a ++ b)
-shown-append [] b h k = k
-shown-append (a ∷ as_) b (inl e) k = absurd (cc)
-shown-append (a ∷ as_) b (inr h) k =
-    inr (omega (arith, ap length (without_leading_plus-cons (a == 43) a as_ b), length-append (without_leading_plus (a ∷ as_)) b))
-
 letter_after : (text : List ℕ) (letter : ℕ) → 0 < length (text ++ letter ∷ [])
 letter_after text letter = omega (arith, length-append text (letter ∷ []))
 
-pub letter_shown : (c : ℤ) (letter : ℕ) → IsShown (letter_term c (letter ∷ []))
-letter_shown (pos zero) letter = inl refl
-letter_shown (pos (suc zero)) letter = inr (omega arith)
-letter_shown (pos (suc (suc n))) letter = inr (letter_after (decimal (suc (suc n))) letter)
-letter_shown (negsuc zero) letter = inr (omega arith)
-letter_shown (negsuc (suc n)) letter = inr (omega arith)
+-- the term of what is not 0 shows
+pub letter_shows : (c : ℤ) (letter : ℕ) → ¬ (c ≡ pos 0) → 0 < length (without_leading_plus (letter_term c (letter ∷ [])))
+letter_shows (pos zero) letter n = absurd (n refl)
+letter_shows (pos (suc zero)) letter n = omega arith
+letter_shows (pos (suc (suc k))) letter n = letter_after (decimal (suc (suc k))) letter
+letter_shows (negsuc zero) letter n = omega arith
+letter_shows (negsuc (suc k)) letter n = omega arith
 
 signed_decimal_shows : (z : ℤ) (after : List ℕ) → 0 < length (signed_decimal z ++ after)
 signed_decimal_shows (pos n) after = omega (arith, length-append (decimal n) after, (decimal_begins n).shows)
@@ -91,72 +71,16 @@ number_text_has_no_plus t = without_leading_plus_none (number_text t) (signed_de
 pub number_text_shows : (t : ℤ) → 0 < length (number_text t)
 number_text_shows t = signed_decimal_shows _ _
 
-pub number_shown : (t : ℤ) → IsShown (number_term t)
-number_shown (pos zero) = inl refl
-number_shown (pos (suc n)) = inr (number_text_shows (pos (suc n)))
-number_shown (negsuc n) =
-    inr (omega (arith, number_text_shows (negsuc n), ap length (number_text_has_no_plus (negsuc n))))
+pub number_term_shows : (t : ℤ) → ¬ (t ≡ pos 0) → 0 < length (without_leading_plus (number_term t))
+number_term_shows (pos zero) n = absurd (n refl)
+number_term_shows (pos (suc k)) n = number_text_shows (pos (suc k))
+number_term_shows (negsuc k) n = omega (arith, number_text_shows (negsuc k), ap length (number_text_has_no_plus (negsuc k)))
 
-placed-number : (first : Bool) (t : ℤ) → ¬ (t ≡ pos 0) → placed first (number_term t) ≡ plus_text first t ++ number_text t
-placed-number first (pos zero) h = absurd (h refl)
-placed-number true (pos (suc n)) h = refl
-placed-number false (pos (suc n)) h = refl
-placed-number true (negsuc n) h = number_text_has_no_plus (negsuc n)
-placed-number false (negsuc n) h = refl
-
--- its plus, where it has one, and then its text
-pub number_appended : (base text : List ℕ) (first : Bool) (t : ℤ) → ¬ (t ≡ pos 0) → text ≡ base ++ plus_text first t
-    → text ++ number_text t ≡ base ++ placed first (number_term t)
-number_appended base text first t h e =
-    ap (λ s. s ++ number_text t) e
-    ∙ (append_assoc base (plus_text first t) (number_text t)
-    ∙ ap (λ s. base ++ s) (sym (placed-number first t h)))
-
-same_length : (a b n : ℕ) → a ≡ b + n → (a == b) ≡ (n == 0)
-same_length a b zero e = eq-eqb a b (omega arith)
-same_length a b (suc n) e = ne_eqb a b (λ h. omega arith) ∙ sym (ne_eqb (suc n) 0 (λ h. omega arith))
-
--- one more term behind those of the part that begins at `start`
-pub one_more : (base terms term text : List ℕ) (start : ℕ) → start ≡ length base → IsShown terms
-    → text ≡ base ++ without_leading_plus terms
-    → text ++ placed (length text == start) term ≡ base ++ without_leading_plus (terms ++ term)
-one_more base terms term text start s h e =
-    let bare : List ℕ = without_leading_plus terms in
-    let first : (length text == start) ≡ (length bare == 0) =
-    same_length (length text) start (length bare) (omega (arith, ap length e, length-append base bare)) in
-    ap (λ v. text ++ placed v term) first
-    ∙ (ap (λ t. t ++ placed (length bare == 0) term) e
-    ∙ (append_assoc base bare (placed (length bare == 0) term)
-    ∙ ap (λ t. base ++ t) (sym (without_leading_plus-append terms term h))))
-
--- the four terms of a part, one behind another
-pub four_terms : (r : Vector) (t : ℤ) (base one two three four : List ℕ) (start : ℕ) → start ≡ length base
-    → one ≡ base ++ placed (length base == start) (letter_term r.x (codes "x"))
-    → two ≡ one ++ placed (length one == start) (letter_term r.y (codes "y"))
-    → three ≡ two ++ placed (length two == start) (letter_term r.z (codes "z"))
-    → four ≡ three ++ placed (length three == start) (number_term t)
-    → four ≡ base ++ without_leading_plus (terms_text r t)
-four_terms r t base one two three four start s e f g k =
-    let x : List ℕ = letter_term r.x (codes "x") in
-    let y : List ℕ = letter_term r.y (codes "y") in
-    let z : List ℕ = letter_term r.z (codes "z") in
-    let x_shown : IsShown x = letter_shown r.x 120 in
-    let xy_shown : IsShown (x ++ y) = shown-append x y x_shown (letter_shown r.y 121) in
-    let xyz_shown : IsShown (x ++ y ++ z) = shown-append (x ++ y) z xy_shown (letter_shown r.z 122) in
-    let first : one ≡ base ++ without_leading_plus x =
-    e ∙ ap (λ v. base ++ placed v x) (eq-eqb (length base) start (sym s)) in
-    let second : two ≡ base ++ without_leading_plus (x ++ y) = f ∙ one_more base x y one start s x_shown first in
-    let third : three ≡ base ++ without_leading_plus (x ++ y ++ z) = g ∙ one_more base (x ++ y) z two start s xy_shown second in
-    k ∙ one_more base (x ++ y ++ z) (number_term t) three start s xyz_shown third
-
--- a part that shows nothing gets its `0`
-pub or_zero-none : (base terms text : List ℕ) → text ≡ base ++ terms → length text ≡ length base
-    → text ++ codes "0" ≡ base ++ or_zero terms
-or_zero-none base [] text e h = ap (λ t. t ++ codes "0") e ∙ append_assoc base [] (codes "0")
-or_zero-none base (b ∷ bs) text e h = absurd (omega (arith, ap length e, length-append base (b ∷ bs)))
-
--- a part that shows something stands as it is
-pub or_zero-some : (base terms text : List ℕ) → text ≡ base ++ terms → ¬ (length text ≡ length base)
-    → text ≡ base ++ or_zero terms
-or_zero-some base [] text e h = absurd (h (omega (arith, ap length e, length-append base ([]))))
-or_zero-some base (b ∷ bs) text e h = e
+-- a number that is first or negative has no plus
+pub placed-no_plus : (first : Bool) (t : ℤ) → ¬ (t ≡ pos 0) → (first ≡ true) ⊎ (t ≤ℤ pos 0) → placed first (number_term t) ≡ number_text t
+placed-no_plus first (pos zero) n h = absurd (n refl)
+placed-no_plus true (pos (suc k)) n h = refl
+placed-no_plus false (pos (suc k)) n (inl e) = cc
+placed-no_plus false (pos (suc k)) n (inr h) = absurd (omega (arith, ints))
+placed-no_plus true (negsuc k) n h = number_text_has_no_plus (negsuc k)
+placed-no_plus false (negsuc k) n h = refl

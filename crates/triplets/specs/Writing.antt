@@ -9,6 +9,8 @@ use Rattle.symmetry.specs.Vectors.{Vector}
 use Rattle.symmetry.specs.Motions.{Motion}
 use Rattle.motions.specs.FriezeMotions.{FriezeOperation}
 use Rattle.motions.specs.Signs.{sign_value}
+use Rattle.triplets.specs.declared.marks.Axis.{Axis}
+use Rattle.triplets.specs.declared.marks.Axis.TheVariants.{X, Y, Z}
 
 -- a number of parts, as a ratio of the cell edge in lowest terms
 abbrev pub number_text : ℤ → List ℕ
@@ -19,6 +21,12 @@ abbrev pub coefficient_text : ℤ → List ℕ
 coefficient_text (pos (suc zero)) = []
 coefficient_text (negsuc zero) = codes "-"
 coefficient_text c = signed_decimal c
+
+-- the letter of an axis
+abbrev pub axis_text : Axis → List ℕ
+axis_text X = codes "x"
+axis_text Y = codes "y"
+axis_text Z = codes "z"
 
 -- a term behind others: nothing at 0, and a `+` before what is positive
 abbrev pub further_term : ℤ → List ℕ → List ℕ

@@ -8,6 +8,9 @@ use crate::text::LineReader;
 use motions::Listed;
 use std::alloc::Global;
 
+/// How many bytes a group text may have.
+pub const MOST_BYTES: usize = 65_536;
+
 /// Reads a group text: what it lists, or the first bad line, its column and what is wrong there.
 pub fn read_group(alloc: Global, bytes: &[u8]) -> Result<Listed, TextFault>
     requires { length bytes.now ≤ 65536 }

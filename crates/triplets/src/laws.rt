@@ -1,7 +1,9 @@
-// What a text says is one thing. A call does nothing: its contract is the law, for a text of any length.
+// What a text says is one thing, for a text of any length, and the limit of what is read, in numbers. A call does nothing:
+// its contract is the law.
 ghost use Rattle.std.specs.Prelude.{◌≡◌, ℕ, List};
 ghost use Rattle.symmetry.specs.Groups.{Listing};
 ghost use Rattle.triplets.specs.Texts.{Fault, IsGroupText, IsTextFault};
+ghost use Rattle.triplets.specs.declared.group.TheConstants.{MOST_BYTES};
 
 /// A text lists one thing.
 pub fn one_listing()
@@ -16,4 +18,9 @@ pub fn one_fault()
 /// A text with a fault lists nothing.
 pub fn no_listing_and_fault()
     ensures { (text : List ℕ) (g : Listing) (f : Fault) → IsTextFault text f → IsGroupText text g → ⊥ }
+{}
+
+/// The limit that contracts name by its number.
+pub fn limit_in_numbers()
+    ensures { MOST_BYTES ≡ 65536 }
 {}

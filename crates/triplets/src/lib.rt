@@ -8,6 +8,7 @@
 #![tactic(auto)]
 
 mod denominator;
+mod display;
 mod fault;
 mod frieze;
 mod group;
@@ -20,12 +21,12 @@ mod triplet;
 mod write;
 
 pub use fault::{TextFault, TextKind, TripletFault};
-pub use frieze::write_frieze;
-pub use group::read_group;
-pub use laws::{no_listing_and_fault, one_fault, one_listing};
+pub use frieze::{Frieze, write_frieze};
+pub use group::{MOST_BYTES, read_group};
+pub use laws::{limit_in_numbers, no_listing_and_fault, one_fault, one_listing};
 pub use text::LineReader;
 pub use triplet::read_triplet;
-pub use write::{NoMemory, write_triplet};
+pub use write::{NoMemory, Triplet, write_triplet};
 
 #[cfg(test)]
 mod tests;

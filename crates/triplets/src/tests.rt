@@ -2,7 +2,7 @@
 ghost use Rattle.std.specs.Prelude.{◌≤◌, length};
 
 use crate::fault::{TextFault, TextKind, TripletFault};
-use crate::group::read_group;
+use crate::group::{MOST_BYTES, read_group};
 use crate::text::LineReader;
 use crate::triplet::read_triplet;
 use fractions::{Part, UNIT};
@@ -63,7 +63,7 @@ fn read_in_pieces(alloc: Global, bytes: &[u8], size: usize) -> Result<Listed, Te
 
 fn compare(rt: &(impl Abort + Print), alloc: Global, text: &str, want: Summary) {
     let bytes = text.as_bytes();
-    assert!(rt; bytes.len() <= 65536);
+    assert!(rt; bytes.len() <= MOST_BYTES);
     assert_eq!(rt; summary_of(read_group(alloc, bytes)), want, "{text}");
     for size in 1..4 {
         assert_eq!(rt;
@@ -308,7 +308,7 @@ fn the_first_bad_line_counts(rt: HostRuntime) {
 fn a_bad_triplet_has_its_place_and_kind(rt: HostRuntime) {
     for BadTriplet(text, place, kind) in BAD_TRIPLETS {
         let bytes = text.as_bytes();
-        assert!(rt; bytes.len() <= 65536);
+        assert!(rt; bytes.len() <= MOST_BYTES);
         match read_triplet(bytes) {
             Ok(_) => assert!(rt; false, "read {text}"),
             Err(fault) => assert_eq!(rt; fault, TripletFault { place, kind }, "{text}"),

@@ -8,5 +8,5 @@ use Rattle.triplets.proofs.write.write_triplet.Goals as goal
 pub returns-clause-law : goal.returns-clause-law
 returns-clause-law c h =
     let m = motion_of c.args.m.now in
-    let form : c.push_triplet.new.text.items ≡ triplet_text m = search rules in
+    let form : c.into_bytes.result.items ≡ triplet_text m = search rules in
     subst (λ (text : List ℕ). IsTripletOf text m) (sym form) (IsTripletOf-triplet_text m h)
