@@ -1,8 +1,12 @@
 -- The motions that code reads from a list, as entries of the list of what they stand for.
-use Rattle.std.proofs.Common.{◌≡◌, ℕ, ◌+◌, ◌<◌, ◌≤◌, List, length, get_or, map, sym, ap, ◌∙◌, subst, All, Any, Contains, arith, below_more}
-use Rattle.std.proofs.lemmas.List.{get_or-map, get_or_default, length-map}
+use Rattle.std.proofs.Common.{◌≡◌, ℕ, ◌+◌, ◌<◌, ◌≤◌, List, [], ◌∷◌, ◌++◌, length, get_or, map, take, sym, ap, ◌∙◌, subst, All, Any, Contains, arith, below_more}
+use Rattle.std.proofs.lemmas.List.{get_or-map, get_or_default, length-map, take_more}
 use Rattle.quotient.specs.Kind.{IsSame, Kind}
 use Rattle.quotient.specs.Lists.{IsListed}
+
+-- the items up to the one that is read at i
+pub take_next : {M : Type 0} (list : List M) (i : ℕ) (x : M) → i < length list → x ≡ get_or list i x → take i list ++ x ∷ [] ≡ take (i + 1) list
+take_next list i x within is = ap (λ y. take i list ++ y ∷ []) is ∙ sym (take_more list i x within)
 
 module _ {M S : Type 0} (f : M → S) (list : List M) where
   -- the item that is read at i

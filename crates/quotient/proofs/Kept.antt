@@ -1,12 +1,12 @@
 -- A walk along a list that keeps each motion that is the same as none that it has kept.
-use Rattle.std.proofs.Common.{◌≡◌, ℕ, ◌+◌, ◌<◌, ◌≤◌, List, [], ◌∷◌, ◌++◌, length, get_or, map, take, All, ap, subst, sym, ◌∙◌}
-use Rattle.std.proofs.lemmas.List.{map-append, take_all, take_more}
+use Rattle.std.proofs.Common.{◌≡◌, ℕ, ◌+◌, ◌<◌, ◌≤◌, List, [], ◌∷◌, ◌++◌, length, get_or, map, take, All, subst, sym}
+use Rattle.std.proofs.lemmas.List.{map-append, take_all}
 use Rattle.std.proofs.lemmas.List.Elements.{All-nil, All-push}
 use Rattle.quotient.specs.Kind.{IsEquivalence, IsSame, Kind}
 use Rattle.quotient.specs.Lists.{AreFirst, IsListed}
 use Rattle.quotient.specs.Lists.AreFirst.{none}
 use Rattle.quotient.proofs.Firsts.{AreFirst-kept, AreFirst-left_out}
-use Rattle.quotient.proofs.Items.{Any-from_listed, listed_from_Any}
+use Rattle.quotient.proofs.Items.{Any-from_listed, listed_from_Any, take_next}
 use Rattle.quotient.proofs.Sameness.{IsEquivalence-of_values}
 
 module _ (K : Kind) {M : Type 0} (f : M → K.Motion) (P : K.Motion → Type 0) (list : List M) where
@@ -18,14 +18,11 @@ module _ (K : Kind) {M : Type 0} (f : M → K.Motion) (P : K.Motion → Type 0) 
   pub KeepsFirst-none : (kept : List M) → kept ≡ [] → KeepsFirst 0 kept
   KeepsFirst-none kept e = subst (KeepsFirst 0) (sym e) (record { first = none; each = All-nil P })
 
-  next : (i : ℕ) (x : M) → i < length list → x ≡ get_or list i x → take i list ++ x ∷ [] ≡ take (i + 1) list
-  next i x within is = ap (λ y. take i list ++ y ∷ []) is ∙ sym (take_more list i x within)
-
   pub KeepsFirst-more : IsEquivalence (IsSame K) → (i : ℕ) (x : M) → i < length list → x ≡ get_or list i x → (kept more : List M)
       → KeepsFirst i kept → P (f x) → ¬ IsListed K (map f kept) (f x) → more ≡ kept ++ x ∷ [] → KeepsFirst (i + 1) more
   KeepsFirst-more E i x within is kept more k p new e = subst (KeepsFirst (i + 1)) (sym e) (record {
     first =
-        subst (λ front. AreFirst (λ m n. IsSame K (f m) (f n)) front (kept ++ x ∷ [])) (next i x within is)
+        subst (λ front. AreFirst (λ m n. IsSame K (f m) (f n)) front (kept ++ x ∷ [])) (take_next list i x within is)
         (AreFirst-kept (IsEquivalence-of_values f E) (take i list) kept x k.first (λ h. new (listed_from_Any K f kept x h)));
     each = subst (All P) (sym (map-append f kept (x ∷ []))) (All-push P (map f kept) (f x) k.each p);
   })
@@ -34,7 +31,7 @@ module _ (K : Kind) {M : Type 0} (f : M → K.Motion) (P : K.Motion → Type 0) 
       → KeepsFirst i kept → IsListed K (map f kept) (f x) → more ≡ kept → KeepsFirst (i + 1) more
   KeepsFirst-same i x within is kept more k h e = subst (KeepsFirst (i + 1)) (sym e) (record {
     first =
-        subst (λ front. AreFirst (λ m n. IsSame K (f m) (f n)) front kept) (next i x within is)
+        subst (λ front. AreFirst (λ m n. IsSame K (f m) (f n)) front kept) (take_next list i x within is)
         (AreFirst-left_out (take i list) kept x k.first (Any-from_listed K f kept x h));
     each = k.each;
   })

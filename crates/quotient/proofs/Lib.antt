@@ -2,6 +2,7 @@ pub mod CheckLemma
 pub mod ClosureLemma
 pub mod Faults
 pub mod Firsts
+pub mod HomeLists
 pub mod Items
 pub mod Kept
 pub mod Members

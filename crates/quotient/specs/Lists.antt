@@ -1,5 +1,5 @@
 -- Lists of motions, read modulo shifts.
-use Rattle.std.specs.Prelude.{◌≡◌, ℕ, ◌<◌, List, [], ◌∷◌, ◌++◌, length, slice_index_or, Any, Contains}
+use Rattle.std.specs.Prelude.{◌≡◌, ℕ, ◌<◌, List, [], ◌∷◌, ◌++◌, length, map, slice_index_or, Any, Contains}
 use Rattle.quotient.specs.Kind.{Kind, IsSame}
 
 -- some motion of the list is the same as m
@@ -19,6 +19,10 @@ pub data AreFirst {A : Type 0} (Same : A → A → Type 0) : List A → List A �
   none : AreFirst Same [] []
   kept : (list firsts : List A) (x : A) → AreFirst Same list firsts → ¬ Any (Same x) list → AreFirst Same (list ++ x ∷ []) (firsts ++ x ∷ [])
   left_out : (list firsts : List A) (x : A) → AreFirst Same list firsts → Any (Same x) list → AreFirst Same (list ++ x ∷ []) firsts
+
+-- the values of the other list stand, place by place, for what the homes of the values of the list stand for
+abbrev pub AreHomes : {M S : Type 0} → (M → S) → (M → M) → List M → List M → Type 0
+AreHomes meaning home list homes = map meaning homes ≡ map (λ m. meaning (home m)) list
 
 -- p is the index of the first item of the list that is the same as x, and x stands there
 pub record StandsFirst {A : Type 0} (Same : A → A → Type 0) (list : List A) (x : A) (p : ℕ) : Type 0 where

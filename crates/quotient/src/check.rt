@@ -1,8 +1,8 @@
 // The test that a list of motions is a group modulo shifts.
-ghost use Rattle.std.specs.Prelude.{◌≡◌, ◌↔◌, ◌^◌, pos, All, Contains, IsOk, IsTrue, MatchOption, map};
+ghost use Rattle.std.specs.Prelude.{◌≡◌, ◌↔◌, ◌^◌, pos, All, Contains, IfSome, IsOk, IsTrue, MatchOption, map, unsigned_abs};
 ghost use Rattle.quotient.specs.Groups.{AllHaveInverse, AllKeep, AreInverse, HasInverse, IsClosed, IsFault, IsFirstOpen, IsFirstWithout, IsGroup};
 ghost use Rattle.quotient.specs.Kind.{Keeps, kind_of};
-ghost use Rattle.quotient.specs.Lists.{IsListed};
+ghost use Rattle.quotient.specs.Lists.{AreHomes, IsListed};
 
 use crate::lists::find;
 use crate::traits::{Motion, Quotient};
@@ -31,13 +31,57 @@ pub fn check_group<Q: Quotient>(q: &Q, list: &[Q::M]) -> Result<(), GroupFault>
     ensures refused { (fault : GroupFault) → (result ≡ Err fault)
         ↔ IsFault (kind_of Q.M.meaning Q.M.product Q.M.one (Q.IsShift q.now)) (map Q.M.meaning list.now) fault }
 {
+    check_listed(q, list, known_homes(q, list))
+}
+
+/// The same as [`check_group`], where the homes of the listed motions are known, so that none is brought home again.
+pub fn check_group_by_homes<Q: Quotient>(
+    q: &Q,
+    list: &[Q::M],
+    homes: &[Q::M],
+) -> Result<(), GroupFault>
+    requires reach { Q.REACH ≡ pos (2 ^ 52) }
+    requires small { All Q.M.IsSmall (map Q.M.meaning list.now) }
+    requires homes { AreHomes Q.M.meaning (Q.home_of q.now) list.now homes.now }
+    ensures accepted { IsOk result
+        ↔ IsGroup (kind_of Q.M.meaning Q.M.product Q.M.one (Q.IsShift q.now)) (map Q.M.meaning list.now) }
+    ensures refused { (fault : GroupFault) → (result ≡ Err fault)
+        ↔ IsFault (kind_of Q.M.meaning Q.M.product Q.M.one (Q.IsShift q.now)) (map Q.M.meaning list.now) fault }
+{
+    check_listed(q, list, Some(homes))
+}
+
+// The list, where each of its motions is its own home.
+fn known_homes<'a, Q: Quotient>(q: &Q, list: &'a [Q::M]) -> Option<&'a [Q::M]>
+    requires { All (Q.M.MovesWithin (unsigned_abs Q.REACH)) (map Q.M.meaning list.now) }
+    ensures { IfSome result (λ known. AreHomes Q.M.meaning (Q.home_of q.now) list.now known.now) }
+{
+    for m in list {
+        let home = q.home(m);
+        if home != *m {
+            return None;
+        }
+    }
+    Some(list)
+}
+
+// The first thing that is wrong with the list, whose homes may be known.
+fn check_listed<Q: Quotient>(q: &Q, list: &[Q::M], homes: Option<&[Q::M]>) -> Result<(), GroupFault>
+    requires reach { Q.REACH ≡ pos (2 ^ 52) }
+    requires small { All Q.M.IsSmall (map Q.M.meaning list.now) }
+    requires homes { IfSome homes (λ known. AreHomes Q.M.meaning (Q.home_of q.now) list.now known.now) }
+    ensures accepted { IsOk result
+        ↔ IsGroup (kind_of Q.M.meaning Q.M.product Q.M.one (Q.IsShift q.now)) (map Q.M.meaning list.now) }
+    ensures refused { (fault : GroupFault) → (result ≡ Err fault)
+        ↔ IsFault (kind_of Q.M.meaning Q.M.product Q.M.one (Q.IsShift q.now)) (map Q.M.meaning list.now) fault }
+{
     if find(q, list, &Q::M::identity()).is_none() {
         return Err(GroupFault::NoIdentity);
     }
     if let Some(i) = first_moving_shifts(q, list) {
         return Err(GroupFault::ShiftMoved(i));
     }
-    if let Some((i, j)) = first_open_pair(q, list) {
+    if let Some((i, j)) = first_open_pair(q, list, homes) {
         return Err(GroupFault::NotClosed(i, j));
     }
     match first_without_inverse(q, list) {
@@ -63,15 +107,20 @@ fn first_moving_shifts<Q: Quotient>(q: &Q, list: &[Q::M]) -> Option<usize>
 }
 
 // The first pair of positions, row by row, whose product is not listed.
-fn first_open_pair<Q: Quotient>(q: &Q, list: &[Q::M]) -> Option<(usize, usize)>
+fn first_open_pair<Q: Quotient>(
+    q: &Q,
+    list: &[Q::M],
+    homes: Option<&[Q::M]>,
+) -> Option<(usize, usize)>
     requires reach { Q.REACH ≡ pos (2 ^ 52) }
     requires small { All Q.M.IsSmall (map Q.M.meaning list.now) }
+    requires homes { IfSome homes (λ known. AreHomes Q.M.meaning (Q.home_of q.now) list.now known.now) }
     ensures { MatchOption result
         (IsClosed (kind_of Q.M.meaning Q.M.product Q.M.one (Q.IsShift q.now)) (map Q.M.meaning list.now))
         (λ pair. IsFirstOpen (kind_of Q.M.meaning Q.M.product Q.M.one (Q.IsShift q.now)) (map Q.M.meaning list.now) pair.0 pair.1) }
 {
     for (i, m) in list.iter().enumerate() {
-        if let Some(j) = first_open_after(q, list, m) {
+        if let Some(j) = first_open_after(q, list, homes, m) {
             return Some((i + 1, j));
         }
     }
@@ -79,9 +128,15 @@ fn first_open_pair<Q: Quotient>(q: &Q, list: &[Q::M]) -> Option<(usize, usize)>
 }
 
 // The first position of a motion n for which m and then n is not listed.
-fn first_open_after<Q: Quotient>(q: &Q, list: &[Q::M], m: &Q::M) -> Option<usize>
+fn first_open_after<Q: Quotient>(
+    q: &Q,
+    list: &[Q::M],
+    homes: Option<&[Q::M]>,
+    m: &Q::M,
+) -> Option<usize>
     requires reach { Q.REACH ≡ pos (2 ^ 52) }
     requires small { All Q.M.IsSmall (map Q.M.meaning list.now) }
+    requires homes { IfSome homes (λ known. AreHomes Q.M.meaning (Q.home_of q.now) list.now known.now) }
     requires first { Q.M.IsSmall (Q.M.meaning m.now) }
     ensures { MatchOption result
         ((n : Q.M.Meaning) → Contains (map Q.M.meaning list.now) n
@@ -91,7 +146,7 @@ fn first_open_after<Q: Quotient>(q: &Q, list: &[Q::M], m: &Q::M) -> Option<usize
         (map Q.M.meaning list.now)) }
 {
     for (j, n) in list.iter().enumerate() {
-        if !has_product(q, list, m, n) {
+        if !has_product(q, list, homes, m, n) {
             return Some(j + 1);
         }
     }
@@ -99,16 +154,27 @@ fn first_open_after<Q: Quotient>(q: &Q, list: &[Q::M], m: &Q::M) -> Option<usize
 }
 
 // Whether m and then n are the same as a motion of the list.
-fn has_product<Q: Quotient>(q: &Q, list: &[Q::M], m: &Q::M, n: &Q::M) -> bool
+fn has_product<Q: Quotient>(
+    q: &Q,
+    list: &[Q::M],
+    homes: Option<&[Q::M]>,
+    m: &Q::M,
+    n: &Q::M,
+) -> bool
     requires reach { Q.REACH ≡ pos (2 ^ 52) }
     requires small { All Q.M.IsSmall (map Q.M.meaning list.now) }
+    requires homes { IfSome homes (λ known. AreHomes Q.M.meaning (Q.home_of q.now) list.now known.now) }
     requires first { Q.M.IsSmall (Q.M.meaning m.now) }
     requires second { Q.M.IsSmall (Q.M.meaning n.now) }
     ensures { IsTrue result
         ↔ IsListed (kind_of Q.M.meaning Q.M.product Q.M.one (Q.IsShift q.now)) (map Q.M.meaning list.now)
         (Q.M.product (Q.M.meaning m.now) (Q.M.meaning n.now)) }
 {
-    find(q, list, &m.then(n)).is_some()
+    let product = m.then(n);
+    match homes {
+        Some(homes) => homes.contains(&q.home(&product)),
+        None => find(q, list, &product).is_some(),
+    }
 }
 
 // The first position of a motion that has no inverse in the list.

@@ -14,9 +14,9 @@ mod lists;
 mod tests;
 mod traits;
 
-pub use check::{GroupFault, check_group};
+pub use check::{GroupFault, check_group, check_group_by_homes};
 pub use laws::{
     first_motions, members_are_a_group, products_respect_sameness, sameness_is_an_equivalence,
 };
-pub use lists::{NoMemory, distinct, find};
+pub use lists::{NoMemory, distinct, find, homes};
 pub use traits::{Motion, Quotient};

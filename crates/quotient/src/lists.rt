@@ -1,7 +1,7 @@
 // Lists of motions, read modulo shifts.
 ghost use Rattle.std.specs.Prelude.{◌↔◌, All, IfOk, IfSome, IsSome, map, unsigned_abs};
 ghost use Rattle.quotient.specs.Kind.{IsSame, kind_of};
-ghost use Rattle.quotient.specs.Lists.{AreFirst, IsFirstSame, IsListed};
+ghost use Rattle.quotient.specs.Lists.{AreFirst, AreHomes, IsFirstSame, IsListed};
 
 use crate::traits::{Motion, Quotient};
 use std::alloc::{AllocError, Global};
@@ -34,10 +34,25 @@ pub fn distinct<Q: Quotient>(alloc: Global, q: &Q, list: &[Q::M]) -> Result<Vec<
         (λ m n. IsSame (kind_of Q.M.meaning Q.M.product Q.M.one (Q.IsShift q.now)) (Q.M.meaning m) (Q.M.meaning n)) list.now kept.items) }
 {
     let mut kept = Vec::new(alloc);
+    let mut homes = Vec::new(alloc);
     for m in list {
-        if find(q, &kept, m).is_none() {
+        let home = q.home(m);
+        if !homes.contains(&home) {
             kept.push(*m)?;
+            homes.push(home)?;
         }
     }
     Ok(kept)
+}
+
+/// The home of each motion of the list, in its order.
+pub fn homes<Q: Quotient>(alloc: Global, q: &Q, list: &[Q::M]) -> Result<Vec<Q::M>, NoMemory>
+    requires { All (Q.M.MovesWithin (unsigned_abs Q.REACH)) (map Q.M.meaning list.now) }
+    ensures { IfOk result (λ homes. AreHomes Q.M.meaning (Q.home_of q.now) list.now homes.items) }
+{
+    let mut homes = Vec::new(alloc);
+    for m in list {
+        homes.push(q.home(m))?;
+    }
+    Ok(homes)
 }

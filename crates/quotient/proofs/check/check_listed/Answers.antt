@@ -4,7 +4,7 @@ use Rattle.quotient.specs.Kind.{kind_of}
 use Rattle.quotient.specs.Groups.{IsFault}
 use Rattle.quotient.specs.Lists.{IsListed}
 use Rattle.quotient.proofs.Faults.{not_accepted, not_refused, refused_exactly}
-use Rattle.quotient.proofs.check.check_group.Goals as goal
+use Rattle.quotient.proofs.check.check_listed.Goals as goal
 
 pub returns-in-Some : goal.returns-in-Some
 returns-in-Some g c =
