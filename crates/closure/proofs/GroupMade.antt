@@ -31,7 +31,7 @@ use Rattle.closure.specs.FromLattice.{error_of}
 use Rattle.closure.specs.GroupErrors.{IsGroupError, IsWithinLimits}
 use Rattle.closure.specs.Lattices.{IsLatticeOf, residues_of}
 use Rattle.closure.specs.Laws.ResidueLaws.{has_residue-is}
-use Rattle.closure.specs.Operations.{listing_with, AreApart, HoldsTranslations}
+use Rattle.closure.specs.Operations.{listing_with, AreApart, HasSmallEntries, HoldsTranslations}
 use Rattle.closure.specs.Laws.ShiftLaws.{modulo}
 use Rattle.closure.proofs.FirstOrder.{same_order}
 use Rattle.closure.proofs.Firsts.{lattice_of_listed, too_fine_is, first_listed, kept_lattice, kept_member, kept_group}
@@ -44,6 +44,10 @@ use Rattle.closure.proofs.Members.{same_modulo, group_is}
 pub moves_little : (bound : ℕ) (list : List Motion3) → All (λ m. IsSmallWithin bound (motion_of m)) list
     → All (λ m. IsVectorWithin (2 ^ 52) m.shift) (map motion_of list)
 moves_little bound list h = All-map (λ m. IsVectorWithin (2 ^ 52) m.shift) motion_of list (λ k d l. IsVectorWithin-more (h k d l).small.shift (lit≤ tt))
+
+pub moves_little_after : (ops now : List Motion3) → now ≡ ops → All HasSmallEntries (map motion_of ops) → All (λ m. IsVectorWithin (2 ^ 52) m.shift) (map motion_of now)
+moves_little_after ops now read small = subst (λ l. All (λ m. IsVectorWithin (2 ^ 52) m.shift) (map motion_of l)) (sym read)
+    (All-weaker HasSmallEntries (λ m. IsVectorWithin (2 ^ 52) m.shift) (λ m s. IsVectorWithin-more s.small.shift (lit≤ tt)) (map motion_of ops) small)
 
 module _ (bound : ℕ) (g : Listing) (ops : List Motion) (f : AreFirst (SameModulo g) g.ops ops) (h : All (IsSmallWithin bound) g.ops) where
   pub firsts_within : All (IsSmallWithin bound) ops

@@ -17,7 +17,7 @@ use crate::residues::lists_residue;
 use crate::translations::listed_lattice;
 use fractions::Part;
 use motions::{Listed, Motion3};
-use quotient::{check_group, distinct};
+use quotient::{check_group_by_homes, distinct, homes};
 use std::alloc::{AllocError, Global};
 
 /// A space group: its operations, each once modulo its translation lattice.
@@ -74,7 +74,8 @@ impl Group {
         }
         let lattice = listed_lattice(alloc, &listed)?;
         let ops = first_operations(alloc, &lattice, &listed)?;
-        check_group(&lattice, &ops)?;
+        let at_home = homes(alloc, &lattice, &ops)?;
+        check_group_by_homes(&lattice, &ops, &at_home)?;
         Ok(Group { ops, lattice })
     }
 

@@ -1,9 +1,8 @@
 // A lattice as the shifts that motions are taken modulo.
 ghost use Rattle.std.specs.Prelude.{◌≡◌, ◌↔◌, ◌^◌, All, IsTrue, map, pos};
 ghost use Rattle.quotient.specs.Kind.{Keeps};
-ghost use Rattle.symmetry.specs.Motions.{translation};
 ghost use Rattle.symmetry.specs.Sizes.{IsSmall, IsVectorWithin};
-ghost use Rattle.symmetry.specs.Vectors.{image, origin, unit_matrix};
+ghost use Rattle.symmetry.specs.Vectors.{image};
 ghost use Rattle.motions.specs.Views.{motion_of, parts};
 ghost use Rattle.closure.specs.Residues.{has_residue, is_before, IsResidue};
 ghost use Rattle.closure.specs.Lattices.{first_with, lattice_home, IsHome, IsLatticeShift};
@@ -13,7 +12,7 @@ use crate::lattice::Lattice;
 use crate::residues::{lists_residue, residue_of, residue_of_sum};
 use fractions::Part;
 use motions::Motion3;
-use quotient::{Motion, Quotient};
+use quotient::Quotient;
 
 impl Quotient for Lattice {
     type M = Motion3;
@@ -28,7 +27,7 @@ impl Quotient for Lattice {
 
     /// Whether the motion is the translation by a vector of the lattice.
     fn is_shift(&self, m: &Motion3) -> bool {
-        is_translation(m) && lists_residue(self.residues(), &m.t)
+        m.is_translation() && lists_residue(self.residues(), &m.t)
     }
 
     /// The motion with the lexicographically first translation, of those with entries from 0 to below
@@ -59,41 +58,6 @@ impl Quotient for Lattice {
     ghost homes = { homes_lem };
 }
 
-/// Whether the motion is a translation: whether its matrix is the unit matrix.
-pub(crate) fn is_translation(m: &Motion3) -> bool
-    ensures { IsTrue result ↔ ((motion_of m.now).matrix ≡ unit_matrix) }
-{
-    linear_part(m) == Motion3::identity()
-}
-
-/// The motion with the same matrix that leaves the origin where it is.
-fn linear_part(m: &Motion3) -> Motion3
-    ensures { motion_of result ≡ record { matrix = (motion_of m.now).matrix; shift = origin } }
-{
-    Motion3 {
-        w: m.w,
-        t: [Part(0), Part(0), Part(0)],
-    }
-}
-
-/// The translation by a vector.
-fn translation_by(t: [Part; 3]) -> Motion3
-    ensures { motion_of result ≡ translation (parts t) }
-{
-    let identity = Motion3::identity();
-    let w = identity.w;
-    Motion3 { w, t }
-}
-
-/// Where the matrix of a motion takes a vector.
-fn image_of(m: &Motion3, v: &[Part; 3]) -> [Part; 3]
-    requires motion { IsSmall (motion_of m.now) }
-    requires vector { IsVectorWithin (2 ^ 40) (parts v.now) }
-    ensures { parts result ≡ image (motion_of m.now).matrix (parts v.now) }
-{
-    translation_by(*v).then(&linear_part(m)).t
-}
-
 /// Whether the matrix of a motion takes each residue to a vector whose residue is listed.
 fn keeps_residues(residues: &[[Part; 3]], m: &Motion3) -> bool
     requires residues { All IsResidue residues.now }
@@ -103,7 +67,7 @@ fn keeps_residues(residues: &[[Part; 3]], m: &Motion3) -> bool
 {
     residues
         .iter()
-        .all(|r| lists_residue(residues, &image_of(m, r)))
+        .all(|r| lists_residue(residues, &m.image(r)))
 }
 
 /// The first, in lexicographic order, of the residues of t with each residue added.

@@ -11,7 +11,6 @@ ghost use Rattle.closure.specs.Lattices.{IsLatticeOf};
 
 use crate::lattice::Lattice;
 use crate::lattice_fault::LatticeFault;
-use crate::shifts::is_translation;
 use fractions::Part;
 use motions::Listed;
 use std::alloc::{AllocError, Global};
@@ -38,7 +37,7 @@ fn lattice_vectors(alloc: Global, listed: &Listed) -> Result<Vec<[Part; 3]>, All
 {
     let mut vectors = Vec::from_slice(alloc, &listed.centrings)?;
     for m in &listed.ops {
-        if is_translation(m) {
+        if m.is_translation() {
             vectors.push(m.t)?;
         }
     }

@@ -7,7 +7,7 @@ use Rattle.symmetry.specs.Sizes.{IsSmall}
 use Rattle.motions.specs.declared.motion.Motion3.{Motion3}
 use Rattle.motions.specs.Views.{motion_of, listing_of}
 use Rattle.closure.specs.GroupErrors.{IsWithinLimits}
-use Rattle.closure.proofs.GroupMade.{lattice_refused, lattice_accepted, kept_apart, kept_translations, accepted_group, kept_is_group, refused_fault, refused_group, kept_vectors, kept_members, kept_order, kept_alike}
+use Rattle.closure.proofs.GroupMade.{lattice_refused, lattice_accepted, kept_apart, kept_translations, accepted_group, kept_is_group, refused_fault, refused_group, kept_vectors, kept_members, kept_order, kept_alike, moves_little_after}
 use Rattle.closure.specs.Operations.{HasSmallEntries}
 use Rattle.closure.proofs.group.Group.make.Goals as goal
 
@@ -22,29 +22,32 @@ returns-in_err-lattice-clause-refused c =
     let few : length (map motion_of c.args.listed.ops.items) ≤ 192 = omega (arith, length-map c.args.listed.ops.items motion_of) in
     rw (p.1, p.2) (lattice_refused (listing_of c.args.listed) few c.in_err-lattice.field-0.0 c.in_err-lattice.ensures.fault)
 
-pub check_group-requires-clause-small : goal.check_group-requires-clause-small
-check_group-requires-clause-small c =
-    subst (λ (ops : List Motion3). All IsSmall (map motion_of ops)) (sym c.deref.ensures.value)
+pub check_group_by_homes-requires-clause-small : goal.check_group_by_homes-requires-clause-small
+check_group_by_homes-requires-clause-small c =
+    subst (λ (ops : List Motion3). All IsSmall (map motion_of ops)) (sym c.deref-2.ensures.value)
     (All-weaker HasSmallEntries IsSmall (λ m s. s.small) (map motion_of c.in_ok-ops.ops.items) c.in_ok-ops.ensures.small)
 
-pub returns-in_err-check_group-clause-accepted : goal.returns-in_err-check_group-clause-accepted
-returns-in_err-check_group-clause-accepted c limits group =
+pub homes-requires : goal.homes-requires
+homes-requires c = moves_little_after c.in_ok-ops.ops.items c.deref.result.now c.deref.ensures.value c.in_ok-ops.ensures.small
+
+pub returns-in_err-check_group_by_homes-clause-accepted : goal.returns-in_err-check_group_by_homes-clause-accepted
+returns-in_err-check_group_by_homes-clause-accepted c limits group =
     let lattice = c.in_ok-lattice in
     let ops = c.in_ok-ops in
-    let group_there = refused_group (listing_of c.args.listed) lattice.lattice lattice.ensures.lattice ops.ops.items ops.ensures.first c.deref.result.now c.deref.ensures.value group in
-    absurd (true≢false (sym (c.in_err-check_group.ensures.accepted.1 group_there)))
+    let group_there = refused_group (listing_of c.args.listed) lattice.lattice lattice.ensures.lattice ops.ops.items ops.ensures.first c.deref-2.result.now c.deref-2.ensures.value group in
+    absurd (true≢false (sym (c.in_err-check_group_by_homes.ensures.accepted.1 group_there)))
 
-pub returns-in_err-check_group-clause-refused : goal.returns-in_err-check_group-clause-refused
-returns-in_err-check_group-clause-refused c =
-    let r = c.from_residual-in_err-check_group in
+pub returns-in_err-check_group_by_homes-clause-refused : goal.returns-in_err-check_group_by_homes-clause-refused
+returns-in_err-check_group_by_homes-clause-refused c =
+    let r = c.from_residual-in_err-check_group_by_homes in
     let p = err_from_is_err_and r.result r.ensures.1 in
     let lattice = c.in_ok-lattice in
     let ops = c.in_ok-ops in
-    let fault = c.in_err-check_group.field-0.0 in
+    let fault = c.in_err-check_group_by_homes.field-0.0 in
     let limits : IsWithinLimits (listing_of c.args.listed) =
     record { few = omega (arith, length-map c.args.listed.ops.items motion_of); fine = lattice.ensures.fine } in
-    rw (p.1, p.2) (refused_fault (listing_of c.args.listed) lattice.lattice lattice.ensures.lattice ops.ops.items ops.ensures.first c.deref.result.now c.deref.ensures.value
-    limits fault ((c.in_err-check_group.ensures.refused fault).0 refl))
+    rw (p.1, p.2) (refused_fault (listing_of c.args.listed) lattice.lattice lattice.ensures.lattice ops.ops.items ops.ensures.first c.deref-2.result.now c.deref-2.ensures.value
+    limits fault ((c.in_err-check_group_by_homes.ensures.refused fault).0 refl))
 
 pub invariant_of-result : goal.invariant_of-result
 invariant_of-result c =
@@ -54,7 +57,7 @@ invariant_of-result c =
     let few : vec_len ops.ops ≤ 192 = let f = ops.ensures.few in omega arith in
     record {
       group = ∣ kept_is_group g lattice.lattice lattice.ensures.lattice ops.ops.items ops.ensures.first
-          c.deref.result.now c.deref.ensures.value (c.in_ok-check_group.ensures.accepted.0 refl) ∣₁;
+          c.deref-2.result.now c.deref-2.ensures.value (c.in_ok-check_group_by_homes.ensures.accepted.0 refl) ∣₁;
       apart = kept_apart g lattice.lattice lattice.ensures.lattice ops.ops.items ops.ensures.first;
       translations = kept_translations g lattice.lattice lattice.ensures.lattice ops.ops.items ops.ensures.first;
       small = ops.ensures.small;
@@ -69,8 +72,8 @@ returns-clause-made c =
     let lattice = c.in_ok-lattice in
     let ops = c.in_ok-ops in
     record {
-      is_group = accepted_group (listing_of c.args.listed) lattice.lattice lattice.ensures.lattice ops.ops.items ops.ensures.first c.deref.result.now c.deref.ensures.value
-          (c.in_ok-check_group.ensures.accepted.0 refl);
+      is_group = accepted_group (listing_of c.args.listed) lattice.lattice lattice.ensures.lattice ops.ops.items ops.ensures.first c.deref-2.result.now c.deref-2.ensures.value
+          (c.in_ok-check_group_by_homes.ensures.accepted.0 refl);
       alike = kept_alike (listing_of c.args.listed) lattice.lattice lattice.ensures.lattice ops.ops.items ops.ensures.first;
       firsts = ops.ensures.first;
     }
@@ -79,8 +82,8 @@ pub returns-clause-group : goal.returns-clause-group
 returns-clause-group c =
     let lattice = c.in_ok-lattice in
     let ops = c.in_ok-ops in
-    accepted_group (listing_of c.args.listed) lattice.lattice lattice.ensures.lattice ops.ops.items ops.ensures.first c.deref.result.now c.deref.ensures.value
-    (c.in_ok-check_group.ensures.accepted.0 refl)
+    accepted_group (listing_of c.args.listed) lattice.lattice lattice.ensures.lattice ops.ops.items ops.ensures.first c.deref-2.result.now c.deref-2.ensures.value
+    (c.in_ok-check_group_by_homes.ensures.accepted.0 refl)
 
 pub returns-clause-vectors : goal.returns-clause-vectors
 returns-clause-vectors c =
