@@ -2,9 +2,10 @@
 //
 // Promises to the crates above: the laws of `Motion` and of `Quotient`, which each implementation proves. Sameness
 // modulo shifts is an equivalence, and equality of `home`. `check_group` accepts exactly the lists that are a group
-// modulo shifts, and names the first thing that is wrong with any other, and `check_group_by_homes` does so where the
-// homes are known; `find` gives the first that is the same, and `distinct` the first of each. The definitions of a closure of generators, of the order in which a type lists its
-// motions and of a table of types stand here too, with tests of them that compute.
+// modulo shifts, and names the first thing that is wrong with any other, as does `check_group_by_homes` where the
+// homes are known; `find` gives the first that is the same, and `distinct` the first of each. The definitions of a
+// closure of generators, of the order in which a type lists its motions and of a table of types stand here too, with
+// tests of them that compute.
 #![tactic(auto)]
 
 mod check;
