@@ -1,5 +1,5 @@
--- Which special heights are in one orbit, by their half parts.
-use Rattle.std.proofs.Common.{◌≡◌, ◌↔◌, ℕ, ◌<◌, ℤ, pos, List, length, get_or, map, All, Any, sym, subst, ◌∙◌}
+-- Which special heights are in one orbit, by their levels.
+use Rattle.std.proofs.Common.{◌≡◌, ◌↔◌, ℕ, ◌<◌, ℤ, pos, List, length, map, All, Any, sym, subst, ◌∙◌}
 use Rattle.std.proofs.lemmas.List.{length-map}
 use Rattle.symmetry.specs.Vectors.{Vector, dot}
 use Rattle.symmetry.specs.Planes.{Height, IsCoprime, IsHeight}
@@ -10,13 +10,16 @@ use Rattle.symmetry.specs.HeightMotions.{AreHeightMotions, HeightMotion, TakesHe
 use Rattle.symmetry.specs.Orbits.{AreInOneOrbit, AreOrbitNumbers, height_at, IsPlaneCount}
 use Rattle.symmetry.proofs.PlaneCounts.{orbit_by_motions, plane_count}
 use Rattle.symmetry.proofs.PlaneOrbits.{orbit_refl, orbit_sym, orbit_trans}
-use Rattle.orbits.specs.HalfHeights.{AreHalves, AreJoined}
-use Rattle.orbits.specs.HalfView.{AreJoinedAt, count_of}
+use Rattle.scanning.specs.HeightView.{heights_of_specials}
+use Rattle.scanning.specs.Levels.{IsLevel}
+use Rattle.scanning.specs.declared.height.Height.{Height as SpecialHeight}
+use Rattle.orbits.specs.JoinedLevels.{AreJoined}
+use Rattle.orbits.specs.LevelView.{AreJoinedAt, level_at}
 use Rattle.orbits.specs.HeightMotionView.{height_motion_of}
-use Rattle.orbits.specs.declared.half_parts.HalfParts.{HalfParts}
 use Rattle.orbits.specs.declared.height_motion.HeightMotion.{HeightMotion as CodedMotion}
 use Rattle.orbits.specs.Numbers.{AreClasses, AreNumbered}
-use Rattle.orbits.proofs.HalfMotions.{takes_by_half}
+use Rattle.orbits.proofs.LevelMotions.{takes_by_level}
+use Rattle.orbits.proofs.SpecialHeights.{has_level, length-heights}
 
 module _ (g : Listing) (r : Vector) (f : Basis) (frame : IsFrame g r f) (group : IsGroup g) (coprime : IsCoprime r) (d : ℤ) (period : dot r f.tau ≡ d)
     (hs : List HeightMotion) (are : AreHeightMotions g r d hs) where
@@ -27,17 +30,23 @@ module _ (g : Listing) (r : Vector) (f : Basis) (frame : IsFrame g r f) (group :
   orbit_is s t high high' =
       subst (λ d. AreInOneOrbit g r s t ↔ Any (TakesHeight d s t) hs) period (orbit_by_motions g r f frame group coprime hs motions s t high high')
 
-  module _ (heights : List Height) (xs : List ℤ) (halves : AreHalves d heights xs) (inside : All (IsInPeriod d) heights) where
+  module _ (special : List SpecialHeight) (inside : All (IsInPeriod d) (heights_of_specials special)) where
+    abbrev heights : List Height
+    heights = heights_of_specials special
+
     abbrev AreOne : ℕ → ℕ → Type 0
-    AreOne i j = AreJoined hs d (get_or xs i (pos 0)) (get_or xs j (pos 0))
+    AreOne i j = AreJoined hs d (level_at special i) (level_at special j)
 
     high : (i : ℕ) → i < length heights → IsHeight (height_at heights i)
     high i h = (inside i (record { num = pos 0; den = pos 1 }) h).positive
 
+    level : (i : ℕ) → i < length heights → IsLevel (height_at heights i) (level_at special i)
+    level i h = has_level special i (subst (λ n. i < n) (length-heights special) h)
+
     joined_is : (i j : ℕ) → i < length heights → j < length heights → AreInOneOrbit g r (height_at heights i) (height_at heights j) ↔ AreOne i j
     joined_is i j h k =
         let orbit = orbit_is (height_at heights i) (height_at heights j) (high i h) (high j k) in
-        let takes = takes_by_half (height_at heights i) (height_at heights j) (get_or xs i (pos 0)) (get_or xs j (pos 0)) d (high i h) (high j k) (halves.each i h) (halves.each j k) in (
+        let takes = takes_by_level (height_at heights i) (height_at heights j) (level_at special i) (level_at special j) d (high i h) (high j k) (level i h) (level j k) in (
           λ o. let (n, m, within, is, t) = orbit.0 o in (n, m, within, is, (takes m).0 t),
           λ (n, m, within, is, t). orbit.1 (n, m, within, is, (takes m).1 t),
         )
@@ -67,20 +76,18 @@ module _ (g : Listing) (r : Vector) (f : Basis) (frame : IsFrame g r f) (group :
 -- ---- as the code has them
 
 module _ (g : Listing) (r : Vector) (f : Basis) (frame : IsFrame g r f) (group : IsGroup g) (coprime : IsCoprime r) (d : ℤ) (period : dot r f.tau ≡ d)
-    (ms : List CodedMotion) (are : AreHeightMotions g r d (map height_motion_of ms)) (heights : List Height) (hs : List HalfParts)
-    (halves : AreHalves d heights (map count_of hs)) (inside : All (IsInPeriod d) heights) where
-  pub as_many : length heights ≡ length hs
-  as_many = sym halves.count ∙ length-map hs count_of
-
-  pub coded_classes : AreClasses (AreJoinedAt ms d hs) (length hs)
+    (ms : List CodedMotion) (are : AreHeightMotions g r d (map height_motion_of ms)) (special : List SpecialHeight)
+    (inside : All (IsInPeriod d) (heights_of_specials special)) where
+  pub coded_classes : AreClasses (AreJoinedAt ms d special) (length special)
   coded_classes =
-      subst (AreClasses (AreJoinedAt ms d hs)) as_many
-      (are_classes g r f frame group coprime d period (map height_motion_of ms) are heights (map count_of hs) halves inside)
+      subst (AreClasses (AreJoinedAt ms d special)) (length-heights special)
+      (are_classes g r f frame group coprime d period (map height_motion_of ms) are special inside)
 
-  pub coded_numbers : (numbers : List ℕ) → ((classes : ℕ) × AreNumbered (AreJoinedAt ms d hs) (length hs) numbers classes) → AreOrbitNumbers g r heights numbers
+  pub coded_numbers : (numbers : List ℕ) → ((classes : ℕ) × AreNumbered (AreJoinedAt ms d special) (length special) numbers classes)
+      → AreOrbitNumbers g r (heights_of_specials special) numbers
   coded_numbers numbers (classes, are_numbered) =
-      are_orbit_numbers g r f frame group coprime d period (map height_motion_of ms) are heights (map count_of hs) halves inside numbers classes
-      (subst (λ n. AreNumbered (AreJoinedAt ms d hs) n numbers classes) (sym as_many) are_numbered)
+      are_orbit_numbers g r f frame group coprime d period (map height_motion_of ms) are special inside numbers classes
+      (subst (λ n. AreNumbered (AreJoinedAt ms d special) n numbers classes) (sym (length-heights special)) are_numbered)
 
 pub coded_planes : (g : Listing) (r : Vector) (f : Basis) → IsFrame g r f → IsGroup g → IsCoprime r → (d : ℤ) → dot r f.tau ≡ d → (ms : List CodedMotion)
     → AreHeightMotions g r d (map height_motion_of ms) → (n : ℕ) → n ≡ length ms → IsPlaneCount g r (dot r f.tau) n

@@ -1,11 +1,8 @@
--- Lists that the code reads: motions of planes, and heights in half parts.
+-- Lists that the code reads: motions of planes.
 use Rattle.std.proofs.Common.{◌≡◌, ℕ, ◌<◌, ◌≤◌, pos, List, length, get_or, map, Any}
-use Rattle.std.proofs.lemmas.List.{get_or-map}
 use Rattle.quotient.proofs.Items.{all_items, Contains-item}
 use Rattle.symmetry.specs.HeightMotions.{HeightMotion as MotionOfHeights}
-use Rattle.orbits.specs.HalfView.{count_at, count_of}
 use Rattle.orbits.specs.HeightMotionView.{height_motion_of}
-use Rattle.orbits.specs.declared.half_parts.HalfParts.{HalfParts}
 use Rattle.orbits.specs.declared.height_motion.HeightMotion.{HeightMotion}
 
 -- what stands where the list has nothing
@@ -18,7 +15,3 @@ module _ (P : MotionOfHeights → Type 0) (list : List HeightMotion) where
 
   pub none_has : (i : ℕ) → length list ≤ i → ((k : ℕ) → k < i → ¬ P (get_or (map height_motion_of list) k no_motion)) → ¬ Any P (map height_motion_of list)
   none_has i whole each (k, x, within, is, p) = all_items height_motion_of list (λ h. ¬ P h) no_motion i whole each x (k, within, is) p
-
--- the height at a place
-pub count_is : (hs : List HalfParts) (i : ℕ) (d : HalfParts) → i < length hs → count_at hs i ≡ (get_or hs i d).count
-count_is hs i d h = get_or-map count_of hs i d (pos 0) h

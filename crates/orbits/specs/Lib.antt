@@ -1,6 +1,5 @@
-pub mod Bounds
-pub mod HalfHeights
-pub mod HalfView
 pub mod HeightMotionView
+pub mod JoinedLevels
+pub mod LevelView
 pub mod Numbers
 pub mod Orientations

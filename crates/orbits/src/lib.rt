@@ -4,8 +4,6 @@
 // orbit of a general one; `orientations` gives the rows (hkl) W of the operations, each once, or says that one is too wide.
 #![tactic(auto)]
 
-mod half_parts;
-mod halves;
 mod height_motion;
 mod height_motions;
 mod limits;

@@ -2,22 +2,22 @@
 ghost use Rattle.std.specs.Prelude.{◌≡◌, ◌↔◌, ◌<◌, ◌≤◌, ◌^◌, ◌≤ℤ◌, ◌*ℤ◌, ℕ, ℤ, pos, IfOk, IsTrue, MatchOption, length, map, slice_index};
 ghost use Rattle.integers.specs.Size.{IsWithin};
 ghost use Rattle.motions.specs.Signs.{sign_value};
-ghost use Rattle.orbits.specs.Bounds.{largest_half};
-ghost use Rattle.orbits.specs.HalfHeights.{AreJoined, TakesHalf};
-ghost use Rattle.orbits.specs.HalfView.{AreJoinedAt, count_at};
+ghost use Rattle.scanning.specs.Bounds.{largest_level};
 ghost use Rattle.orbits.specs.HeightMotionView.{height_motion_of};
+ghost use Rattle.orbits.specs.JoinedLevels.{AreJoined, TakesLevel};
+ghost use Rattle.orbits.specs.LevelView.{AreJoinedAt, level_at};
 ghost use Rattle.orbits.specs.Numbers.{AreClasses, AreNumbered};
 
-use crate::half_parts::HalfParts;
 use crate::height_motion::HeightMotion;
 use motions::Sign;
 use plane_lattice::Frame;
+use scanning::Height;
 use std::alloc::{AllocError, Global};
 
 /// The numbers of the orbits of the heights, from 1 in the order of first appearance.
 pub(crate) fn orbit_numbers(
     alloc: Global,
-    heights: &[HalfParts],
+    heights: &[Height],
     motions: &[HeightMotion],
     frame: &Frame,
 ) -> Result<Vec<u32>, AllocError>
@@ -45,16 +45,16 @@ pub(crate) fn orbit_numbers(
 /// is none.
 fn earlier_number(
     numbers: &[u32],
-    heights: &[HalfParts],
-    height: &HalfParts,
+    heights: &[Height],
+    height: &Height,
     motions: &[HeightMotion],
     frame: &Frame,
 ) -> Option<u32>
     requires { length numbers.now ≤ length heights.now }
     ensures { MatchOption result
-        ((i : ℕ) → i < length numbers.now → ¬ AreJoined (map height_motion_of motions.now) frame.now.period.0 (count_at heights.now i) height.now.count)
+        ((i : ℕ) → i < length numbers.now → ¬ AreJoined (map height_motion_of motions.now) frame.now.period.0 (level_at heights.now i) height.now.level)
         (λ number. (i : ℕ) × (i < length numbers.now) × (slice_index numbers.now i ≡ number)
-        × AreJoined (map height_motion_of motions.now) frame.now.period.0 (count_at heights.now i) height.now.count) }
+        × AreJoined (map height_motion_of motions.now) frame.now.period.0 (level_at heights.now i) height.now.level) }
 {
     for (i, number) in numbers.iter().enumerate() {
         if are_joined(&heights[i], height, motions, frame) {
@@ -65,13 +65,8 @@ fn earlier_number(
 }
 
 /// Whether one of the motions takes the one height to the other, but for a whole number of periods.
-fn are_joined(
-    height: &HalfParts,
-    image: &HalfParts,
-    motions: &[HeightMotion],
-    frame: &Frame,
-) -> bool
-    ensures { IsTrue result ↔ AreJoined (map height_motion_of motions.now) frame.now.period.0 height.now.count image.now.count }
+fn are_joined(height: &Height, image: &Height, motions: &[HeightMotion], frame: &Frame) -> bool
+    ensures { IsTrue result ↔ AreJoined (map height_motion_of motions.now) frame.now.period.0 height.now.level image.now.level }
 {
     for motion in motions {
         if takes(motion, height, image, frame) {
@@ -82,21 +77,21 @@ fn are_joined(
 }
 
 /// Whether the motion takes the one height to the other, but for a whole number of periods.
-fn takes(motion: &HeightMotion, height: &HalfParts, image: &HalfParts, frame: &Frame) -> bool
-    ensures { IsTrue result ↔ TakesHalf frame.now.period.0 height.now.count image.now.count (height_motion_of motion.now) }
+fn takes(motion: &HeightMotion, height: &Height, image: &Height, frame: &Frame) -> bool
+    ensures { IsTrue result ↔ TakesLevel frame.now.period.0 height.now.level image.now.level (height_motion_of motion.now) }
 {
     let turned = signed(motion.sign, height);
-    is_multiple(turned + 2 * motion.shift - image.count, 2 * frame.period.0)
+    is_multiple(turned + 2 * motion.shift - image.level, 2 * frame.period.0)
 }
 
-/// The number of half parts with the sign.
-fn signed(sign: Sign, height: &HalfParts) -> i64
-    ensures is { result ≡ sign_value sign *ℤ height.now.count }
-    ensures small { IsWithin largest_half result }
+/// The level of the height with the sign.
+fn signed(sign: Sign, height: &Height) -> i64
+    ensures is { result ≡ sign_value sign *ℤ height.now.level }
+    ensures small { IsWithin largest_level result }
 {
     match sign {
-        Sign::Plus => height.count,
-        Sign::Minus => -height.count,
+        Sign::Plus => height.level,
+        Sign::Minus => -height.level,
     }
 }
 

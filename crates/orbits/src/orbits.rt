@@ -6,9 +6,8 @@ ghost use Rattle.symmetry.specs.Vectors.{dot};
 ghost use Rattle.motions.specs.Views.{parts, row_of};
 ghost use Rattle.closure.specs.Groups.{group_listing};
 ghost use Rattle.plane_lattice.specs.FrameView.{basis_of_frame};
-ghost use Rattle.scanning.specs.HeightView.{levels_of};
+ghost use Rattle.scanning.specs.HeightView.{heights_of_specials};
 
-use crate::halves::half_heights;
 use crate::height_motions::height_motions;
 use crate::numbers::orbit_numbers;
 use closure::Group;
@@ -35,13 +34,12 @@ pub struct Orbits {
 pub fn height_orbits(alloc: Global, scan: &Scan, group: &Group) -> Result<Orbits, NoMemory>
     requires { IsFrame (group_listing group.now) (row_of scan.now.frame.plane) (basis_of_frame scan.now.frame) }
     ensures numbers { IfOk result (λ orbits.
-        AreOrbitNumbers (group_listing group.now) (row_of scan.now.frame.plane) (levels_of scan.now.special.items) orbits.of.items) }
+        AreOrbitNumbers (group_listing group.now) (row_of scan.now.frame.plane) (heights_of_specials scan.now.special.items) orbits.of.items) }
     ensures planes { let r = row_of scan.now.frame.plane in
         IfOk result (λ orbits. IsPlaneCount (group_listing group.now) r (dot r (parts scan.now.frame.tau)) orbits.planes) }
 {
     let motions = height_motions(alloc, group, &scan.frame)?;
-    let heights = half_heights(alloc, scan)?;
-    let of = orbit_numbers(alloc, &heights, &motions, &scan.frame)?;
+    let of = orbit_numbers(alloc, &scan.special, &motions, &scan.frame)?;
     let planes = motions.len() as u32;
     Ok(Orbits { of, planes })
 }

@@ -15,7 +15,7 @@ use Rattle.plane_lattice.specs.FrameOf.{IsFrameOf, IsMadeFor}
 use Rattle.plane_lattice.specs.FrameView.{basis_of_frame}
 use Rattle.plane_lattice.specs.Scanning.{scanning_ops, IsPointOf}
 use Rattle.scanning.specs.declared.scan.Scan.{Scan}
-use Rattle.scanning.specs.HeightView.{levels_of}
+use Rattle.scanning.specs.HeightView.{heights_of_specials}
 use Rattle.scanning.specs.ScanView.{scan_of, IsScanOf}
 use Rattle.report.specs.declared.report.Report.{Report}
 use Rattle.report.specs.FractionsView.{fractions_of}
@@ -45,7 +45,7 @@ module _ (group : Group) (frame : Frame) (basis : Basis) (of : IsFrameOf group f
 
   pub report_made : (scan : Scan) (numbers : List ℕ) (planes : ℕ) (report : Report) → Shows scan numbers planes report → scan.frame ≡ frame
       → IsScan (group_listing group) (row_of frame.plane) (basis_of_frame frame) (scan_of scan)
-      → AreOrbitNumbers (group_listing group) (row_of frame.plane) (levels_of scan.special.items) numbers
+      → AreOrbitNumbers (group_listing group) (row_of frame.plane) (heights_of_specials scan.special.items) numbers
       → IsPlaneCount (group_listing group) (row_of frame.plane) frame.period.0 planes
       → IsReportOf group frame report
   report_made scan numbers planes report shown same is_scan are_numbers is_count = record {
@@ -78,7 +78,7 @@ module _ (group : Group) (frame : Frame) (basis : Basis) (of : IsFrameOf group f
       same_period : report.frame.period.0 ≡ frame.period.0
       same_period = ap (λ (f : Frame). f.period.0) same_frame
 
-      same_heights : block_heights blocks ≡ levels_of scan.special.items
+      same_heights : block_heights blocks ≡ heights_of_specials scan.special.items
       same_heights = sym (heights_of_blocks blocks) ∙ ap (λ (s : ScanOfPlanes). heights_of s.special) shown.same_scan
 
 -- the frame is a frame of the group
@@ -92,12 +92,12 @@ frame_made group frame (plane, basis, of) =
 -- the report that shows the scan of the group in the frame, with its orbits, is that of the group in the frame
 pub report_of_scan : (group : Group) (frame : Frame) → IsMadeFor group frame → (scan : Scan) → IsScanOf group frame scan
     → (numbers : List ℕ) (planes : ℕ)
-    → AreOrbitNumbers (group_listing group) (row_of scan.frame.plane) (levels_of scan.special.items) numbers
+    → AreOrbitNumbers (group_listing group) (row_of scan.frame.plane) (heights_of_specials scan.special.items) numbers
     → IsPlaneCount (group_listing group) (row_of scan.frame.plane) (dot (row_of scan.frame.plane) (parts scan.frame.tau)) planes
     → (report : Report) → Shows scan numbers planes report → IsReportOf group frame report
 report_of_scan group frame (plane, basis, of) scan is numbers planes are_numbers is_count report shown =
     let g = group_listing group in
     report_made group frame basis (subst (λ p. IsFrameOf group p basis frame) (sym of.plane) of) scan numbers planes report shown is.frame_is is.is
-    (subst (λ (f : Frame). AreOrbitNumbers g (row_of f.plane) (levels_of scan.special.items) numbers) is.frame_is are_numbers)
+    (subst (λ (f : Frame). AreOrbitNumbers g (row_of f.plane) (heights_of_specials scan.special.items) numbers) is.frame_is are_numbers)
     (subst (λ (f : Frame). IsPlaneCount g (row_of f.plane) f.period.0 planes) is.frame_is
     (subst (λ d. IsPlaneCount g (row_of scan.frame.plane) d planes) scan.frame.tau_gives is_count))

@@ -2,7 +2,7 @@
 use Rattle.std.proofs.Common.{◌≡◌, ℕ, List, [], ◌∷◌, length, map, refl, ap, arith}
 use Rattle.std.specs.List.{zip}
 use Rattle.scanning.specs.declared.height.Height.{Height}
-use Rattle.scanning.specs.HeightView.{levels_of, special_of, specials_of}
+use Rattle.scanning.specs.HeightView.{heights_of_specials, special_of, specials_of}
 use Rattle.report.specs.Numbered.{numbered}
 use Rattle.report.specs.Reports.{block_orbits, special_of_block}
 use Rattle.report.specs.SectionView.{block_of, levels_of_sections}
@@ -13,7 +13,7 @@ specials_of_numbered [] ns e = refl
 specials_of_numbered (h ∷ hs) [] e = absurd (omega arith)
 specials_of_numbered (h ∷ hs) (n ∷ ns) e = ap (λ xs. special_of h ∷ xs) (specials_of_numbered hs ns (omega arith))
 
-pub levels_of_numbered : (hs : List Height) (ns : List ℕ) → length ns ≡ length hs → levels_of_sections (map numbered (zip hs ns)) ≡ levels_of hs
+pub levels_of_numbered : (hs : List Height) (ns : List ℕ) → length ns ≡ length hs → levels_of_sections (map numbered (zip hs ns)) ≡ heights_of_specials hs
 levels_of_numbered [] ns e = refl
 levels_of_numbered (h ∷ hs) [] e = absurd (omega arith)
 levels_of_numbered (h ∷ hs) (n ∷ ns) e = ap (λ xs. (special_of h).height ∷ xs) (levels_of_numbered hs ns (omega arith))

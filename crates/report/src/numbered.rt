@@ -19,7 +19,7 @@ pub(crate) fn numbered(
     special
         .into_iter()
         .zip(orbits)
-        .map(|(Height { s, ops }, orbit)| HeightSection {
+        .map(|(Height { s, ops, .. }, orbit)| HeightSection {
             s,
             orbit,
             section: Section { ops },

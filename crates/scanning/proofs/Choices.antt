@@ -115,15 +115,15 @@ module _ (g : Listing) (r : Vector) (f : Basis) (frame : IsFrame g r f) where
 
     module _ (turned : Option ℤ) (e : Sign) (row : HasSign e) (t : ℤ) (is : asked e turned ≡ Some t) where
       -- a motion at home with what is asked
-      pub at_level : IsMember g m → (h : Motion) → SameModulo g h m → IsAtHome f h → dot r h.shift ≡ t
+      pub at_shift : IsMember g m → (h : Motion) → SameModulo g h m → IsAtHome f h → dot r h.shift ≡ t
           → IsChoice (SameModulo g) (IsAtHome f) (InRows g r turned) m (Some h)
-      at_level member h same home at =
+      at_shift member h same home at =
           some_choice g r f frame (InRows g r turned) m t (asks turned e row t is) h
           (in_rows turned e row t is h same.matrix (same_member g h m same member) at) home same
 
       -- no whole number of periods leads to it
-      pub off_level : ((k : ℤ) → ¬ (dot r f.tau *ℤ k ≡ t -ℤ dot r m.shift)) → IsChoice (SameModulo g) (IsAtHome f) (InRows g r turned) m None
-      off_level none =
+      pub off_shift : ((k : ℤ) → ¬ (dot r f.tau *ℤ k ≡ t -ℤ dot r m.shift)) → IsChoice (SameModulo g) (IsAtHome f) (InRows g r turned) m None
+      off_shift none =
           no_choice g r f frame (InRows g r turned) m t (asks turned e row t is)
           (λ k apart. none k (flipped (dot r f.tau) k ∙ sym apart))
         where

@@ -21,7 +21,7 @@ use Rattle.scanning.specs.Levels.{AreLevels, IsInTwoPeriods, IsLevel, IsTurned}
 use Rattle.scanning.specs.Members.{AreSameMotions}
 use Rattle.scanning.proofs.Choices.{periods_between}
 use Rattle.scanning.proofs.HeightNumbers.{divides_or_not, one_rest}
-use Rattle.scanning.proofs.RaisedMotions.{raised, raised_level, raised_same}
+use Rattle.scanning.proofs.RaisedMotions.{raised, raised_shift, raised_same}
 use Rattle.scanning.proofs.SameMotions.{same_listed, same_members}
 use Rattle.scanning.proofs.Zips.{zip_at, zip_length}
 
@@ -70,7 +70,7 @@ module _ (g : Listing) (r : Vector) (f : Basis) (frame : IsFrame g r f) (group :
         m,
         same_member g m turned.op (raised_same g r f frame k turned.op turned.op turned.op (same_refl g turned.op) refl (same_refl g turned.op).shift)
             (All-contains (IsMember g) ms turned.op (same_members g ms same) turned.listed),
-        (turned.row, sym level ∙ ap (λ z. s.den *ℤ z) (turned.is ∙ sym (raised_level r f k turned.op))),
+        (turned.row, sym level ∙ ap (λ z. s.den *ℤ z) (turned.is ∙ sym (raised_shift r f k turned.op))),
       )
 
   module _ (ts : List ℤ) (levels : AreLevels r (dot r f.tau) ms ts) (sp : List SpecialHeight)

@@ -1,5 +1,5 @@
 -- What the code lists at a height is what its scan gives there.
-use Rattle.std.proofs.Common.{◌≡◌, ℕ, ◌<◌, ◌^◌, ℤ, pos, List, [], length, get_or, map, lit<, sym, ◌∙◌, ap, subst, arith, unsigned_abs}
+use Rattle.std.proofs.Common.{◌≡◌, ℕ, ◌<◌, ℤ, pos, List, [], length, get_or, map, lit<, sym, ◌∙◌, ap, subst, arith, unsigned_abs}
 use Rattle.std.specs.Prelude.{All}
 use Rattle.std.specs.List.{AllZip}
 use Rattle.std.proofs.lemmas.List.{get_or-map, length-map}
@@ -51,10 +51,10 @@ module _ (scan : Scan) (s : HeightOfPlane) (high : IsHeight s) where
   index_within i k stands = let long = length-map scan.special.items special_of in let h = stands.within in omega arith
 
   -- the number of periods, which goes through 64 bits
-  module _ (small : IsFractionWithin (10 ^ 9) s) (i : ℕ) (k : ℤ) (stands : StandsAt scan.frame.period.0 (specials_of scan.special.items) s i k) where
+  module _ (small : IsFractionWithin 1000000000 s) (i : ℕ) (k : ℤ) (stands : StandsAt scan.frame.period.0 (specials_of scan.special.items) s i k) where
     pub periods_small : IsWithin largest_periods k
     periods_small =
-        periods_within scan.frame.period.0 scan.special.items scan.in_period scan.rising scan.halves s high (10 ^ 9) small.num scan.frame.above i k stands
+        periods_within scan.frame.period.0 scan.special.items scan.in_period scan.rising s high 1000000000 small.num scan.frame.above i k stands
 
     pub periods_wide : wide k ≡ k
     periods_wide = wide_is k largest_periods periods_small (lit< tt)

@@ -5,6 +5,7 @@ use Rattle.integers.proofs.Division.{floor}
 use Rattle.integers.proofs.Order.{mul-le-mul_right, one-le-mul, small_multiple}
 use Rattle.integers.proofs.Ring.{mul_zero}
 use Rattle.integers.proofs.Solver.{Expr.{var, num, ◌⊕◌, ◌⊝◌, ◌⊗◌}, given, linear, ring}
+use Rattle.symmetry.proofs.HeightsInPeriod.{less_by_factor}
 
 -- a product with a positive number is not negative only where the other is not
 pub from_product : (p u : ℤ) → pos 1 ≤ℤ u → pos 0 ≤ℤ (p *ℤ u) → pos 0 ≤ℤ p
@@ -42,6 +43,35 @@ module _ (u p q t : ℤ) (hu : pos 1 ≤ℤ u) (hq : pos 1 ≤ℤ q) (level : q 
       let other = linear (u ∷ p' ∷ q' ∷ t' ∷ q ∷ []) (var 4 ⊗ (var 2 ⊗ var 3)) (var 1 ⊗ var 4 ⊗ (num (pos 2) ⊗ var 0))
       (given (var 4) (var 2 ⊗ var 3) (num (pos 2) ⊗ var 1 ⊗ var 0) ∷ []) tt (level', tt) in
       absurd (omega (arith, ints)))
+
+  -- the level of a height within the period is within two
+  pub level_from : pos 0 ≤ℤ p → pos 0 ≤ℤ t
+  level_from from =
+      let product = mul-le-mul_right (pos 0) p u (omega (arith, ints)) from in
+      let twice = ring (p ∷ u ∷ []) (num (pos 2) ⊗ var 0 ⊗ var 1) (num (pos 2) ⊗ (var 0 ⊗ var 1)) tt in
+      let flip = ring (q ∷ t ∷ []) (var 0 ⊗ var 1) (var 1 ⊗ var 0) tt in
+      from_product t q hq (omega (arith, ints))
+
+  pub level_below : (d : ℤ) → (p *ℤ u) <ℤ (d *ℤ q) → t <ℤ (pos 2 *ℤ d)
+  level_below d below =
+      by_lt_z t (pos 2 *ℤ d) (λ l. l)
+      (λ le.
+      let product = mul-le-mul_right (pos 2 *ℤ d) t q (omega (arith, ints)) le in
+      let twice = ring (p ∷ u ∷ []) (num (pos 2) ⊗ var 0 ⊗ var 1) (num (pos 2) ⊗ (var 0 ⊗ var 1)) tt in
+      let right = ring (d ∷ q ∷ []) (num (pos 2) ⊗ var 0 ⊗ var 1) (num (pos 2) ⊗ (var 0 ⊗ var 1)) tt in
+      let flip = ring (q ∷ t ∷ []) (var 0 ⊗ var 1) (var 1 ⊗ var 0) tt in
+      absurd (omega (arith, ints)))
+
+  -- a lower height has a lower level
+  pub level_lower : (p' q' t' : ℤ) → pos 1 ≤ℤ q' → q' *ℤ t' ≡ pos 2 *ℤ p' *ℤ u → (p *ℤ q') <ℤ (p' *ℤ q) → t <ℤ t'
+  level_lower p' q' t' hq' level' lower =
+      let below = mul-le-mul_right (p *ℤ q' +ℤ pos 1) (p' *ℤ q) (pos 2 *ℤ u) (omega (arith, ints)) (omega (arith, ints)) in
+      let apart = ring (p ∷ q' ∷ u ∷ []) ((var 0 ⊗ var 1 ⊕ num (pos 1)) ⊗ (num (pos 2) ⊗ var 2)) (var 0 ⊗ var 1 ⊗ (num (pos 2) ⊗ var 2) ⊕ num (pos 2) ⊗ var 2) tt in
+      let one = linear (u ∷ p ∷ q ∷ t ∷ q' ∷ []) (var 3 ⊗ (var 2 ⊗ var 4)) (var 1 ⊗ var 4 ⊗ (num (pos 2) ⊗ var 0))
+      (given (var 4) (var 2 ⊗ var 3) (num (pos 2) ⊗ var 1 ⊗ var 0) ∷ []) tt (level, tt) in
+      let other = linear (u ∷ p' ∷ q' ∷ t' ∷ q ∷ []) (var 3 ⊗ (var 4 ⊗ var 2)) (var 1 ⊗ var 4 ⊗ (num (pos 2) ⊗ var 0))
+      (given (var 4) (var 2 ⊗ var 3) (num (pos 2) ⊗ var 1 ⊗ var 0) ∷ []) tt (level', tt) in
+      less_by_factor (q *ℤ q') t t' (one-le-mul q q' hq hq') (omega (arith, ints))
 
 -- whether q divides x
 pub divides_or_not : (x q : ℤ) → pos 1 ≤ℤ q → ((t : ℤ) → ¬ (q *ℤ t ≡ x)) ⊎ ((t : ℤ) × (q *ℤ t ≡ x))

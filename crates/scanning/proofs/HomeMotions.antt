@@ -31,13 +31,13 @@ module _ (g : Listing) (r : Vector) (f : Basis) (frame : IsFrame g r f) (m n h :
   pub home_motion : IsVectorWithin (unsigned_abs INDEX) r → IsVectorWithin largest_entry f.a → IsVectorWithin largest_entry f.b → IsVectorWithin largest_entry f.tau
       → IsSmallWithin (unsigned_abs MAX_ENTRY) m → n.matrix ≡ m.matrix → IsVectorWithin (unsigned_abs UNIT) n.shift
       → h.matrix ≡ n.matrix → dot r h.shift ≡ dot r n.shift → IsAtHome f h → IsHomeMotion r f h
-  home_motion row a b tau small reduced near matrix level home =
+  home_motion row a b tau small reduced near matrix shift_is home =
       let span : ℕ = largest_shift (unsigned_abs UNIT) in
       let P : ℤ → Type 0 = IsWithin span in
-      let at : IsWithin span (dot r h.shift) = subst P (sym level) (shift_within (unsigned_abs UNIT) r n.shift row near) in
+      let at : IsWithin span (dot r h.shift) = subst P (sym shift_is) (shift_within (unsigned_abs UNIT) r n.shift row near) in
       record {
         home = home;
-        level = at;
+        shift = at;
         small = record {
           matrix = subst (IsMatrixWithin (unsigned_abs MAX_ENTRY)) (sym (matrix ∙ reduced)) small.matrix;
           small = record {

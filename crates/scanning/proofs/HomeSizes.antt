@@ -52,11 +52,11 @@ module _ (g : Listing) (r : Vector) (f : Basis) (frame : IsFrame g r f) (m : Mot
   pub home_within : (e : ℕ) → IsVectorWithin e f.a → IsVectorWithin e f.b → IsVectorWithin e f.tau
       → IsWithin (n * nat_abs (dot r f.tau)) (dot r m.shift) → IsVectorWithin (e + e + n * e) m.shift
   unfolding plus multiple
-  home_within e a b t level =
+  home_within e a b t shift =
       let o = home.over in
       let x = within_from o home.by.x home.x_from home.x_below in
       let y = within_from o home.by.y home.y_from home.y_below in
-      let z = along_within o (dot r f.tau) home.by.z (dot r m.shift) home.positive (omega (arith, ints, frame.tau_above)) along level in
+      let z = along_within o (dot r f.tau) home.by.z (dot r m.shift) home.positive (omega (arith, ints, frame.tau_above)) along shift in
       record {
         x = entry_within o n e home.by.x home.by.y home.by.z f.a.x f.b.x f.tau.x m.shift.x home.positive (ap (λ (u : Vector). u.x) home.is) x y z a.x b.x t.x;
         y = entry_within o n e home.by.x home.by.y home.by.z f.a.y f.b.y f.tau.y m.shift.y home.positive (ap (λ (u : Vector). u.y) home.is) x y z a.y b.y t.y;

@@ -14,7 +14,7 @@ use Rattle.symmetry.specs.Scans.{IsInPeriod, IsLower, SpecialHeight}
 use Rattle.closure.specs.Laws.ListLaws.{AllPairs-map}
 use Rattle.plane_lattice.specs.declared.frame.Frame.{Frame}
 use Rattle.scanning.specs.declared.height.Height.{Height}
-use Rattle.scanning.specs.HeightView.{IsInHalves, levels_of, special_of, specials_of}
+use Rattle.scanning.specs.HeightView.{IsInHalves, heights_of_specials, special_of, specials_of}
 use Rattle.scanning.specs.Levels.{IsLevel}
 use Rattle.scanning.specs.SpecialHeights.{AreHeights, IsHeightAt}
 use Rattle.scanning.proofs.HeightNumbers.{height_below, height_from, height_lower}
@@ -28,18 +28,23 @@ level_of_form s t form =
     (given (num (negsuc 0)) (var 0 ⊗ (num (pos 2) ⊗ var 3)) (var 2 ⊗ var 1) ∷ []) tt (form.same, tt)
 
 -- what is so of each height is so of each in the view
-pub all_levels : (P : HeightOfPlane → Type 0) (hs : List Height) → All (λ (h : Height). P (fraction_of h.s)) hs → All P (levels_of hs)
-all_levels P hs all = All-map P (λ (h : SpecialHeight). h.height) (specials_of hs) (All-map (λ (h : SpecialHeight). P h.height) special_of hs all)
+pub all_heights : (P : HeightOfPlane → Type 0) (hs : List Height) → All (λ (h : Height). P (fraction_of h.s)) hs → All P (heights_of_specials hs)
+all_heights P hs all = All-map P (λ (h : SpecialHeight). h.height) (specials_of hs) (All-map (λ (h : SpecialHeight). P h.height) special_of hs all)
 
-pub pairs_levels : (R : HeightOfPlane → HeightOfPlane → Type 0) (hs : List Height)
-    → AllPairs (λ (h k : Height). R (fraction_of h.s) (fraction_of k.s)) hs → AllPairs R (levels_of hs)
-pairs_levels R hs all =
+pub pairs_heights : (R : HeightOfPlane → HeightOfPlane → Type 0) (hs : List Height)
+    → AllPairs (λ (h k : Height). R (fraction_of h.s) (fraction_of k.s)) hs → AllPairs R (heights_of_specials hs)
+pairs_heights R hs all =
     AllPairs-map (λ (h : SpecialHeight). h.height) R (specials_of hs)
     (AllPairs-map special_of (λ (h k : SpecialHeight). R h.height k.height) hs all)
 
--- half parts
-pub halves : (s : Fraction) (t : ℤ) → IsHeight s → IsLevel s t → IsInHalves s
-halves s t high level = ap (λ x. int_rem x s.den) (sym level) ∙ rem-multiple s.den t high
+-- each is a whole number of half parts
+pub in_halves : (hs : List Height) → All IsInHalves (heights_of_specials hs)
+in_halves hs = all_heights IsInHalves hs each
+  where
+    each : All (λ (h : Height). IsInHalves (fraction_of h.s)) hs
+    each i e h =
+        let x = get_or hs i e in
+        ap (λ n. int_rem n (fraction_of x.s).den) (sym x.is_level) ∙ rem-multiple (fraction_of x.s).den x.level x.s.positive
 
 module _ (frame : Frame) (ms : List Motion) (hs : List Height) (are : AreHeights frame ms hs) where
   abbrev pub level_at : ℕ → ℤ
@@ -51,8 +56,8 @@ module _ (frame : Frame) (ms : List Motion) (hs : List Height) (are : AreHeights
   pub has_level : (i : ℕ) (e : Height) → i < length hs → IsLevel (fraction_of (get_or hs i e).s) (level_at i)
   has_level i e h = level_of_form (fraction_of (get_or hs i e).s) (level_at i) (height_is i e h).form
 
-  pub are_in_period : All (IsInPeriod frame.period.0) (levels_of hs)
-  are_in_period = all_levels (IsInPeriod frame.period.0) hs each
+  pub are_in_period : All (IsInPeriod frame.period.0) (heights_of_specials hs)
+  are_in_period = all_heights (IsInPeriod frame.period.0) hs each
     where
       each : All (λ (h : Height). IsInPeriod frame.period.0 (fraction_of h.s)) hs
       each i e h =
@@ -65,8 +70,8 @@ module _ (frame : Frame) (ms : List Motion) (hs : List Height) (are : AreHeights
             below = height_below UNIT s.num s.den (level_at i) (omega (arith, ints)) is.form.positive level frame.period.0 is.within.below;
           }
 
-  pub are_rising : AllPairs IsLower (levels_of hs)
-  are_rising = pairs_levels IsLower hs each
+  pub are_rising : AllPairs IsLower (heights_of_specials hs)
+  are_rising = pairs_heights IsLower hs each
     where
       each : AllPairs (λ (h k : Height). IsLower (fraction_of h.s) (fraction_of k.s)) hs
       each i j e below h =
@@ -77,9 +82,3 @@ module _ (frame : Frame) (ms : List Motion) (hs : List Height) (are : AreHeights
           height_lower UNIT s.num s.den (level_at i) (omega (arith, ints)) (height_is i e before).form.positive (has_level i e before)
           t.num t.den (level_at j) (height_is j e h).form.positive (has_level j e h)
           (are.are.rising i j (pos 0) below (omega arith))
-
-  pub are_halves : All IsInHalves (levels_of hs)
-  are_halves = all_levels IsInHalves hs each
-    where
-      each : All (λ (h : Height). IsInHalves (fraction_of h.s)) hs
-      each i e h = halves (fraction_of (get_or hs i e).s) (level_at i) (height_is i e h).form.positive (has_level i e h)

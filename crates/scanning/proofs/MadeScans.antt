@@ -25,7 +25,7 @@ use Rattle.plane_lattice.specs.Bounds.{largest_entry}
 use Rattle.plane_lattice.specs.FrameView.{basis_of_frame}
 use Rattle.plane_lattice.specs.declared.frame.Frame.{Frame}
 use Rattle.scanning.specs.declared.height.Height.{Height}
-use Rattle.scanning.specs.HeightView.{IsGeneralOperation, IsSpecialOperation, levels_of, special_of, specials_of}
+use Rattle.scanning.specs.HeightView.{IsGeneralOperation, IsSpecialOperation, heights_of_specials, special_of, specials_of}
 use Rattle.scanning.specs.Levels.{AreLevels, IsLevel}
 use Rattle.scanning.specs.Members.{AreSameMotions, InRows}
 use Rattle.scanning.specs.SpecialHeights.{AreHeights, IsHeightAt}
@@ -50,18 +50,18 @@ module _ (frame : Frame) (g : Listing) (is_frame : IsFrame g (row_of frame.plane
   -- the matrix of a member is that of a listed operation
   operation_small : All (IsSmallWithin (unsigned_abs MAX_ENTRY)) g.ops → (m : Motion) → IsMember g m → IsAtHome f m
       → IsWithin (2 * nat_abs (dot r f.tau)) (dot r m.shift) → IsSmallWithin (unsigned_abs MAX_ENTRY) m
-  operation_small small m member home level =
+  operation_small small m member home shift =
       let of = All-contains (IsSmallWithin (unsigned_abs MAX_ENTRY)) g.ops member.of small member.listed in record {
         matrix = subst (IsMatrixWithin (unsigned_abs MAX_ENTRY)) (sym member.same.matrix) of.matrix;
         small = record {
           matrix = subst (IsMatrixWithin 500) (sym member.same.matrix) of.small.matrix;
           shift = IsVectorWithin-more
-              (home_within g r f is_frame m home 2 largest_entry frame.a_in_range frame.b_in_range frame.tau_in_range level) (lit≤ tt);
+              (home_within g r f is_frame m home 2 largest_entry frame.a_in_range frame.b_in_range frame.tau_in_range shift) (lit≤ tt);
         };
       }
 
-  no_level : (n : ℕ) (z : ℤ) → z ≡ pos 0 → IsWithin n z
-  no_level n z e = record { most = let size = ap nat_abs e in omega (arith, ints) }
+  no_shift : (n : ℕ) (z : ℤ) → z ≡ pos 0 → IsWithin n z
+  no_shift n z e = record { most = let size = ap nat_abs e in omega (arith, ints) }
 
   -- ---- the lists
 
@@ -78,7 +78,7 @@ module _ (frame : Frame) (g : Listing) (is_frame : IsFrame g (row_of frame.plane
         (λ k h.
         let m = motion_at (map motion_of general) k in
         let is = general_list.listed k h in
-        operation_small small m is.0.0 is.1 (no_level (2 * nat_abs (dot r f.tau)) (dot r m.shift) ((all_by_row g r m group frame.plane.coprime).0 is.0).1.1))
+        operation_small small m is.0.0 is.1 (no_shift (2 * nat_abs (dot r f.tau)) (dot r m.shift) ((all_by_row g r m group frame.plane.coprime).0 is.0).1.1))
 
     pub general_rows : All (IsGeneralOperation r f) (map motion_of general)
     general_rows =
@@ -111,10 +111,10 @@ module _ (frame : Frame) (g : Listing) (is_frame : IsFrame g (row_of frame.plane
     pub made_scan : (general : List Motion3) → IsListOf (SameModulo g) g.ops (IsAtHome f) (InAll g r) (map motion_of general)
         → IsScan g r f (record { general = map motion_of general; special = specials_of hs })
     made_scan general list =
-        let P : ℤ → Type 0 = λ d. All (IsInPeriod d) (levels_of hs) in
+        let P : ℤ → Type 0 = λ d. All (IsInPeriod d) (heights_of_specials hs) in
         let Q : ℤ → Type 0 = λ d. AreLevels r d ms are.levels in
-        let in_period : All (IsInPeriod (dot r f.tau)) (levels_of hs) = subst P (sym frame.tau_gives) (are_in_period frame ms hs are) in
-        let rising : AllPairs IsLower (levels_of hs) = are_rising frame ms hs are in
+        let in_period : All (IsInPeriod (dot r f.tau)) (heights_of_specials hs) = subst P (sym frame.tau_gives) (are_in_period frame ms hs are) in
+        let rising : AllPairs IsLower (heights_of_specials hs) = are_rising frame ms hs are in
         let levels : AreLevels r (dot r f.tau) ms are.levels = subst Q (sym frame.tau_gives) are.are in record {
           in_period = in_period;
           rising = rising;
@@ -125,10 +125,10 @@ module _ (frame : Frame) (g : Listing) (is_frame : IsFrame g (row_of frame.plane
 
     -- ---- the operations at the special heights
 
-    row_level : (i : ℕ) (e : Height) → i < length hs → (m : Motion) → KeepsRow r m ⊎ TurnsRow r (fraction_of (get_or hs i e).s) m
+    row_shift : (i : ℕ) (e : Height) → i < length hs → (m : Motion) → KeepsRow r m ⊎ TurnsRow r (fraction_of (get_or hs i e).s) m
         → IsWithin (2 * nat_abs (dot r f.tau)) (dot r m.shift)
-    row_level i e h m (inl keeps) = no_level (2 * nat_abs (dot r f.tau)) (dot r m.shift) keeps.1
-    row_level i e h m (inr turns) =
+    row_shift i e h m (inl keeps) = no_shift (2 * nat_abs (dot r f.tau)) (dot r m.shift) keeps.1
+    row_shift i e h m (inr turns) =
         let s = fraction_of (get_or hs i e).s in
         let t = get_or are.levels i (pos 0) in
         let is = height_is frame ms hs are i e h in
@@ -150,7 +150,7 @@ module _ (frame : Frame) (g : Listing) (is_frame : IsFrame g (row_of frame.plane
             let m = motion_at ops k in
             let is = (special_list i e h).listed k l in
             operation_small small m is.0.0 is.1
-            (row_level i e h m ((stabiliser_by_row g r s m group frame.plane.coprime (height_is frame ms hs are i e h).form.positive).0 is.0).1))
+            (row_shift i e h m ((stabiliser_by_row g r s m group frame.plane.coprime (height_is frame ms hs are i e h).form.positive).0 is.0).1))
 
     pub special_rows : All (λ (h : SpecialHeight). All (IsSpecialOperation r f h.height) h.ops) (specials_of hs)
     special_rows = All-map (λ (h : SpecialHeight). All (IsSpecialOperation r f h.height) h.ops) special_of hs each

@@ -11,8 +11,8 @@ use Rattle.symmetry.proofs.LatticeLaws.{same_refl}
 use Rattle.motions.specs.declared.motion.Sign.{Sign}
 use Rattle.motions.specs.Signs.{sign_value}
 use Rattle.scanning.specs.Members.{InRows, asked}
-use Rattle.scanning.proofs.Choices.{at_level}
-use Rattle.scanning.proofs.RaisedMotions.{raised, raised_at_home, raised_level, raised_same}
+use Rattle.scanning.proofs.Choices.{at_shift}
+use Rattle.scanning.proofs.RaisedMotions.{raised, raised_at_home, raised_shift, raised_same}
 
 -- a whole number of periods leads to what is asked
 pub raised_choice : (g : Listing) (r : Vector) (f : Basis) → IsFrame g r f → (m : Motion) (turned : Option ℤ) (e : Sign)
@@ -20,10 +20,10 @@ pub raised_choice : (g : Listing) (r : Vector) (f : Basis) → IsFrame g r f →
     → IsMember g m → IsAtHome f m → (k : ℤ) → dot r f.tau *ℤ k ≡ t -ℤ dot r m.shift
     → IsChoice (SameModulo g) (IsAtHome f) (InRows g r turned) m (Some (raised f k m))
 raised_choice g r f frame m turned e row t is member home k count =
-    at_level g r f frame m turned e row t is member (raised f k m)
+    at_shift g r f frame m turned e row t is member (raised f k m)
     (raised_same g r f frame k m m m (same_refl g m) refl (same_refl g m).shift)
     (raised_at_home f k m home)
-    (raised_level r f k m ∙ reached (dot r f.tau) k t (dot r m.shift) count)
+    (raised_shift r f k m ∙ reached (dot r f.tau) k t (dot r m.shift) count)
   where
     reached : (d k t n : ℤ) → d *ℤ k ≡ t -ℤ n → n +ℤ k *ℤ d ≡ t
     reached d k t n e = simp spread (omega (arith, ints))

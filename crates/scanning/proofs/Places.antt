@@ -1,46 +1,25 @@
 -- Where a height stands among the special heights of a scan.
 use native.Mathlib.Nat.{mul-le-mul_left}
-use Rattle.std.proofs.Common.{◌*◌, ◌≤◌, nat_abs, neg_ℤ, ◌≡◌, ℕ, ◌<◌, ℤ, pos, negsuc, ◌+ℤ◌, ◌*ℤ◌, ◌≤ℤ◌, ◌<ℤ◌, List, [], ◌∷◌, length, get_or, refl, sym, ◌∙◌, ap, subst, arith}
-use Rattle.std.specs.Prelude.{All, AllPairs, int_div, int_rem}
-use Rattle.std.proofs.lemmas.Int.{ints, by_lt_z, quot-rem}
+use Rattle.std.proofs.Common.{◌*◌, ◌≤◌, nat_abs, neg_ℤ, ◌≡◌, ℕ, ◌<◌, ℤ, pos, ◌+ℤ◌, ◌*ℤ◌, ◌≤ℤ◌, ◌<ℤ◌, List, [], ◌∷◌, length, get_or, refl, sym, ◌∙◌, ap, subst, arith}
+use Rattle.std.specs.Prelude.{All, AllPairs}
+use Rattle.std.proofs.lemmas.Int.{ints, by_lt_z}
 use Rattle.std.proofs.lemmas.List.{get_or-map, length-map}
-use Rattle.fractions.proofs.Lowest.{one_lowest}
-use Rattle.fractions.specs.Fraction.{Fraction, IsFraction, IsInLowestTerms}
-use Rattle.fractions.specs.FractionOf.{fraction_of}
-use Rattle.fractions.specs.LowestTerms.{IsLowestForm}
 use Rattle.fractions.specs.declared.part.TheConstants.{UNIT}
 use Rattle.integers.specs.Size.{IsWithin}
 use Rattle.integers.proofs.Ring.{IsWithin-mul, abs-mul}
 use Rattle.integers.proofs.Order.{mul-le-mul_right, mul_left_cancel_pos}
-use Rattle.integers.proofs.Solver.{Expr.{var, num, ◌⊕◌, ◌⊗◌, neg}, given, linear, ring}
+use Rattle.integers.proofs.Solver.{Expr.{var, num, ◌⊕◌, ◌⊗◌, neg}, ring}
 use Rattle.symmetry.specs.Planes.{Height as HeightOfPlane, IsHeight}
 use Rattle.symmetry.specs.Scans.{IsInPeriod, IsLower, SpecialHeight, StandsAt, special_at}
-use Rattle.symmetry.proofs.Heights.{at_in_period, get_or-heights, level_above, stands_above, stands_once}
+use Rattle.symmetry.proofs.Heights.{at_in_period, level_above, stands_above, stands_once}
 use Rattle.scanning.specs.declared.height.Height.{Height}
 use Rattle.scanning.specs.declared.place.Place.TheVariants.{General, Special}
-use Rattle.scanning.specs.HeightView.{IsInHalves, levels_of, special_of, specials_of}
+use Rattle.scanning.specs.HeightView.{heights_of_specials, special_of, specials_of}
 use Rattle.scanning.specs.Levels.{IsInTwoPeriods, IsLevel}
 use Rattle.scanning.specs.PlaceView.{IsPlaceOf}
-use Rattle.scanning.proofs.HeightNumbers.{from_product, one_rest}
-use Rattle.scanning.proofs.MadeHeights.{level_of_form}
+use Rattle.scanning.proofs.HeightNumbers.{level_below, level_from, one_rest}
 
 -- ---- numbers
-
--- the level of a height within the period is within two
-level_from : (u p q t : ℤ) → pos 1 ≤ℤ u → pos 1 ≤ℤ q → q *ℤ t ≡ pos 2 *ℤ p *ℤ u → pos 0 ≤ℤ p → pos 0 ≤ℤ t
-level_from u p q t hu hq level from =
-    let product = mul-le-mul_right (pos 0) p u (omega (arith, ints)) from in
-    let twice = ring (p ∷ u ∷ []) (num (pos 2) ⊗ var 0 ⊗ var 1) (num (pos 2) ⊗ (var 0 ⊗ var 1)) tt in
-    from_product t q hq (omega (arith, ints))
-
-level_below : (u p q t d : ℤ) → pos 1 ≤ℤ q → q *ℤ t ≡ pos 2 *ℤ p *ℤ u → (p *ℤ u) <ℤ (d *ℤ q) → t <ℤ (pos 2 *ℤ d)
-level_below u p q t d hq level below =
-    by_lt_z t (pos 2 *ℤ d) (λ l. l)
-    (λ le.
-    let product = mul-le-mul_right (pos 2 *ℤ d) t q (omega (arith, ints)) le in
-    let twice = ring (p ∷ u ∷ []) (num (pos 2) ⊗ var 0 ⊗ var 1) (num (pos 2) ⊗ (var 0 ⊗ var 1)) tt in
-    let right = ring (d ∷ q ∷ []) (num (pos 2) ⊗ var 0 ⊗ var 1) (num (pos 2) ⊗ (var 0 ⊗ var 1)) tt in
-    absurd (omega (arith, ints)))
 
 -- how many periods a height is above another within the period
 below_steps : (d k : ℤ) (n : ℕ) → pos 1 ≤ℤ d → (k *ℤ d) ≤ℤ pos n → k ≤ℤ pos n
@@ -90,24 +69,6 @@ steps_within u p q t d k n hq hd level from below small =
     own : IsWithin (nat_abs u) u
     own = record { most = omega arith }
 
--- two heights in lowest terms with one level are one
-one_height : (s s' : Fraction) (t : ℤ) → IsFraction s → IsFraction s' → IsInLowestTerms s → IsInLowestTerms s' → IsLevel s t → IsLevel s' t → s ≡ s'
-one_height s s' t high high' lowest lowest' level level' =
-    one_lowest s s' high high' lowest lowest'
-    (mul_left_cancel_pos (pos 2 *ℤ UNIT) _ _ (omega (arith, ints))
-    (linear (s.num ∷ s.den ∷ s'.num ∷ s'.den ∷ t ∷ UNIT ∷ []) (num (pos 2) ⊗ var 5 ⊗ (var 0 ⊗ var 3)) (num (pos 2) ⊗ var 5 ⊗ (var 2 ⊗ var 1))
-    (given (num (negsuc 0) ⊗ var 3) (var 1 ⊗ var 4) (num (pos 2) ⊗ var 0 ⊗ var 5)
-    ∷ given (var 1) (var 3 ⊗ var 4) (num (pos 2) ⊗ var 2 ⊗ var 5) ∷ []) tt (level, (level', tt))))
-
--- a height in half parts has a level
-level_of_halves : (s : HeightOfPlane) → IsInHalves s → (t : ℤ) × IsLevel s t
-level_of_halves s none =
-    let x = pos 2 *ℤ s.num *ℤ UNIT in
-    (int_div x s.den, flipped (int_div x s.den) s.den (int_rem x s.den) x none (quot-rem x s.den))
-  where
-    flipped : (k q r x : ℤ) → r ≡ pos 0 → k *ℤ q +ℤ r ≡ x → q *ℤ k ≡ x
-    flipped k q r x none is = omega (arith, ints)
-
 -- ---- the heights of a scan
 
 -- some height of a list that has one
@@ -124,7 +85,7 @@ no_place d special s none = record {
     different : (i : ℕ) (k : ℤ) → General ≡ Special i k → ⊥
     different i k e = cc e
 
-module _ (d : ℤ) (hs : List Height) (in_period : All (IsInPeriod d) (levels_of hs)) (rising : AllPairs IsLower (levels_of hs)) (halves : All IsInHalves (levels_of hs))
+module _ (d : ℤ) (hs : List Height) (in_period : All (IsInPeriod d) (heights_of_specials hs)) (rising : AllPairs IsLower (heights_of_specials hs))
     (s : HeightOfPlane) (high : IsHeight s) where
   abbrev sp : List SpecialHeight
   sp = specials_of hs
@@ -138,59 +99,56 @@ module _ (d : ℤ) (hs : List Height) (in_period : All (IsInPeriod d) (levels_of
   pub special_is : (i : ℕ) (e : Height) → i < length hs → special_at sp i ≡ special_of (get_or hs i e)
   special_is i e h = get_or-map special_of hs i e (record { height = record { num = pos 0; den = pos 1 }; ops = [] }) h
 
-  half_at : (i : ℕ) → i < length sp → (t : ℤ) × IsLevel (special_at sp i).height t × IsInTwoPeriods d t
-  half_at i h =
+  -- the level at an index
+  abbrev level_at : (i : ℕ) → i < length sp → ℤ
+  level_at i h = (get_or hs i (item hs i (within i h))).level
+
+  has_level : (i : ℕ) (h : i < length sp) → IsLevel (special_at sp i).height (level_at i h)
+  has_level i h =
+      let e = item hs i (within i h) in
+      let x = get_or hs i e in
+      subst (λ (u : SpecialHeight). IsLevel u.height x.level) (sym (special_is i e (within i h))) x.is_level
+
+  in_two_periods : (i : ℕ) (h : i < length sp) → IsInTwoPeriods d (level_at i h)
+  in_two_periods i h =
       let u = (special_at sp i).height in
-      let is = at_in_period d sp in_period rising i h in
-      let (t, level) = level_of_halves u (subst IsInHalves (get_or-heights sp i u h) (halves i u (long_heights i h))) in (
-        t,
-        level,
-        record {
-          from = level_from UNIT u.num u.den t (omega (arith, ints)) is.positive level is.from;
-          below = level_below UNIT u.num u.den t d is.positive level is.below;
-        },
-      )
-    where
-      long_heights : (i : ℕ) → i < length sp → i < length (levels_of hs)
-      long_heights i h = let long = length-map sp (λ (h : SpecialHeight). h.height) in omega arith
+      let is = at_in_period d sp in_period rising i h in record {
+        from = level_from UNIT u.num u.den (level_at i h) (omega (arith, ints)) is.positive (has_level i h) is.from;
+        below = level_below UNIT u.num u.den (level_at i h) (omega (arith, ints)) is.positive (has_level i h) d is.below;
+      }
+
+  -- the level of a height that stands over it
+  level_over : (i : ℕ) (k : ℤ) (stands : StandsAt d sp s i k) → IsLevel s (level_at i stands.within +ℤ pos 2 *ℤ k *ℤ d)
+  level_over i k stands =
+      let u = (special_at sp i).height in
+      level_above UNIT u.num u.den (level_at i stands.within) (at_in_period d sp in_period rising i stands.within).positive
+      (has_level i stands.within) d k s.num s.den stands.is
 
   pub periods_within : (n : ℕ) → IsWithin n s.num → pos 1 ≤ℤ d → (i : ℕ) (k : ℤ) → StandsAt d sp s i k → IsWithin (nat_abs UNIT * n) k
   periods_within n small positive i k stands =
-      let u = (special_at sp i).height in
-      let (t, level, range) = half_at i stands.within in
-      steps_within UNIT s.num s.den t d k n high positive
-      (level_above UNIT u.num u.den t (at_in_period d sp in_period rising i stands.within).positive level d k s.num s.den stands.is) range.from range.below small
+      let range = in_two_periods i stands.within in
+      steps_within UNIT s.num s.den (level_at i stands.within) d k n high positive (level_over i k stands) range.from range.below small
 
   -- a height with no level stands over none
   pub no_level_place : ((t : ℤ) → ¬ IsLevel s t) → IsPlaceOf d sp s General
-  no_level_place none =
-      no_place d sp s (λ i k stands.
-      let u = (special_at sp i).height in
-      let (t, level, range) = half_at i stands.within in
-      none (t +ℤ pos 2 *ℤ k *ℤ d) (level_above UNIT u.num u.den t (at_in_period d sp in_period rising i stands.within).positive level d k s.num s.den stands.is))
+  no_level_place none = no_place d sp s (λ i k stands. none _ (level_over i k stands))
 
-  module _ (t : ℤ) (level : IsLevel s t) (rest k : ℤ) (range : IsInTwoPeriods d rest) (is : t ≡ rest +ℤ pos 2 *ℤ k *ℤ d)
-      (base : Fraction) (form : IsLowestForm base rest (pos 2 *ℤ UNIT)) where
-    -- what is left stands at no place
-    pub no_rest_place : ((i : ℕ) (e : Height) → i < length hs → ¬ (fraction_of (get_or hs i e).s ≡ base)) → IsPlaceOf d sp s General
+  module _ (t : ℤ) (level : IsLevel s t) (rest k : ℤ) (range : IsInTwoPeriods d rest) (is : t ≡ rest +ℤ pos 2 *ℤ k *ℤ d) where
+    -- what is left is no level of them
+    pub no_rest_place : ((i : ℕ) (e : Height) → i < length hs → ¬ ((get_or hs i e).level ≡ rest)) → IsPlaceOf d sp s General
     no_rest_place none =
         no_place d sp s (λ i l stands.
-        let u = (special_at sp i).height in
-        let e = item hs i (within i stands.within) in
-        let at = at_in_period d sp in_period rising i stands.within in
-        let (t', here, range') = half_at i stands.within in
-        let over = level_above UNIT u.num u.den t' at.positive here d l s.num s.den stands.is in
-        let whole : t' +ℤ pos 2 *ℤ l *ℤ d ≡ t = mul_left_cancel_pos s.den _ t high (over ∙ sym level) in
-        let equal : t' ≡ rest = one_rest (pos 2 *ℤ d) t' rest l k t range'.from range'.below range.from range.below (flipped t' l ∙ whole) (flipped rest k ∙ sym is) in
-        none i e (within i stands.within)
-        (sym (ap (λ (x : SpecialHeight). x.height) (special_is i e (within i stands.within)))
-        ∙ one_height u base rest at.positive form.positive at.lowest form.lowest (subst (IsLevel u) equal here) (level_of_form base rest form)))
+        let t' = level_at i stands.within in
+        let range' = in_two_periods i stands.within in
+        let whole : t' +ℤ pos 2 *ℤ l *ℤ d ≡ t = mul_left_cancel_pos s.den _ t high (level_over i l stands ∙ sym level) in
+        none i (item hs i (within i stands.within)) (within i stands.within)
+        (one_rest (pos 2 *ℤ d) t' rest l k t range'.from range'.below range.from range.below (flipped t' l ∙ whole) (flipped rest k ∙ sym is)))
       where
         flipped : (t k : ℤ) → t +ℤ pos 2 *ℤ d *ℤ k ≡ t +ℤ pos 2 *ℤ k *ℤ d
         flipped t k = ring (t ∷ k ∷ d ∷ []) (var 0 ⊕ num (pos 2) ⊗ var 2 ⊗ var 1) (var 0 ⊕ num (pos 2) ⊗ var 1 ⊗ var 2) tt
 
-    -- or at one
-    pub rest_place : (i : ℕ) → i < length hs → ((e : Height) → fraction_of (get_or hs i e).s ≡ base) → IsPlaceOf d sp s (Special i k)
+    -- or of one
+    pub rest_place : (i : ℕ) → i < length hs → ((e : Height) → (get_or hs i e).level ≡ rest) → IsPlaceOf d sp s (Special i k)
     rest_place i h at = record {
       over = λ j l. (
         λ e. subst (λ m. StandsAt d sp s j m) (same_k i k j l e) (subst (λ m. StandsAt d sp s m k) (same_i i k j l e) stands),
@@ -210,12 +168,11 @@ module _ (d : ℤ) (hs : List Height) (in_period : All (IsInPeriod d) (levels_of
 
         stands : StandsAt d sp s i k
         stands =
-            let e = item hs i h in
             let u = (special_at sp i).height in
-            let same : u ≡ base = ap (λ (x : SpecialHeight). x.height) (special_is i e h) ∙ at e in
-            let here : IsLevel u rest = subst (λ v. IsLevel v rest) (sym same) (level_of_form base rest form) in
+            let there = back_within i h in
+            let here : IsLevel u rest = subst (IsLevel u) (at (item hs i (within i there))) (has_level i there) in
             record {
-              within = back_within i h;
-              is = stands_above UNIT u.num u.den rest (at_in_period d sp in_period rising i (back_within i h)).positive here d k s.num s.den
+              within = there;
+              is = stands_above UNIT u.num u.den rest (at_in_period d sp in_period rising i there).positive here d k s.num s.den
                   (ap (λ z. s.den *ℤ z) (sym is) ∙ level);
             }

@@ -44,10 +44,10 @@ raised_at_home f k m home = record {
   y_below = home.y_below;
 }
 
--- ---- levels
+-- ---- (hkl).w
 
-pub raised_level : (r : Vector) (f : Basis) (k : ℤ) (m : Motion) → dot r (raised f k m).shift ≡ dot r m.shift +ℤ k *ℤ dot r f.tau
-raised_level r f k m = dot-plus r m.shift (multiple k f.tau) ∙ ap (λ z. dot r m.shift +ℤ z) (dot-multiple r k f.tau)
+pub raised_shift : (r : Vector) (f : Basis) (k : ℤ) (m : Motion) → dot r (raised f k m).shift ≡ dot r m.shift +ℤ k *ℤ dot r f.tau
+raised_shift r f k m = dot-plus r m.shift (multiple k f.tau) ∙ ap (λ z. dot r m.shift +ℤ z) (dot-multiple r k f.tau)
 
 -- ---- sameness
 

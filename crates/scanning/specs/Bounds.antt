@@ -1,11 +1,11 @@
 -- How large the numbers become that tell whether a motion maps a plane to itself.
-use Rattle.std.specs.Prelude.{ℕ, ◌+◌, ◌*◌, ◌^◌, unsigned_abs}
+use Rattle.std.specs.Prelude.{ℕ, ◌+◌, ◌*◌, unsigned_abs}
 use Rattle.fractions.specs.declared.part.TheConstants.{UNIT}
 use Rattle.motions.specs.declared.index.TheConstants.{INDEX}
 
--- twice a height with a numerator of at most 10^9, in parts
+-- twice a height with a numerator of at most 1000000000, in parts
 abbrev pub largest_level : ℕ
-largest_level = 2 * unsigned_abs UNIT * 10 ^ 9
+largest_level = 2 * unsigned_abs UNIT * 1000000000
 
 -- (hkl).t, for a vector with entries within a bound
 abbrev pub largest_shift : ℕ → ℕ
@@ -15,6 +15,6 @@ largest_shift bound = unsigned_abs INDEX * bound + unsigned_abs INDEX * bound + 
 abbrev pub largest_count : ℕ
 largest_count = largest_level + largest_shift (unsigned_abs UNIT)
 
--- how many periods a height with a numerator of at most 10^9 stands above a special one
+-- how many periods a height with a numerator of at most 1000000000 stands above a special one
 abbrev pub largest_periods : ℕ
-largest_periods = unsigned_abs UNIT * 10 ^ 9
+largest_periods = unsigned_abs UNIT * 1000000000

@@ -19,8 +19,8 @@ abbrev pub specials_of : List Height → List SpecialHeight
 specials_of hs = map special_of hs
 
 -- the heights alone
-abbrev pub levels_of : List Height → List HeightOfPlane
-levels_of hs = heights_of (specials_of hs)
+abbrev pub heights_of_specials : List Height → List HeightOfPlane
+heights_of_specials hs = heights_of (specials_of hs)
 
 -- a whole number of half parts
 abbrev pub IsInHalves : HeightOfPlane → Type 0

@@ -28,7 +28,7 @@ asked Minus turned = turned
 pub record IsHomeMotion (r : Vector) (f : Basis) (m : Motion) : Type 0 where
   pub home : IsAtHome f m
   pub small : IsSmallWithin (unsigned_abs MAX_ENTRY) m
-  pub level : IsWithin (largest_shift (unsigned_abs UNIT)) (dot r m.shift)
+  pub shift : IsWithin (largest_shift (unsigned_abs UNIT)) (dot r m.shift)
 
 -- place by place the motions are the same as the operations modulo the lattice
 abbrev pub AreSameMotions : Listing → List Motion → List Motion → Type 0

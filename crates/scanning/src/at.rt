@@ -1,5 +1,5 @@
 // The operations at any height, by its class.
-ghost use Rattle.std.specs.Prelude.{◌≡◌, ◌↔◌, ◌^◌, All, IfOk, IsTrue, unsigned_abs};
+ghost use Rattle.std.specs.Prelude.{◌≡◌, ◌↔◌, All, IfOk, IsTrue, unsigned_abs};
 ghost use Rattle.std.specs.List.{AllZip};
 ghost use Rattle.fractions.specs.Fraction.{IsFractionWithin};
 ghost use Rattle.fractions.specs.FractionOf.{fraction_of};
@@ -22,7 +22,7 @@ use plane_lattice::Frame;
 use std::alloc::Global;
 
 /// How large the numerator and the denominator of a height may be.
-const LARGEST_HEIGHT: u128 = 1_000_000_000;
+pub const MOST_HEIGHT: u128 = 1_000_000_000;
 
 impl Scan {
     ghost use Rattle.std.specs.Prelude.{map};
@@ -36,9 +36,9 @@ impl Scan {
     /// The operations that map the plane of the height s to itself, as the scan gives them: the general ones, or those at
     /// the special height over which it stands, conjugated by k tau and brought home.
     ///
-    /// [`Large`](AtFault::Large) comes exactly where the numerator or the denominator of s is above 10^9 in size.
+    /// [`Large`](AtFault::Large) comes exactly where the numerator or the denominator of s is above [`MOST_HEIGHT`] in size.
     pub fn ops_at(&self, alloc: Global, s: Ratio) -> Result<Vec<Motion3>, AtFault>
-        ensures large { (result ≡ Err Large) ↔ (¬ IsFractionWithin (10 ^ 9) (fraction_of s)) }
+        ensures large { (result ≡ Err Large) ↔ (¬ IsFractionWithin 1000000000 (fraction_of s)) }
         ensures gives { (g : Listing) → IsGroup g → IsFrame g (row_of self.now.frame.plane) (basis_of_frame self.now.frame) →
             IsScan g (row_of self.now.frame.plane) (basis_of_frame self.now.frame) (scan_of self.now) →
             IfOk result (λ ops. GivesAt g (row_of self.now.frame.plane) (basis_of_frame self.now.frame) (scan_of self.now)
@@ -63,11 +63,11 @@ impl Scan {
     }
 }
 
-/// Whether the numerator and the denominator are at most 10^9 in size.
+/// Whether the numerator and the denominator are at most [`MOST_HEIGHT`] in size.
 fn is_in_range(s: Ratio) -> bool
-    ensures { IsTrue result ↔ IsFractionWithin (10 ^ 9) (fraction_of s) }
+    ensures { IsTrue result ↔ IsFractionWithin 1000000000 (fraction_of s) }
 {
-    s.num().unsigned_abs() <= LARGEST_HEIGHT && s.den().unsigned_abs() <= LARGEST_HEIGHT
+    s.num().unsigned_abs() <= MOST_HEIGHT && s.den().unsigned_abs() <= MOST_HEIGHT
 }
 
 /// The operations conjugated by k tau and brought home: the operations at the height that is k periods higher.

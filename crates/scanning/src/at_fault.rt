@@ -7,7 +7,7 @@ use std::alloc::AllocError;
 /// Why there is no list of the operations at a height.
 #[derive(Clone, Copy, PartialEq, Eq, Debug)]
 pub enum AtFault {
-    /// The numerator or the denominator of the height is above 10^9 in size.
+    /// The numerator or the denominator of the height is above [`MOST_HEIGHT`](crate::MOST_HEIGHT) in size.
     Large,
     /// There is no memory.
     NoMemory,

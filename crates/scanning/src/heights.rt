@@ -45,5 +45,5 @@ fn height_at(
 {
     let s = Ratio::make(i128::from(level), i128::from(2 * UNIT)).unwrap();
     let ops = members(alloc, homes, frame, Some(level))?;
-    Ok(Height { s, ops })
+    Ok(Height { s, level, ops })
 }

@@ -11,9 +11,9 @@ mod class;
 mod height;
 mod heights;
 mod homes;
-mod levels;
 mod make;
 mod members;
+mod periods;
 mod place;
 mod raised;
 mod scan;
@@ -21,6 +21,7 @@ mod scan;
 mod tests;
 mod turned;
 
+pub use at::MOST_HEIGHT;
 pub use at_fault::AtFault;
 pub use height::Height;
 pub use homes::NoMemory;

@@ -11,7 +11,7 @@ ghost use Rattle.scanning.specs.Bounds.{largest_level};
 ghost use Rattle.scanning.specs.Members.{InRows, IsHomeMotion, asked};
 
 use crate::homes::NoMemory;
-use crate::levels::periods_to;
+use crate::periods::periods_to;
 use crate::raised::raised;
 use motions::{Motion3, Sign, side};
 use plane_lattice::Frame;
@@ -49,13 +49,13 @@ fn member(m: &Motion3, frame: &Frame, turned: Option<i64>) -> Option<Motion3>
         IsChoice (SameModulo g) (IsAtHome (basis_of_frame frame.now)) (InRows g (row_of frame.now.plane) turned)
         (motion_of m.now) (option_map motion_of result) }
 {
-    let level = asked_level(side(m, &frame.plane)?, turned)?;
-    let count = periods_to(level, m, frame)?;
+    let shift = asked_shift(side(m, &frame.plane)?, turned)?;
+    let count = periods_to(shift, m, frame)?;
     Some(raised(m, count, &frame.tau))
 }
 
 /// The (hkl).w that is asked of the motions with this sign.
-fn asked_level(sign: Sign, turned: Option<i64>) -> Option<i64>
+fn asked_shift(sign: Sign, turned: Option<i64>) -> Option<i64>
     requires { IfSome turned (IsWithin largest_level) }
     ensures is { result ≡ asked sign turned }
     ensures small { IfSome result (IsWithin largest_level) }

@@ -5,7 +5,7 @@ ghost use Rattle.motions.specs.ListedSizes.{IsSmallWithin};
 ghost use Rattle.motions.specs.Views.{motion_of, row_of};
 ghost use Rattle.closure.specs.declared.limits.TheConstants.{MAX_ENTRY};
 ghost use Rattle.plane_lattice.specs.FrameView.{basis_of_frame};
-ghost use Rattle.scanning.specs.HeightView.{IsGeneralOperation, IsInHalves, IsSpecialOperation, levels_of, specials_of};
+ghost use Rattle.scanning.specs.HeightView.{IsGeneralOperation, IsSpecialOperation, heights_of_specials, specials_of};
 
 use crate::height::Height;
 use motions::Motion3;
@@ -22,9 +22,8 @@ pub struct Scan {
     pub general: Vec<Motion3>,
     pub special: Vec<Height>,
     pub frame: Frame,
-    pub ghost in_period: { All (IsInPeriod frame.period.0) (levels_of special.items) },
-    pub ghost rising: { AllPairs IsLower (levels_of special.items) },
-    pub ghost halves: { All IsInHalves (levels_of special.items) },
+    pub ghost in_period: { All (IsInPeriod frame.period.0) (heights_of_specials special.items) },
+    pub ghost rising: { AllPairs IsLower (heights_of_specials special.items) },
     pub ghost general_small: { All (IsSmallWithin (unsigned_abs MAX_ENTRY)) (map motion_of general.items) },
     pub ghost special_small: { All (λ h. All (IsSmallWithin (unsigned_abs MAX_ENTRY)) h.ops) (specials_of special.items) },
     pub ghost general_rows: { ∥ All (IsGeneralOperation (row_of frame.plane) (basis_of_frame frame)) (map motion_of general.items) ∥₁ },

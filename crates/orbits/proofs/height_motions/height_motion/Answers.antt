@@ -1,12 +1,11 @@
 use Rattle.std.proofs.Common.{◌^◌, ℤ, pos, ◌≤ℤ◌, ◌<ℤ◌, lit<, subst, sym, ◌∙◌}
 use Rattle.integers.specs.Size.{IsWithin}
 use Rattle.plane_lattice.specs.Bounds.{largest_period}
-use Rattle.scanning.proofs.Shifts.{shift_within}
+use Rattle.scanning.proofs.Shifts.{period_within, shift_within}
 use Rattle.scanning.specs.Bounds.{largest_shift}
 use Rattle.symmetry.specs.HeightMotions.{MovesPlanes}
 use Rattle.motions.specs.Signs.{sign_value}
 use Rattle.motions.specs.Views.{motion_of, row_of}
-use Rattle.orbits.proofs.HalfMotions.{period_within}
 use Rattle.orbits.proofs.ShiftRests.{again_rest, coded_rest, rest_within}
 use Rattle.orbits.proofs.height_motions.height_motion.Goals as goal
 

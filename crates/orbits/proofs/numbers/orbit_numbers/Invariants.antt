@@ -1,5 +1,5 @@
 -- The heights so far have their numbers.
-use Rattle.orbits.specs.HalfView.{AreJoinedAt}
+use Rattle.orbits.specs.LevelView.{AreJoinedAt}
 use Rattle.orbits.specs.Numbers.{AreNumbered}
 use Rattle.orbits.proofs.numbers.orbit_numbers.Given as goal
 

@@ -3,6 +3,7 @@ use Rattle.std.specs.Prelude.{All}
 use Rattle.symmetry.specs.Scans.{IsInPeriod}
 use Rattle.motions.specs.Views.{motion_of}
 use Rattle.scanning.specs.HeightView.{IsInHalves}
+use Rattle.scanning.proofs.MadeHeights.{in_halves}
 use Rattle.report.specs.Reports.{block_orbits, special_of_block}
 use Rattle.report.specs.SectionView.{block_of, levels_of_sections}
 use Rattle.report.proofs.NumberedHeights.{levels_of_numbered, orbits_of_numbered, specials_of_numbered}
@@ -14,7 +15,7 @@ invariant_of-result c =
     let levels = sym (ap levels_of_sections c.in_ok-numbered.ensures ∙ levels_of_numbered scan.special.items c.args.orbits.of.items c.requires) in
     record {
       in_period = subst (All (IsInPeriod scan.frame.period.0)) levels scan.in_period;
-      halves = subst (All IsInHalves) levels scan.halves;
+      halves = subst (All IsInHalves) levels (in_halves scan.special.items);
     }
 
 pub returns : goal.returns

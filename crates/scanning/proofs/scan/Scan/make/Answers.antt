@@ -3,7 +3,7 @@ use Rattle.std.proofs.Common.{map, refl, subst, sym}
 use Rattle.motions.specs.Views.{motion_of}
 use Rattle.closure.specs.Groups.{group_listing}
 use Rattle.scanning.specs.Members.{AreSameMotions}
-use Rattle.scanning.proofs.MadeHeights.{are_halves, are_in_period, are_rising}
+use Rattle.scanning.proofs.MadeHeights.{are_in_period, are_rising}
 use Rattle.scanning.proofs.MadeScans.{general_list, general_rows, general_small, made_scan, special_rows, special_small}
 use Rattle.scanning.proofs.scan.Scan.make.Goals as goal
 
@@ -24,7 +24,6 @@ invariant_of-result c =
     let are = c.in_ok-special.ensures in record {
       in_period = are_in_period frame homes' special are;
       rising = are_rising frame homes' special are;
-      halves = are_halves frame homes' special are;
       general_small = general_small frame g c.requires known group.apart homes same general c.in_ok-general.ensures group.small;
       special_small = special_small frame g c.requires known group.apart homes' same' special are group.small;
       general_rows = ∣ general_rows frame g c.requires known group.apart homes same general c.in_ok-general.ensures ∣₁;

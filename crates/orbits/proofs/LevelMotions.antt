@@ -1,5 +1,5 @@
--- Heights in half parts, and the motions that take one to another.
-use Rattle.std.proofs.Common.{◌≡◌, ◌↔◌, ℕ, ℤ, pos, ◌+ℤ◌, ◌-ℤ◌, ◌*ℤ◌, ◌≤ℤ◌, List, [], ◌∷◌, Bool, IsTrue, FitsSigned, w64, neg_ℤ, ◌*◌, unsigned_abs, sym, ap, subst, ◌∙◌, arith}
+-- Levels of heights, and the motions that take one to another.
+use Rattle.std.proofs.Common.{◌≡◌, ◌↔◌, ℕ, ℤ, pos, ◌+ℤ◌, ◌-ℤ◌, ◌*ℤ◌, ◌≤ℤ◌, List, [], ◌∷◌, Bool, IsTrue, FitsSigned, w64, neg_ℤ, sym, ap, subst, ◌∙◌, arith}
 use Rattle.std.proofs.lemmas.Int.{ints}
 use Rattle.fractions.specs.declared.part.TheConstants.{UNIT}
 use Rattle.integers.specs.Size.{IsWithin}
@@ -8,22 +8,15 @@ use Rattle.integers.proofs.Order.{mul_left_cancel_pos, one-le-mul}
 use Rattle.integers.proofs.Solver.{Expr, Expr.{var, num, neg, ◌⊕◌, ◌⊝◌, ◌⊗◌}, linear, given}
 use Rattle.symmetry.specs.Planes.{Height, IsHeight}
 use Rattle.symmetry.specs.HeightMotions.{HeightMotion, TakesHeight}
-use Rattle.motions.specs.Views.{parts, row_of}
 use Rattle.plane_lattice.specs.Bounds.{largest_period}
-use Rattle.plane_lattice.specs.declared.frame.Frame.{Frame}
-use Rattle.scanning.proofs.Shifts.{shift_within}
-use Rattle.orbits.specs.Bounds.{largest_half}
-use Rattle.orbits.specs.HalfHeights.{IsHalfParts, TakesHalf}
+use Rattle.scanning.specs.Bounds.{largest_level}
+use Rattle.scanning.specs.Levels.{IsLevel}
+use Rattle.orbits.specs.JoinedLevels.{TakesLevel}
 
 -- ---- sizes
 
-pub period_within : (q : Frame) → IsWithin largest_period q.period.0
-period_within q =
-    let P : ℤ → Type 0 = IsWithin largest_period in
-    subst P q.tau_gives (shift_within (1000 * unsigned_abs UNIT) (row_of q.plane) (parts q.tau) q.plane.in_range q.tau_in_range)
-
 abbrev sizes : List ℕ
-sizes = largest_half ∷ largest_period ∷ largest_half ∷ largest_period ∷ []
+sizes = largest_level ∷ largest_period ∷ largest_level ∷ largest_period ∷ []
 
 -- e x + 2 t - y, and 2 d
 abbrev pub sum : Expr
@@ -32,12 +25,12 @@ sum = var 0 ⊕ num (pos 2) ⊗ var 1 ⊝ var 2
 abbrev pub twice : Expr
 twice = num (pos 2) ⊗ var 3
 
--- ---- half parts
+-- ---- levels
 
 -- e p/q + (t + k d)/n = p'/q', with q x = 2 p n and q' y = 2 p' n
-module _ (s t : Height) (x y d : ℤ) (high : IsHeight s) (high' : IsHeight t) (is : IsHalfParts s x) (is' : IsHalfParts t y) where
-  pub takes_by_half : (h : HeightMotion) → TakesHeight d s t h ↔ TakesHalf d x y h
-  takes_by_half h = (
+module _ (s t : Height) (x y d : ℤ) (high : IsHeight s) (high' : IsHeight t) (is : IsLevel s x) (is' : IsLevel t y) where
+  pub takes_by_level : (h : HeightMotion) → TakesHeight d s t h ↔ TakesLevel d x y h
+  takes_by_level h = (
     λ (k, e). (neg_ℤ k, mul_left_cancel_pos (s.den *ℤ t.den) _ _ (one-le-mul s.den t.den high high') (forth h.sign s.num s.den h.shift t.num t.den x y UNIT d k is is' e)),
     λ (k, e). (neg_ℤ k, mul_left_cancel_pos (pos 2) _ _ (omega (arith, ints)) (back h.sign s.num s.den h.shift t.num t.den x y UNIT d k is is' e)),
   )
@@ -68,13 +61,19 @@ module _ (s t : Height) (x y d : ℤ) (high : IsHeight s) (high' : IsHeight t) (
 
 -- ---- what the code computes
 
-module _ (turned shift count period : ℤ) (turned_small : IsWithin largest_half turned) (shift_small : IsWithin largest_period shift)
-    (count_small : IsWithin largest_half count) (period_small : IsWithin largest_period period) where
+module _ (turned shift level period : ℤ) (turned_small : IsWithin largest_level turned) (shift_small : IsWithin largest_period shift)
+    (level_small : IsWithin largest_level level) (period_small : IsWithin largest_period period) where
   abbrev pub numbers : List ℤ
-  numbers = turned ∷ shift ∷ count ∷ period ∷ []
+  numbers = turned ∷ shift ∷ level ∷ period ∷ []
 
   within : AllWithinBounds sizes numbers
-  within = (turned_small, (shift_small, (count_small, (period_small, tt))))
+  within = (turned_small, (shift_small, (level_small, (period_small, tt))))
+
+  pub doubled_fits : FitsSigned w64 (coded numbers (num (pos 2) ⊗ var 1))
+  doubled_fits = code_fits sizes numbers (num (pos 2) ⊗ var 1) tt within
+
+  pub moved_fits : FitsSigned w64 (coded numbers (var 0 ⊕ num (pos 2) ⊗ var 1))
+  moved_fits = code_fits sizes numbers (var 0 ⊕ num (pos 2) ⊗ var 1) tt within
 
   pub sum_fits : FitsSigned w64 (coded numbers sum)
   sum_fits = code_fits sizes numbers sum tt within
@@ -86,10 +85,10 @@ module _ (turned shift count period : ℤ) (turned_small : IsWithin largest_half
   twice_positive h = let P : ℤ → Type 0 = λ z. pos 1 ≤ℤ z in subst P (sym (code_is sizes numbers twice tt within)) (omega (arith, ints))
 
   pub takes_is : (b : Bool) (e x : ℤ) → turned ≡ e *ℤ x → (IsTrue b ↔ ((k : ℤ) × (again (coded numbers sum) ≡ again (coded numbers twice) *ℤ k)))
-      → IsTrue b ↔ ((k : ℤ) × (e *ℤ x +ℤ pos 2 *ℤ shift -ℤ count ≡ pos 2 *ℤ period *ℤ k))
+      → IsTrue b ↔ ((k : ℤ) × (e *ℤ x +ℤ pos 2 *ℤ shift -ℤ level ≡ pos 2 *ℤ period *ℤ k))
   takes_is b e x is h =
-      let left : again (coded numbers sum) ≡ e *ℤ x +ℤ pos 2 *ℤ shift -ℤ count =
-      code_is sizes numbers sum tt within ∙ ap (λ z. z +ℤ pos 2 *ℤ shift -ℤ count) is in
+      let left : again (coded numbers sum) ≡ e *ℤ x +ℤ pos 2 *ℤ shift -ℤ level =
+      code_is sizes numbers sum tt within ∙ ap (λ z. z +ℤ pos 2 *ℤ shift -ℤ level) is in
       let right : again (coded numbers twice) ≡ pos 2 *ℤ period = code_is sizes numbers twice tt within in (
         λ t. let (k, f) = h.0 t in (k, sym left ∙ f ∙ ap (λ z. z *ℤ k) right),
         λ (k, f). h.1 (k, left ∙ f ∙ ap (λ z. z *ℤ k) (sym right)),
