@@ -5,7 +5,7 @@ use Rattle.std.proofs.lemmas.Bool.Decides.{Decides-eqb}
 use Rattle.std.proofs.lemmas.Int.{quot-rem, rem_is, to_z-of_z}
 use Rattle.integers.proofs.Coded.{again}
 use Rattle.integers.proofs.Ring.{add_zero, mul_comm_lem}
-use Rattle.scanning.proofs.Remainders.{rem-multiple}
+use Rattle.fractions.proofs.Multiples.{rem-multiple}
 
 multiple_by_rest : (x d : ℤ) → int_rem x d ≡ pos 0 → x ≡ d *ℤ int_div x d
 multiple_by_rest x d e =

@@ -7,6 +7,7 @@ use Rattle.fractions.specs.Fraction.{Fraction}
 use Rattle.fractions.specs.FractionOf.{fraction_of}
 use Rattle.fractions.specs.LowestTerms.{IsLowestForm}
 use Rattle.fractions.specs.declared.part.TheConstants.{UNIT}
+use Rattle.fractions.proofs.Multiples.{rem-multiple}
 use Rattle.integers.proofs.Solver.{Expr.{var, num, ◌⊗◌}, given, linear}
 use Rattle.symmetry.specs.Motions.{Motion}
 use Rattle.symmetry.specs.Planes.{Height as HeightOfPlane, IsHeight}
@@ -18,7 +19,6 @@ use Rattle.scanning.specs.HeightView.{IsInHalves, heights_of_specials, special_o
 use Rattle.scanning.specs.Levels.{IsLevel}
 use Rattle.scanning.specs.SpecialHeights.{AreHeights, IsHeightAt}
 use Rattle.scanning.proofs.HeightNumbers.{height_below, height_from, height_lower}
-use Rattle.scanning.proofs.Remainders.{rem-multiple}
 use Rattle.scanning.proofs.Zips.{zip_at, zip_length}
 
 -- half of t parts has the level t
