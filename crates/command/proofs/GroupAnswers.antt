@@ -143,7 +143,7 @@ module _ (row : Vector) (basis : Basis) (group : Group) (frame : Frame) (here : 
         )
 
 -- a scan keeps the frame that it was made in
-pub scanned : (row : Vector) (basis : Basis) (group : Group) (frame : Frame) (scan : Scan) → IsFrameHere group row basis frame → IsScanOf group frame scan
+pub scanned : (row : Vector) (basis : Basis) (group : Group) (frame : Frame) (scan : Scan) → IsFrameHere group row basis frame → IsScanOf (group_listing group) frame scan
     → IsFrameHere group row basis scan.frame × IsScan (group_listing group) (row_of scan.frame.plane) (basis_of_frame scan.frame) (scan_of scan)
 scanned row basis group frame scan here is = (
   subst (IsFrameHere group row basis) (sym is.frame_is) here,

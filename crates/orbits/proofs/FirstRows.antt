@@ -1,5 +1,5 @@
 -- The first rows of a list of motions are those of its first motions.
-use Rattle.std.proofs.Common.{◌≡◌, ◌↔◌, ◌⊎◌, inl, inr, Any, List, [], ◌∷◌, ◌++◌, map, sym, ap, subst, ◌∙◌}
+use Rattle.std.proofs.Common.{◌≡◌, ◌↔◌, ◌⊎◌, inl, inr, Any, List, [], ◌∷◌, ◌++◌, map, unsigned_abs, sym, ap, subst, ◌∙◌}
 use Rattle.std.proofs.lemmas.List.{map-append}
 use Rattle.std.proofs.lemmas.List.Elements.{Contains-push_cases}
 use Rattle.quotient.specs.Lists.{AreFirst}
@@ -7,10 +7,14 @@ use Rattle.quotient.specs.Lists.AreFirst.{none, kept, left_out}
 use Rattle.quotient.proofs.Firsts.{Any-append_left, Any-from_Contains, without_last}
 use Rattle.quotient.proofs.Items.{Any-map}
 use Rattle.std.proofs.lemmas.List.Quantifiers.{Any-push}
-use Rattle.symmetry.specs.Vectors.{Vector, row_times}
+use Rattle.symmetry.specs.Vectors.{Matrix, Vector, row_times}
 use Rattle.symmetry.specs.Motions.{Motion}
-use Rattle.symmetry.specs.Groups.{Listing, SameModulo}
-use Rattle.orbits.specs.Orientations.{AreOrientations}
+use Rattle.symmetry.specs.Groups.{IsMember, Listing, SameModulo}
+use Rattle.symmetry.specs.Listings.{AreAlike}
+use Rattle.symmetry.specs.Sizes.{IsVectorWithin}
+use Rattle.symmetry.proofs.LatticeLaws.{listed_member}
+use Rattle.orbits.specs.Orientations.{AreOrientations, IsWide}
+use Rattle.orbits.specs.declared.limits.TheConstants.{WIDE}
 
 module _ {A B : Type 0} (f : A → B) (Same : A → A → Type 0) (respects : (x y : A) → Same x y → f x ≡ f y) where
   abbrev Has : List A → B → Type 0
@@ -85,6 +89,18 @@ module _ {A B : Type 0} (f : A → B) (Same : A → A → Type 0) (respects : (x
         | inl p ↦ absurd (p.0 (same_before list x old))
         | inr p ↦ subst (AreFirstOf firsts) (sym p.1) (of_firsts list firsts a before b)
       ]
+
+-- each listed operation of the one has the matrix of one of the other
+module _ (g h : Listing) (alike : AreAlike g h) (r : Vector) where
+  pub wide_to : IsWide g r → IsWide h r
+  wide_to (m, listed, large) =
+      let member : IsMember h m = (alike.members m).0 (listed_member g m listed) in
+      (member.of, member.listed, subst (λ (w : Matrix). ¬ IsVectorWithin (unsigned_abs WIDE) (row_times r w)) member.same.matrix large)
+
+  pub wide_from : IsWide h r → IsWide g r
+  wide_from (m, listed, large) =
+      let member : IsMember g m = (alike.members m).1 (listed_member h m listed) in
+      (member.of, member.listed, subst (λ (w : Matrix). ¬ IsVectorWithin (unsigned_abs WIDE) (row_times r w)) member.same.matrix large)
 
 pub orientations_of_firsts : (g h : Listing) (r : Vector) (rows : List Vector) → AreFirst (SameModulo g) g.ops h.ops → AreOrientations g r rows ↔ AreOrientations h r rows
 orientations_of_firsts g h r rows a =

@@ -1,10 +1,11 @@
 // The orbits of the special heights, and the planes in the orbit of a general one.
 ghost use Rattle.std.specs.Prelude.{IfOk};
 ghost use Rattle.symmetry.specs.Frames.{IsFrame};
+ghost use Rattle.symmetry.specs.Groups.{Listing};
 ghost use Rattle.symmetry.specs.Orbits.{AreOrbitNumbers, IsPlaneCount};
 ghost use Rattle.symmetry.specs.Vectors.{dot};
 ghost use Rattle.motions.specs.Views.{parts, row_of};
-ghost use Rattle.closure.specs.Groups.{group_listing};
+ghost use Rattle.closure.specs.Groups.{group_listing, IsGroupOf};
 ghost use Rattle.plane_lattice.specs.FrameView.{basis_of_frame};
 ghost use Rattle.scanning.specs.HeightView.{heights_of_specials};
 
@@ -27,16 +28,17 @@ pub struct Orbits {
     pub planes: u32,
 }
 
-/// The orbits of the planes of a scan under the group. Two planes are in one orbit where an operation of the group takes
+/// The orbits of the planes of a scan under the group, whichever way it is listed. Two planes are in one orbit where an operation of the group takes
 /// every point of the one to a point of the other.
 ///
 /// The scan's frame is one of the group.
 pub fn height_orbits(alloc: Global, scan: &Scan, group: &Group) -> Result<Orbits, NoMemory>
     requires { IsFrame (group_listing group.now) (row_of scan.now.frame.plane) (basis_of_frame scan.now.frame) }
-    ensures numbers { IfOk result (λ orbits.
-        AreOrbitNumbers (group_listing group.now) (row_of scan.now.frame.plane) (heights_of_specials scan.now.special.items) orbits.of.items) }
+    ensures numbers { (g : Listing) → IsGroupOf g group.now → IfOk result (λ orbits.
+        AreOrbitNumbers g (row_of scan.now.frame.plane) (heights_of_specials scan.now.special.items) orbits.of.items) }
     ensures planes { let r = row_of scan.now.frame.plane in
-        IfOk result (λ orbits. IsPlaneCount (group_listing group.now) r (dot r (parts scan.now.frame.tau)) orbits.planes) }
+        (g : Listing) → IsGroupOf g group.now →
+        IfOk result (λ orbits. IsPlaneCount g r (dot r (parts scan.now.frame.tau)) orbits.planes) }
 {
     let motions = height_motions(alloc, group, &scan.frame)?;
     let of = orbit_numbers(alloc, &scan.special, &motions, &scan.frame)?;

@@ -5,7 +5,7 @@ ghost use Rattle.symmetry.specs.Groups.{Listing, SameModulo};
 ghost use Rattle.symmetry.specs.Sizes.{IsVectorWithin};
 ghost use Rattle.symmetry.specs.Vectors.{Vector};
 ghost use Rattle.motions.specs.Views.{row_of, vector_of};
-ghost use Rattle.closure.specs.Groups.{group_listing};
+ghost use Rattle.closure.specs.Groups.{IsGroupOf};
 ghost use Rattle.orbits.specs.Orientations.{AreOrientations, IsOrbitFault, IsWide};
 ghost use Rattle.orbits.specs.declared.limits.TheConstants.{WIDE};
 
@@ -16,7 +16,7 @@ use motions::{Miller, row_image};
 use std::alloc::Global;
 
 /// The orientations that are the same to the crystal as (hkl): the rows `(hkl) W` of the operations in order, each
-/// triple at its first appearance.
+/// triple at its first appearance. They are those of each listing of the group.
 ///
 /// `Wide` comes exactly where an index of one of these triples passes [`WIDE`] in size.
 pub fn orientations(
@@ -24,9 +24,10 @@ pub fn orientations(
     group: &Group,
     plane: Miller,
 ) -> Result<Vec<[i64; 3]>, OrbitFault>
-    ensures rows { IfOk result (λ rows. AreOrientations (group_listing group.now) (row_of plane) (map vector_of rows.items)) }
-    ensures narrow { IfOk result (λ _. ¬ IsWide (group_listing group.now) (row_of plane)) }
-    ensures refused { IfErr result (IsOrbitFault (group_listing group.now) (row_of plane)) }
+    ensures rows { (g : Listing) → IsGroupOf g group.now →
+        IfOk result (λ rows. AreOrientations g (row_of plane) (map vector_of rows.items)) }
+    ensures narrow { (g : Listing) → IsGroupOf g group.now → IfOk result (λ _. ¬ IsWide g (row_of plane)) }
+    ensures refused { (g : Listing) → IsGroupOf g group.now → IfErr result (IsOrbitFault g (row_of plane)) }
 {
     let mut rows = Vec::new(alloc);
     for m in group.ops() {

@@ -90,7 +90,7 @@ frame_made group frame (plane, basis, of) =
     (subst (λ p. IsFrame g (row_of p) (basis_of basis)) (sym of.plane) of.is_frame)
 
 -- the report that shows the scan of the group in the frame, with its orbits, is that of the group in the frame
-pub report_of_scan : (group : Group) (frame : Frame) → IsMadeFor group frame → (scan : Scan) → IsScanOf group frame scan
+pub report_of_scan : (group : Group) (frame : Frame) → IsMadeFor group frame → (scan : Scan) → IsScanOf (group_listing group) frame scan
     → (numbers : List ℕ) (planes : ℕ)
     → AreOrbitNumbers (group_listing group) (row_of scan.frame.plane) (heights_of_specials scan.special.items) numbers
     → IsPlaneCount (group_listing group) (row_of scan.frame.plane) (dot (row_of scan.frame.plane) (parts scan.frame.tau)) planes

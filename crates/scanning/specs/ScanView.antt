@@ -1,9 +1,8 @@
 -- What a Scan of the code says.
 use Rattle.std.specs.Prelude.{◌≡◌, map}
+use Rattle.symmetry.specs.Groups.{Listing}
 use Rattle.symmetry.specs.Scans.{IsScan, Scan as ScanOfPlanes}
 use Rattle.motions.specs.Views.{motion_of, row_of}
-use Rattle.closure.specs.Groups.{group_listing}
-use Rattle.closure.specs.declared.group.Group.{Group}
 use Rattle.plane_lattice.specs.FrameView.{basis_of_frame}
 use Rattle.plane_lattice.specs.declared.frame.Frame.{Frame}
 use Rattle.scanning.specs.HeightView.{specials_of}
@@ -13,7 +12,7 @@ use Rattle.scanning.specs.declared.scan.Scan.{Scan}
 abbrev pub scan_of : Scan → ScanOfPlanes
 scan_of scan = record { general = map motion_of scan.general.items; special = specials_of scan.special.items }
 
--- the scan of the group in the frame
-pub record IsScanOf (group : Group) (frame : Frame) (scan : Scan) : Type 0 where
+-- the scan of what is listed in the frame
+pub record IsScanOf (g : Listing) (frame : Frame) (scan : Scan) : Type 0 where
   pub frame_is : scan.frame ≡ frame
-  pub is : IsScan (group_listing group) (row_of frame.plane) (basis_of_frame frame) (scan_of scan)
+  pub is : IsScan g (row_of frame.plane) (basis_of_frame frame) (scan_of scan)

@@ -4,6 +4,8 @@ use Rattle.fractions.specs.FractionOf.{fraction_of}
 use Rattle.motions.specs.BasisView.{basis_of}
 use Rattle.motions.specs.Views.{motion_of, row_of}
 use Rattle.motions.specs.declared.motion.Motion3.{Motion3}
+use Rattle.closure.specs.Groups.{group_listing}
+use Rattle.closure.proofs.OwnLattice.{own_listing}
 use Rattle.scanning.specs.ScanView.{scan_of}
 use Rattle.report.specs.Texts.{at_text}
 use Rattle.command.proofs.FrameCauses.{height_frame}
@@ -24,7 +26,8 @@ returns-in_err-operations-clause-obstacle c =
 
 pub returns-clause-text : goal.returns-clause-text
 returns-clause-text c =
-    let made = scanned (row_of c.args.plane) (basis_of c.args.basis) c.in_ok-group.group c.in_ok-frame.frame c.in_ok-scan.scan c.in_ok-frame.ensures.frame c.in_ok-scan.ensures in
+    let made = scanned (row_of c.args.plane) (basis_of c.args.basis) c.in_ok-group.group c.in_ok-frame.frame c.in_ok-scan.scan c.in_ok-frame.ensures.frame
+    (c.in_ok-scan.ensures (group_listing c.in_ok-group.group) (own_listing c.in_ok-group.group)) in
     height_answer (row_of c.args.plane) (basis_of c.args.basis) c.in_ok-group.group c.in_ok-scan.scan.frame made.0 c.args.input.now c.in_ok-group.ensures.group
     c.requires.short (fraction_of c.args.s) (scan_of c.in_ok-scan.scan) (map motion_of c.in_ok-operations.operations.items) c.in_ok-at_text.field-0.items made.1 c.in_ok-operations.ensures.list
     (c.in_ok-at_text.ensures ∙ ap (λ (ops : List Motion3). at_text (fraction_of c.args.s) (map motion_of ops)) c.deref.ensures.value)

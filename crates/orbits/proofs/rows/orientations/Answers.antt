@@ -2,7 +2,8 @@
 use Rattle.std.proofs.Common.{List, ℤ, Any, ap, map, subst, sym, ◌≡◌, ◌∙◌}
 use Rattle.motions.specs.Views.{row_of, vector_of}
 use Rattle.closure.specs.Groups.{group_listing}
-use Rattle.orbits.proofs.RowLists.{all_rows, motion_is_small, no_rows, passed_row, pushed_row, wide_row}
+use Rattle.orbits.proofs.FirstRows.{orientations_of_firsts, wide_from, wide_to}
+use Rattle.orbits.proofs.RowLists.{all_rows, motion_is_small, no_rows, not_wide, passed_row, pushed_row, wide_row}
 use Rattle.orbits.proofs.rows.orientations.Goals as goal
 use Rattle.orbits.proofs.rows.orientations.Goals.{then-not-lists_row+in_ok-push, else-not-lists_row}
 
@@ -13,9 +14,10 @@ pub row_image-row-requires : goal.row_image-row-requires
 row_image-row-requires c = motion_is_small _ c.ops-m-items.result.now c.loop-m.m-index _ c.ops-m-items.ensures.small c.loop-m-test.true
 
 pub returns-then-not-is_narrow-clause-refused : goal.returns-then-not-is_narrow-clause-refused
-returns-then-not-is_narrow-clause-refused c =
-    wide_row (row_of c.args.plane) c.ops-m-items.result.now c.loop-m.m-index _ c.loop-m-test.true c.row_image-row.result c.row_image-row.ensures
-    (group_listing c.args.group.now) c.ops-m-items.ensures.ops (λ n. cc (c.if-not-is_narrow.ensures.1 n))
+returns-then-not-is_narrow-clause-refused c = λ g of.
+    wide_from g (group_listing c.args.group.now) of.alike (row_of c.args.plane)
+    (wide_row (row_of c.args.plane) c.ops-m-items.result.now c.loop-m.m-index _ c.loop-m-test.true c.row_image-row.result c.row_image-row.ensures
+    (group_listing c.args.group.now) c.ops-m-items.ensures.ops (λ n. cc (c.if-not-is_narrow.ensures.1 n)))
 
 pub loop-m-preserved : goal.loop-m-preserved
 loop-m-preserved c =
@@ -32,7 +34,16 @@ loop-m-preserved c =
       | else-not-lists_row w ↦ old (λ t. (w.rows-is t).items) (subst P c.deref.ensures.value (c.lists_row.ensures.0 w.if-not-lists_row.false))
     ]
 
+pub returns-clause-narrow : goal.returns-clause-narrow
+returns-clause-narrow c = λ g of wide.
+    let h = group_listing c.args.group.now in
+    let r = row_of c.args.plane in
+    not_wide h r (map vector_of c.loop-m.rows.items)
+    (all_rows h r c.ops-m-items.result.now c.loop-m.m-index (map vector_of c.loop-m.rows.items) c.ops-m-items.ensures.ops c.loop-m-test.false c.loop-m.invariant)
+    (wide_to g h of.alike r wide)
+
 pub returns-clause-rows : goal.returns-clause-rows
-returns-clause-rows c =
+returns-clause-rows c = λ g of.
+    (orientations_of_firsts g (group_listing c.args.group.now) (row_of c.args.plane) _ of.firsts).1
     (all_rows (group_listing c.args.group.now) (row_of c.args.plane) c.ops-m-items.result.now c.loop-m.m-index (map vector_of c.loop-m.rows.items)
     c.ops-m-items.ensures.ops c.loop-m-test.false c.loop-m.invariant).first

@@ -1,7 +1,9 @@
 -- What is made of the motions at home is a scan.
 use Rattle.std.proofs.Common.{map, refl, subst, sym}
-use Rattle.motions.specs.Views.{motion_of}
+use Rattle.symmetry.proofs.AlikeScans.{scan_from}
+use Rattle.motions.specs.Views.{motion_of, row_of}
 use Rattle.closure.specs.Groups.{group_listing}
+use Rattle.plane_lattice.specs.FrameView.{basis_of_frame}
 use Rattle.scanning.specs.Members.{AreSameMotions}
 use Rattle.scanning.proofs.MadeHeights.{are_in_period, are_rising}
 use Rattle.scanning.proofs.MadeScans.{general_list, general_rows, general_small, made_scan, special_rows, special_small}
@@ -31,7 +33,7 @@ invariant_of-result c =
     }
 
 pub returns : goal.returns
-returns c =
+returns c = λ h of.
     let group = c.args.group.now in
     let frame = c.args.frame.now in
     let g = group_listing group in
@@ -44,6 +46,7 @@ returns c =
     subst (λ ms. AreSameMotions g g.ops (map motion_of ms)) (sym c.deref-2.ensures.value) c.in_ok-homes.ensures.same in
     let general = c.in_ok-general.general.items in record {
       frame_is = refl;
-      is = made_scan frame g c.requires known group.apart homes' same' c.in_ok-special.special.items c.in_ok-special.ensures general
-          (general_list frame g c.requires known group.apart homes same general c.in_ok-general.ensures);
+      is = scan_from h g of.alike (row_of frame.plane) (basis_of_frame frame) _
+          (made_scan frame g c.requires known group.apart homes' same' c.in_ok-special.special.items c.in_ok-special.ensures general
+          (general_list frame g c.requires known group.apart homes same general c.in_ok-general.ensures));
     }
