@@ -30,8 +30,8 @@ use Rattle.orbits.specs.Orientations.{AreOrientations, IsOrbitFault, IsWide}
 use Rattle.orbits.specs.declared.limits.TheConstants.{WIDE}
 use Rattle.orbits.specs.declared.orbit_fault.OrbitFault.{OrbitFault}
 use Rattle.orbits.specs.declared.orbit_fault.OrbitFault.TheVariants as orbit_faults
-use Rattle.report.specs.Texts.{Report, at_text, images_text, report_text}
-use Rattle.report.specs.Reports.{IsReport, scan_of_report}
+use Rattle.report.specs.Texts.{at_text, images_text, report_text}
+use Rattle.report.specs.Reports.{IsReport, Report, scan_of_report}
 use Rattle.command.specs.declared.limits.TheConstants.{MOST_BYTES}
 use Rattle.command.specs.declared.refusal.Refusal.TheVariants.{Wide}
 use Rattle.command.specs.Obstacles.{obstacle_of_height, obstacle_of_orbits}

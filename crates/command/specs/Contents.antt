@@ -14,8 +14,8 @@ use Rattle.closure.specs.declared.group_error.GroupError.{GroupError}
 use Rattle.closure.specs.declared.group_error.GroupError.TheVariants as groups
 use Rattle.closure.specs.GroupErrors.{IsGroupError, IsWithinLimits}
 use Rattle.orbits.specs.Orientations.{AreOrientations, IsWide}
-use Rattle.report.specs.Reports.{IsReport, scan_of_report}
-use Rattle.report.specs.Texts.{Report, at_text, images_text, report_text}
+use Rattle.report.specs.Reports.{IsReport, Report, scan_of_report}
+use Rattle.report.specs.Texts.{at_text, images_text, report_text}
 use Rattle.report.specs.TypeTexts.{IsTypeText}
 use Rattle.command.specs.declared.refusal.Refusal.{Refusal}
 use Rattle.command.specs.declared.refusal.Refusal.TheVariants.{Text, TooMany, TooFine, NoIdentity, ShiftMoved, NotClosed, NoInverse, NotFrame, SkewFrame, Wide}

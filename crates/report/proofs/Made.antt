@@ -9,7 +9,7 @@ use Rattle.motions.specs.declared.basis.Basis.{Basis}
 use Rattle.motions.specs.BasisView.{basis_of}
 use Rattle.motions.specs.Views.{parts, row_of}
 use Rattle.closure.specs.declared.group.Group.{Group}
-use Rattle.closure.specs.Groups.{group_listing}
+use Rattle.closure.specs.Groups.{IsGroupOf, group_listing}
 use Rattle.plane_lattice.specs.declared.frame.Frame.{Frame}
 use Rattle.plane_lattice.specs.FrameOf.{IsFrameOf, IsMadeFor}
 use Rattle.plane_lattice.specs.FrameView.{basis_of_frame}
@@ -18,11 +18,11 @@ use Rattle.scanning.specs.declared.scan.Scan.{Scan}
 use Rattle.scanning.specs.HeightView.{heights_of_specials}
 use Rattle.scanning.specs.ScanView.{scan_of, IsScanOf}
 use Rattle.report.specs.declared.report.Report.{Report}
-use Rattle.report.specs.FractionsView.{fractions_of}
-use Rattle.report.specs.Reports.{block_heights, special_of_block, IsMean}
+use Rattle.fractions.specs.Fractions.{fractions_of}
+use Rattle.report.specs.Reports.{HeightBlock, block_heights, special_of_block, IsMean}
 use Rattle.report.specs.ReportView.{report_of, IsReportOf}
-use Rattle.report.specs.Texts.{HeightBlock}
 use Rattle.report.specs.Shown.{Shows}
+use Rattle.report.proofs.AlikeReports.{alike_reports}
 use Rattle.report.proofs.Means.{point_in_lowest_terms}
 
 -- the heights of the blocks are those of the scan that they show
@@ -47,7 +47,7 @@ module _ (group : Group) (frame : Frame) (basis : Basis) (of : IsFrameOf group f
       → IsScan (group_listing group) (row_of frame.plane) (basis_of_frame frame) (scan_of scan)
       → AreOrbitNumbers (group_listing group) (row_of frame.plane) (heights_of_specials scan.special.items) numbers
       → IsPlaneCount (group_listing group) (row_of frame.plane) frame.period.0 planes
-      → IsReportOf group frame report
+      → IsReportOf (group_listing group) frame report
   report_made scan numbers planes report shown same is_scan are_numbers is_count = record {
     frame_is = same_frame;
     is = record {
@@ -89,15 +89,23 @@ frame_made group frame (plane, basis, of) =
     subst (IsFrame g (row_of frame.plane)) (λ i. record { a = parts (sym of.a i); b = parts (sym of.b i); tau = parts (sym of.tau i) })
     (subst (λ p. IsFrame g (row_of p) (basis_of basis)) (sym of.plane) of.is_frame)
 
--- the report that shows the scan of the group in the frame, with its orbits, is that of the group in the frame
+-- the report that shows the scan of the group in the frame, with its orbits, is that of the group's own list
 pub report_of_scan : (group : Group) (frame : Frame) → IsMadeFor group frame → (scan : Scan) → IsScanOf (group_listing group) frame scan
     → (numbers : List ℕ) (planes : ℕ)
     → AreOrbitNumbers (group_listing group) (row_of scan.frame.plane) (heights_of_specials scan.special.items) numbers
     → IsPlaneCount (group_listing group) (row_of scan.frame.plane) (dot (row_of scan.frame.plane) (parts scan.frame.tau)) planes
-    → (report : Report) → Shows scan numbers planes report → IsReportOf group frame report
+    → (report : Report) → Shows scan numbers planes report → IsReportOf (group_listing group) frame report
 report_of_scan group frame (plane, basis, of) scan is numbers planes are_numbers is_count report shown =
     let g = group_listing group in
     report_made group frame basis (subst (λ p. IsFrameOf group p basis frame) (sym of.plane) of) scan numbers planes report shown is.frame_is is.is
     (subst (λ (f : Frame). AreOrbitNumbers g (row_of f.plane) (heights_of_specials scan.special.items) numbers) is.frame_is are_numbers)
     (subst (λ (f : Frame). IsPlaneCount g (row_of f.plane) f.period.0 planes) is.frame_is
     (subst (λ d. IsPlaneCount g (row_of scan.frame.plane) d planes) scan.frame.tau_gives is_count))
+
+-- and of each list of the group
+pub report_of_each : (group : Group) (frame : Frame) (g : Listing) → IsGroupOf g group → (report : Report) → IsReportOf (group_listing group) frame report
+    → IsReportOf g frame report
+report_of_each group frame g of report is = record {
+  frame_is = is.frame_is;
+  is = (alike_reports g (group_listing group) of.alike (row_of frame.plane) (basis_of_frame frame) (report_of report)).1 is.is;
+}

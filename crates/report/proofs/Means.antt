@@ -5,8 +5,8 @@ use Rattle.std.proofs.Math.Nat.{eq-one_of_dvd-one}
 use Rattle.fractions.specs.declared.ratio.Ratio.{Ratio}
 use Rattle.fractions.specs.Fraction.{IsFraction, IsInLowestTerms}
 use Rattle.symmetry.specs.Motions.{Point}
-use Rattle.plane_lattice.specs.Scanning.{fraction_at, IsPointOf}
-use Rattle.report.specs.FractionsView.{fractions_of}
+use Rattle.plane_lattice.specs.Scanning.{IsPointOf}
+use Rattle.fractions.specs.Fractions.{fraction_at, fractions_of}
 use Rattle.report.specs.Reports.{IsPointInLowestTerms}
 
 fraction_at-positive : (c : List Ratio) (i : ℕ) → IsFraction (fraction_at c i)

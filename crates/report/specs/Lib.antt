@@ -1,4 +1,4 @@
-pub mod FractionsView
+pub mod Consequences
 pub mod Numbered
 pub mod ReportView
 pub mod Reports

@@ -1,14 +1,12 @@
 -- What a Report of the code says.
 use Rattle.std.specs.Prelude.{◌≡◌, map}
-use Rattle.motions.specs.Views.{motion_of, row_of}
-use Rattle.closure.specs.declared.group.Group.{Group}
-use Rattle.closure.specs.Groups.{group_listing}
+use Rattle.symmetry.specs.Groups.{Listing}
+use Rattle.motions.specs.Views.{row_of}
 use Rattle.plane_lattice.specs.declared.frame.Frame.{Frame}
 use Rattle.plane_lattice.specs.FrameView.{basis_of_frame}
-use Rattle.report.specs.Reports.{IsReport}
-use Rattle.report.specs.Texts.{Report as ReportOfPlanes}
-use Rattle.report.specs.FractionsView.{fractions_of}
-use Rattle.report.specs.SectionView.{block_of}
+use Rattle.report.specs.Reports.{IsReport, Report as ReportOfPlanes}
+use Rattle.fractions.specs.Fractions.{fractions_of}
+use Rattle.report.specs.SectionView.{block_of, section_of}
 use Rattle.report.specs.declared.report.Report.{Report}
 
 -- the orientation, the period, the frame, the vector c', the number of planes, the general operations and the special heights
@@ -19,11 +17,11 @@ report_of report = record {
   basis = basis_of_frame report.frame;
   mean = fractions_of report.frame.c;
   planes = report.planes;
-  general = map motion_of report.general.ops.items;
+  general = section_of report.general;
   heights = map block_of report.heights.items;
 }
 
--- the report of the group in the frame
-pub record IsReportOf (group : Group) (frame : Frame) (report : Report) : Type 0 where
+-- the report of what is listed in the frame
+pub record IsReportOf (g : Listing) (frame : Frame) (report : Report) : Type 0 where
   pub frame_is : report.frame ≡ frame
-  pub is : IsReport (group_listing group) (row_of frame.plane) (basis_of_frame frame) (report_of report)
+  pub is : IsReport g (row_of frame.plane) (basis_of_frame frame) (report_of report)

@@ -1,5 +1,6 @@
 -- The report of a group, an orientation and a frame.
-use Rattle.std.specs.Prelude.{◌≡◌, ℕ, List, map}
+use Rattle.std.specs.Prelude.{◌≡◌, ℕ, ℤ, List, map}
+use Rattle.fractions.specs.Fractions.{Fractions}
 use Rattle.fractions.specs.LowestTerms.{IsLowestForm}
 use Rattle.symmetry.specs.Vectors.{Vector}
 use Rattle.symmetry.specs.Motions.{Motion, Point}
@@ -9,7 +10,27 @@ use Rattle.symmetry.specs.Frames.{Basis, IsPeriod, mean_of}
 use Rattle.symmetry.specs.Lists.{AreScanning}
 use Rattle.symmetry.specs.Scans.{IsScan, Scan, SpecialHeight}
 use Rattle.symmetry.specs.Orbits.{AreOrbitNumbers, IsPlaneCount}
-use Rattle.report.specs.Texts.{Fractions, HeightBlock, Report}
+
+-- what is shown of a class of heights: the operations
+pub record Section : Type 0 where
+  pub ops : List Motion
+
+-- a special height, the number of its orbit, and its section
+pub record HeightBlock : Type 0 where
+  pub height : Height
+  pub orbit : ℕ
+  pub section : Section
+
+-- what a report says: the orientation, the period in parts, the frame, the vector c', how many planes from 0 to below the
+-- period are in the orbit of a general one, the general section, and the special heights
+pub record Report : Type 0 where
+  pub row : Vector
+  pub period : ℤ
+  pub basis : Basis
+  pub mean : Fractions
+  pub planes : ℕ
+  pub general : Section
+  pub heights : List HeightBlock
 
 -- the point in lowest terms
 pub record IsPointInLowestTerms (p : Point) (v : Fractions) : Type 0 where
@@ -25,7 +46,7 @@ pub record IsMean (g : Listing) (r tau : Vector) (v : Fractions) : Type 0 where
 
 -- a special height of a report without its orbit
 abbrev pub special_of_block : HeightBlock → SpecialHeight
-special_of_block block = record { height = block.height; ops = block.ops }
+special_of_block block = record { height = block.height; ops = block.section.ops }
 
 -- the heights of a report
 abbrev pub block_heights : List HeightBlock → List Height
@@ -37,7 +58,7 @@ block_orbits blocks = map (λ (block : HeightBlock). block.orbit) blocks
 
 -- the scan that a report shows
 abbrev pub scan_of_report : Report → Scan
-scan_of_report report = record { general = report.general; special = map special_of_block report.heights }
+scan_of_report report = record { general = report.general.ops; special = map special_of_block report.heights }
 
 -- the report of the group and the orientation in the frame
 pub record IsReport (g : Listing) (r : Vector) (f : Basis) (report : Report) : Type 0 where

@@ -3,13 +3,17 @@ use Rattle.std.specs.Prelude.{List, map}
 use Rattle.fractions.specs.FractionOf.{fraction_of}
 use Rattle.symmetry.specs.Planes.{Height}
 use Rattle.motions.specs.Views.{motion_of}
-use Rattle.report.specs.Texts.{HeightBlock}
-use Rattle.report.specs.Reports.{block_heights}
+use Rattle.report.specs.Reports.{HeightBlock, block_heights, Section as SectionOfPlane}
 use Rattle.report.specs.declared.section.HeightSection.{HeightSection}
+use Rattle.report.specs.declared.section.Section.{Section}
 
--- a special height, the number of its orbit, and the operations at it
+-- the operations
+abbrev pub section_of : Section → SectionOfPlane
+section_of section = record { ops = map motion_of section.ops.items }
+
+-- a special height, the number of its orbit, and its section
 abbrev pub block_of : HeightSection → HeightBlock
-block_of h = record { height = fraction_of h.s; orbit = h.orbit; ops = map motion_of h.section.ops.items }
+block_of h = record { height = fraction_of h.s; orbit = h.orbit; section = section_of h.section }
 
 -- the heights alone
 abbrev pub levels_of_sections : List HeightSection → List Height

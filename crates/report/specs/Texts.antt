@@ -1,13 +1,13 @@
 -- What is written of the planes of an orientation.
 use Rattle.std.specs.Prelude.{ℕ, ℤ, List, ◌++◌, codes, decimal, flat_map}
 use Rattle.std.specs.Fmt.{signed_decimal}
-use Rattle.fractions.specs.Fraction.{Fraction}
+use Rattle.fractions.specs.Fractions.{Fractions}
 use Rattle.fractions.specs.RatioText.{ratio_text}
 use Rattle.symmetry.specs.Vectors.{Vector}
 use Rattle.symmetry.specs.Motions.{Motion}
-use Rattle.symmetry.specs.Frames.{Basis}
 use Rattle.symmetry.specs.Planes.{Height}
 use Rattle.triplets.specs.Writing.{number_text, triplet_text}
+use Rattle.report.specs.Reports.{HeightBlock, Report, Section}
 
 -- the line of an operation
 abbrev pub operation_line : Motion → List ℕ
@@ -33,32 +33,9 @@ images_text rows = flat_map image_line rows ++ codes "end\n"
 abbrev pub vector_text : Vector → List ℕ
 vector_text v = number_text v.x ++ codes "," ++ number_text v.y ++ codes "," ++ number_text v.z
 
--- three fractions, counted in cell edges
-pub record Fractions : Type 0 where
-  pub x : Fraction
-  pub y : Fraction
-  pub z : Fraction
-
 -- a vector in cell edges, as three ratios
 abbrev pub fractions_text : Fractions → List ℕ
 fractions_text v = ratio_text v.x ++ codes "," ++ ratio_text v.y ++ codes "," ++ ratio_text v.z
-
--- a special height, the number of its orbit, and the operations at it
-pub record HeightBlock : Type 0 where
-  pub height : Height
-  pub orbit : ℕ
-  pub ops : List Motion
-
--- what a report says: the orientation, the period in parts, the frame, the vector c', how many planes from 0 to below the
--- period are in the orbit of a general one, the general operations, and the special heights
-pub record Report : Type 0 where
-  pub row : Vector
-  pub period : ℤ
-  pub basis : Basis
-  pub mean : Fractions
-  pub planes : ℕ
-  pub general : List Motion
-  pub heights : List HeightBlock
 
 -- the lines of the orientation, the period and the vectors of the frame
 abbrev pub frame_text : Report → List ℕ
@@ -70,15 +47,19 @@ frame_text report =
     codes "tau " ++ vector_text report.basis.tau ++ codes "\n" ++
     codes "c " ++ fractions_text report.mean ++ codes "\n"
 
+-- the lines of a section
+abbrev pub section_text : Section → List ℕ
+section_text section = flat_map operation_line section.ops
+
 -- the lines of a special height
 abbrev pub height_text : HeightBlock → List ℕ
 height_text block =
-    codes "height " ++ ratio_text block.height ++ codes " orbit " ++ decimal block.orbit ++ codes "\n" ++ flat_map operation_line block.ops
+    codes "height " ++ ratio_text block.height ++ codes " orbit " ++ decimal block.orbit ++ codes "\n" ++ section_text block.section
 
 -- the text of a report: the frame, the general block, a block for each special height, and the end
 abbrev pub report_text : Report → List ℕ
 report_text report =
     frame_text report ++
-    codes "general planes " ++ decimal report.planes ++ codes "\n" ++ flat_map operation_line report.general ++
+    codes "general planes " ++ decimal report.planes ++ codes "\n" ++ section_text report.general ++
     flat_map height_text report.heights ++
     codes "end\n"

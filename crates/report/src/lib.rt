@@ -2,7 +2,7 @@
 // and the types.
 //
 // Promises to the crates above: `at_text`, `images_text` and `type_text` write exactly these texts; `Report::make` gives the
-// report of a group in a frame, and `Report::text` writes its text.
+// report of a group in a frame, and `Report::text` writes its text. `report_says` is what a report says of every height.
 #![tactic(auto)]
 
 mod at;
@@ -10,6 +10,7 @@ mod at;
 mod generator_tests;
 mod images;
 mod kind;
+mod laws;
 mod lines;
 mod make;
 mod numbered;
@@ -25,6 +26,7 @@ mod types;
 pub use at::{NoMemory, at_text};
 pub use images::images_text;
 pub use kind::Kind;
+pub use laws::{alike_reports, report_says};
 pub use report::Report;
 pub use section::{HeightSection, Section};
 pub use types::type_text;

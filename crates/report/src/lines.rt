@@ -7,7 +7,7 @@ ghost use Rattle.fractions.specs.RatioText.{ratio_text};
 ghost use Rattle.fractions.specs.declared.part.TheConstants.{UNIT};
 ghost use Rattle.motions.specs.Views.{motion_of, parts, vector_of};
 ghost use Rattle.triplets.specs.Writing.{number_text};
-ghost use Rattle.report.specs.FractionsView.{fractions_of};
+ghost use Rattle.fractions.specs.Fractions.{fractions_of};
 ghost use Rattle.report.specs.Texts.{fractions_text, indices_text, operation_line, vector_text};
 
 use crate::at::NoMemory;

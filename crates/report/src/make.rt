@@ -14,16 +14,18 @@ use std::alloc::Global;
 
 impl Report {
     ghost use Rattle.std.specs.Prelude.{IfOk};
+    ghost use Rattle.symmetry.specs.Groups.{Listing};
+    ghost use Rattle.closure.specs.Groups.{IsGroupOf};
     ghost use Rattle.plane_lattice.specs.FrameOf.{IsMadeFor};
     ghost use Rattle.report.specs.ReportView.{IsReportOf};
 
-    /// The report of the group in the frame: its scan, with the number of the orbit of each special height, and the number of
-    /// planes in the orbit of a general one.
+    /// The report of the group in the frame, however the group is listed: its scan, with the number of the orbit of each
+    /// special height, and the number of planes in the orbit of a general one.
     ///
     /// The frame is one that [`Frame::make`] gives for this group (International Tables, Volume E, part 5).
     pub fn make(alloc: Global, group: &Group, frame: &Frame) -> Result<Report, NoMemory>
         requires { IsMadeFor group.now frame.now }
-        ensures { IfOk result (IsReportOf group.now frame.now) }
+        ensures { (g : Listing) → IsGroupOf g group.now → IfOk result (IsReportOf g frame.now) }
     {
         let scan = Scan::make(alloc, group, frame)?;
         let orbits = height_orbits(alloc, &scan, group)?;

@@ -2,7 +2,7 @@
 ghost use Rattle.std.specs.Prelude.{◌≡◌, ◌++◌, OnOk, decimal, codes, map, flat_map};
 ghost use Rattle.motions.specs.Views.{parts, row_of};
 ghost use Rattle.triplets.specs.Writing.{number_text};
-ghost use Rattle.report.specs.FractionsView.{fractions_of};
+ghost use Rattle.fractions.specs.Fractions.{fractions_of};
 ghost use Rattle.report.specs.ReportView.{report_of};
 ghost use Rattle.report.specs.SectionView.{block_of};
 ghost use Rattle.report.specs.Texts.{fractions_text, frame_text, height_text, indices_text, vector_text};

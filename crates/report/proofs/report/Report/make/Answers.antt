@@ -8,7 +8,7 @@ use Rattle.plane_lattice.specs.FrameView.{basis_of_frame}
 use Rattle.plane_lattice.specs.declared.frame.Frame.{Frame}
 use Rattle.orbits.proofs.SpecialHeights.{length-heights}
 use Rattle.report.specs.ReportView.{IsReportOf}
-use Rattle.report.proofs.Made.{frame_made, report_of_scan}
+use Rattle.report.proofs.Made.{frame_made, report_of_each, report_of_scan}
 use Rattle.report.proofs.report.Report.make.Goals as goal
 
 -- the scan keeps the frame
@@ -25,14 +25,15 @@ show-requires c =
     numbers.count ∙ length-heights c.in_ok-scan.scan.special.items
 
 pub returns : goal.returns
-returns c =
+returns c = λ g of.
     let group = c.args.group.now in
     let frame = c.args.frame.now in
     let scan = c.in_ok-scan.scan in
     let orbits = c.in_ok-orbits.orbits in
     let are_orbits = c.in_ok-orbits.ensures in
-    let g = group_listing group in
     let own = own_listing group in
-    IfOk-weaker c.show.result _ (IsReportOf group frame)
-    (report_of_scan group frame c.requires scan (c.in_ok-scan.ensures g own) orbits.of.items orbits.planes (are_orbits.numbers g own) (are_orbits.planes g own))
+    let h = group_listing group in
+    IfOk-weaker c.show.result _ (IsReportOf g frame)
+    (λ report shown. report_of_each group frame g of report
+    (report_of_scan group frame c.requires scan (c.in_ok-scan.ensures h own) orbits.of.items orbits.planes (are_orbits.numbers h own) (are_orbits.planes h own) report shown))
     c.show.ensures
