@@ -9,7 +9,7 @@ reader_of source = source.reader
 
 -- how often a source failed
 abbrev pub source_faults : {R : Type 0} → RealSource R → ℕ
-source_faults source = source.faults.0
+source_faults source = source.faults.count
 
 -- the writer that a sink writes to
 abbrev pub writer_of : {W : Type 0} → RealSink W → W
@@ -17,4 +17,4 @@ writer_of sink = sink.writer
 
 -- how often a sink failed
 abbrev pub sink_faults : {W : Type 0} → RealSink W → ℕ
-sink_faults sink = sink.faults.0
+sink_faults sink = sink.faults.count

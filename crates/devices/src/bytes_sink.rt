@@ -1,6 +1,6 @@
 // A sink in memory.
 ghost use Rattle.std.specs.Prelude.{◌≡◌, ◌+◌, ◌-◌, ◌<◌, ◌≤◌, ◌↔◌, ◌⊎◌, [], ◌++◌, length, take, Some, Contains, IfOk, IsErr, OnErr};
-ghost use Rattle.devices.specs.Calls.{next_count};
+ghost use Rattle.devices.specs.Calls.{IsCount, next_count};
 ghost use Rattle.devices.specs.Memory.{new_store, least};
 
 use crate::schedule::Schedule;
@@ -32,7 +32,7 @@ impl Model for BytesSink {
       piece = s.piece;
       failing = s.schedule.failing.items;
       calls = s.schedule.calls;
-      faults = s.schedule.faults.0;
+      faults = s.schedule.faults.count;
     } };
 
     ghost invariant = { λ s. (1 ≤ s.piece) × (vec_len s.bytes ≤ s.room) × (s.room ≤ vec_capacity s.bytes) };
@@ -87,7 +87,7 @@ impl Sink for BytesSink {
         ensures fault { OnErr result
             (self.new ≡ record self.old { calls = next_count self.old.calls; faults = next_count self.old.faults }) }
         ensures some { IfOk result (λ n. 0 < length piece.now → 0 < n) }
-        ensures counts { self.old.faults ≤ self.new.faults }
+        ensures most { IsCount self.old.faults × IsCount self.new.faults }
     {
         self.schedule.begin()?;
         let free = self.room - self.bytes.len();

@@ -1,6 +1,6 @@
 // A source in memory.
 ghost use Rattle.std.specs.Prelude.{◌≡◌, ◌<◌, ◌≤◌, ◌↔◌, [], ◌++◌, length, take, drop, Some, Contains, IfOk, IsErr, OnErr};
-ghost use Rattle.devices.specs.Calls.{next_count};
+ghost use Rattle.devices.specs.Calls.{IsCount, next_count};
 ghost use Rattle.devices.specs.Memory.{new_supply, least};
 
 use crate::schedule::Schedule;
@@ -27,7 +27,7 @@ impl Model for BytesSource {
       piece = s.piece;
       failing = s.schedule.failing.items;
       calls = s.schedule.calls;
-      faults = s.schedule.faults.0;
+      faults = s.schedule.faults.count;
     } };
 
     ghost invariant = { λ s. (1 ≤ s.piece) × (s.place ≤ length s.bytes.items) };
@@ -68,7 +68,7 @@ impl Source for BytesSource {
         ensures fault { OnErr result
             (self.new ≡ record self.old { calls = next_count self.old.calls; faults = next_count self.old.faults }) }
         ensures end { IfOk result (λ n. n ≡ 0 → 0 < length buf.new → self.new.left ≡ []) }
-        ensures counts { self.old.faults ≤ self.new.faults }
+        ensures most { IsCount self.old.faults × IsCount self.new.faults }
     {
         self.schedule.begin()?;
         let left = &self.bytes.as_slice()[self.place..];

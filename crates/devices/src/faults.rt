@@ -1,25 +1,29 @@
 // Counts of faults.
 ghost use Rattle.std.specs.Prelude.{◌≡◌, ◌≤◌};
-ghost use Rattle.devices.specs.Calls.{next_count};
+ghost use Rattle.devices.specs.Calls.{IsCount, next_count};
 
 use crate::traits::Failed;
 
 /// How often a device failed. At its last number the count stays.
 #[derive(Drop)]
-pub(crate) struct Faults(u64);
+pub(crate) struct Faults {
+    count: u64,
+    ghost most: { IsCount count },
+}
 
 impl Faults {
     pub(crate) fn none() -> Faults
-        ensures { result.0 ≡ 0 }
+        ensures { result.count ≡ 0 }
     {
-        Faults(0)
+        Faults { count: 0 }
     }
 
+    /// Counts a fault.
     pub(crate) fn count(&mut self) -> Failed
-        ensures next { self.new.0 ≡ next_count self.old.0 }
-        ensures grows { self.old.0 ≤ self.new.0 }
+        ensures next { self.new.count ≡ next_count self.old.count }
+        ensures grows { self.old.count ≤ self.new.count }
     {
-        self.0 = self.0.saturating_add(1);
+        self.count = self.count.saturating_add(1);
         Failed
     }
 }

@@ -11,10 +11,10 @@ use crate::traits::{Failed, Sink};
 pub fn put_all<K: Sink>(out: &mut K, text: &[u8]) -> Result<(), Failed>
     ensures all { OnOk result (K.held out.new ≡ append_known (K.held out.old) text.now) }
     ensures front { OnErr result (HoldsFront (K.held out.old) (K.held out.new) text.now) }
-    ensures counts { K.faults out.old ≤ K.faults out.new }
+    ensures unfailed { OnOk result (K.faults out.new ≡ K.faults out.old) }
     ensures failed { OnErr result (Rose (K.faults out.old) (K.faults out.new)) }
     ensures steady { (n : ℕ) → K.Takes out.old n → length text.now ≤ n →
-        IsOk result × K.Takes out.new (n - length text.now) × (K.faults out.new ≡ K.faults out.old) }
+        IsOk result × K.Takes out.new (n - length text.now) }
 {
     let mut taken = 0;
     while taken < text.len() {

@@ -56,10 +56,9 @@ pub fn read_all<S: Source>(alloc: Global, source: &mut S, limit: usize) -> Resul
     ensures too_long { IfOk result (λ input. OnTooLong input
         (IfSome (S.left source.old) (λ all. limit < length all))) }
     ensures within { ReadsWithin (S.left source.old) (S.left source.new) (limit + 1) }
-    ensures counts { S.faults source.old ≤ S.faults source.new }
+    ensures unfailed { (result ≢ Err ReadFault.Failed) → S.faults source.new ≡ S.faults source.old }
     ensures failed { IsErrOf result ReadFault.Failed → Rose (S.faults source.old) (S.faults source.new) }
-    ensures steady { S.NeverFails source.old → (result ≢ Err ReadFault.Failed)
-        × S.NeverFails source.new × (S.faults source.new ≡ S.faults source.old) }
+    ensures steady { S.NeverFails source.old → (result ≢ Err ReadFault.Failed) × S.NeverFails source.new }
 {
     let mut bytes = Vec::new(alloc);
     let mut piece = [0; PIECE];

@@ -1,8 +1,8 @@
 // The real devices: the trusted edge. They tell nothing of their bytes.
-ghost use Rattle.std.specs.Prelude.{◌≡◌, ◌<◌, ◌≤◌, length, take, None, IfOk, OnErr};
+ghost use Rattle.std.specs.Prelude.{◌≡◌, ◌<◌, ◌≤◌, length, take, None, IfOk, OnErr, OnOk};
 ghost use Rattle.std.specs.Io.{WritesAtMost};
 ghost use Rattle.std.specs.Io.KnownBytes.{Appends, ReadConsumes};
-ghost use Rattle.devices.specs.Calls.{Rose};
+ghost use Rattle.devices.specs.Calls.{IsCount, Rose};
 ghost use Rattle.devices.specs.Real.{reader_of, source_faults, writer_of, sink_faults};
 
 use crate::faults::Faults;
@@ -41,8 +41,9 @@ impl<R: Read> Source for RealSource<R> {
     fn next(&mut self, buf: &mut [u8]) -> Result<usize, Failed>
         ensures fits { IfOk result (λ n. n ≤ length buf.new) }
         ensures bytes { ReadConsumes (R.remaining (reader_of self.old)) (R.remaining (reader_of self.new)) result buf.new }
-        ensures counts { source_faults self.old ≤ source_faults self.new }
+        ensures unfailed { OnOk result (source_faults self.new ≡ source_faults self.old) }
         ensures failed { OnErr result (Rose (source_faults self.old) (source_faults self.new)) }
+        ensures most { IsCount (source_faults self.old) × IsCount (source_faults self.new) }
     {
         match self.reader.read(buf) {
             Ok(given) => Ok(given),
@@ -84,8 +85,9 @@ impl<W: Write> Sink for RealSink<W> {
         ensures some { IfOk result (λ n. 0 < length piece.now → 0 < n) }
         ensures bytes { IfOk result (λ n.
             Appends (W.contents (writer_of self.old)) (W.contents (writer_of self.new)) (take n piece.now)) }
-        ensures counts { sink_faults self.old ≤ sink_faults self.new }
+        ensures unfailed { OnOk result (sink_faults self.new ≡ sink_faults self.old) }
         ensures failed { OnErr result (Rose (sink_faults self.old) (sink_faults self.new)) }
+        ensures most { IsCount (sink_faults self.old) × IsCount (sink_faults self.new) }
     {
         match write_through(&mut self.writer, piece) {
             Ok(taken) if taken > 0 || piece.is_empty() => Ok(taken),

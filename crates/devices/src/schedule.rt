@@ -17,7 +17,7 @@ impl Schedule {
     pub(crate) fn new(failing: Vec<u64>) -> Schedule
         ensures failing { result.failing.items ≡ failing.items }
         ensures calls { result.calls ≡ 0 }
-        ensures faults { result.faults.0 ≡ 0 }
+        ensures faults { result.faults.count ≡ 0 }
     {
         Schedule {
             failing,
@@ -31,8 +31,8 @@ impl Schedule {
         ensures listed { IsErr result ↔ Contains self.old.failing.items (next_count self.old.calls) }
         ensures calls { self.new.calls ≡ next_count self.old.calls }
         ensures failing { self.new.failing ≡ self.old.failing }
-        ensures risen { OnErr result (self.new.faults.0 ≡ next_count self.old.faults.0) }
-        ensures unfailed { OnOk result (self.new.faults.0 ≡ self.old.faults.0) }
+        ensures risen { OnErr result (self.new.faults.count ≡ next_count self.old.faults.count) }
+        ensures unfailed { OnOk result (self.new.faults.count ≡ self.old.faults.count) }
     {
         self.calls = self.calls.saturating_add(1);
         if self.failing.contains(&self.calls) {
@@ -44,7 +44,7 @@ impl Schedule {
     /// Counts a fault.
     pub(crate) fn fault(&mut self) -> Failed
         ensures rest { self.new ≡ record self.old { faults = self.new.faults } }
-        ensures risen { self.new.faults.0 ≡ next_count self.old.faults.0 }
+        ensures risen { self.new.faults.count ≡ next_count self.old.faults.count }
     {
         self.faults.count()
     }

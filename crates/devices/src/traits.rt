@@ -1,7 +1,7 @@
 // What bytes come from and go to.
-ghost use Rattle.std.specs.Prelude.{◌≡◌, ℕ, ◌-◌, ◌<◌, ◌≤◌, Option, List, length, take, IfOk, IsOk, IsOkAnd, OnErr};
+ghost use Rattle.std.specs.Prelude.{◌≡◌, ℕ, ◌-◌, ◌<◌, ◌≤◌, Option, List, length, take, IfOk, IsOk, IsOkAnd, OnErr, OnOk};
 ghost use Rattle.std.specs.Io.KnownBytes.{prepend_known, append_known, IsAtEnd};
-ghost use Rattle.devices.specs.Calls.{Rose};
+ghost use Rattle.devices.specs.Calls.{IsCount, Rose};
 
 /// A device failed. It counted a fault.
 #[derive(Debug, Clone, Copy, PartialEq, Eq)]
@@ -25,9 +25,10 @@ pub trait Source {
         ensures given { IfOk result (λ n. left self.old ≡ prepend_known (take n buf.new) (left self.new)) }
         ensures end { IfOk result (λ n. n ≡ 0 → 0 < length buf.new → IsAtEnd (left self.new)) }
         ensures kept { OnErr result (left self.new ≡ left self.old) }
-        ensures counts { faults self.old ≤ faults self.new }
+        ensures unfailed { OnOk result (faults self.new ≡ faults self.old) }
         ensures failed { OnErr result (Rose (faults self.old) (faults self.new)) }
-        ensures steady { NeverFails self.old → IsOk result × NeverFails self.new × (faults self.new ≡ faults self.old) };
+        ensures most { IsCount (faults self.old) × IsCount (faults self.new) }
+        ensures steady { NeverFails self.old → IsOk result × NeverFails self.new };
 }
 
 /// What bytes are written to.
@@ -48,8 +49,9 @@ pub trait Sink {
         ensures some { IfOk result (λ n. 0 < length piece.now → 0 < n) }
         ensures taken { IfOk result (λ n. held self.new ≡ append_known (held self.old) (take n piece.now)) }
         ensures kept { OnErr result (held self.new ≡ held self.old) }
-        ensures counts { faults self.old ≤ faults self.new }
+        ensures unfailed { OnOk result (faults self.new ≡ faults self.old) }
         ensures failed { OnErr result (Rose (faults self.old) (faults self.new)) }
+        ensures most { IsCount (faults self.old) × IsCount (faults self.new) }
         ensures steady { (n : ℕ) → Takes self.old n → length piece.now ≤ n →
-            IsOkAnd result (λ k. Takes self.new (n - k)) × (faults self.new ≡ faults self.old) };
+            IsOkAnd result (λ k. Takes self.new (n - k)) };
 }

@@ -11,10 +11,10 @@ loop-taken-preserved g c =
     record {
       fits = omega (arith, rest);
       holds = append_known-take _ _ _ taken more text c.loop-taken.invariant.holds c.in_ok-taken.ensures.taken;
-      counts = omega (arith, c.loop-taken.invariant.counts, c.in_ok-taken.ensures.counts);
+      unfailed = c.in_ok-taken.ensures.unfailed ∙ c.loop-taken.invariant.unfailed;
       steady = λ n takes room.
           let now = c.loop-taken.invariant.steady n takes room in
-          let then = c.in_ok-taken.ensures.steady (n - taken) now.0 (simp (length-take, length-drop) (omega arith)) in
+          let then = c.in_ok-taken.ensures.steady (n - taken) now (simp (length-take, length-drop) (omega arith)) in
           let same : n - taken - more ≡ n - (taken + more) = omega arith in
-          (subst (λ k. g.K.Sink.Takes c.put.new.self k) same then.0, then.1 ∙ now.1);
+          subst (λ k. g.K.Sink.Takes c.put.new.self k) same then;
     }

@@ -6,8 +6,8 @@ abbrev pub invariant-loop-taken : goal.invariant-loop-taken
 invariant-loop-taken g l = record {
   fits : l.taken ≤ length l.text;
   holds : g.K.Sink.held l.out ≡ append_known (g.K.Sink.held l.fn.out) (take l.taken l.text);
-  counts : g.K.Sink.faults l.fn.out ≤ g.K.Sink.faults l.out;
-  steady : (n : ℕ) → g.K.Sink.Takes l.fn.out n → length l.text ≤ n → g.K.Sink.Takes l.out (n - l.taken) × (g.K.Sink.faults l.out ≡ g.K.Sink.faults l.fn.out);
+  unfailed : g.K.Sink.faults l.out ≡ g.K.Sink.faults l.fn.out;
+  steady : (n : ℕ) → g.K.Sink.Takes l.fn.out n → length l.text ≤ n → g.K.Sink.Takes l.out (n - l.taken);
 }
 
 abbrev pub decreases-loop-taken : goal.decreases-loop-taken

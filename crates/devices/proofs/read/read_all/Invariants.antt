@@ -6,8 +6,8 @@ abbrev pub invariant-loop-bytes : goal.invariant-loop-bytes
 invariant-loop-bytes g l = record {
   short : vec_len l.bytes ≤ l.limit;
   given : g.S.Source.left l.fn.source ≡ prepend_known l.bytes.items (g.S.Source.left l.source);
-  counts : g.S.Source.faults l.fn.source ≤ g.S.Source.faults l.source;
-  steady : g.S.Source.NeverFails l.fn.source → g.S.Source.NeverFails l.source × (g.S.Source.faults l.source ≡ g.S.Source.faults l.fn.source);
+  unfailed : g.S.Source.faults l.source ≡ g.S.Source.faults l.fn.source;
+  steady : g.S.Source.NeverFails l.fn.source → g.S.Source.NeverFails l.source;
 }
 
 abbrev pub decreases-loop-bytes : goal.decreases-loop-bytes
