@@ -1,12 +1,11 @@
 -- What is answered of the group of an input is what is asked of what the input lists.
-use Rattle.std.proofs.Common.{◌≡◌, ◌≤◌, ◌^◌, ℕ, List, length, unsigned_abs, refl, sym, ap, ◌∙◌, subst, inr}
+use Rattle.std.proofs.Common.{◌≡◌, ◌^◌, ℕ, List, unsigned_abs, refl, sym, ap, ◌∙◌, subst}
 use Rattle.fractions.specs.Fraction.{Fraction, IsFractionWithin}
 use Rattle.symmetry.specs.Vectors.{Vector, Matrix, row_times}
 use Rattle.symmetry.specs.Motions.{Motion}
 use Rattle.symmetry.specs.Groups.{Listing, IsGroup, IsMember, SameModulo, InStabiliser}
 use Rattle.symmetry.specs.Sizes.{IsVectorWithin}
 use Rattle.symmetry.specs.Planes.{IsCoprime}
-use Rattle.symmetry.proofs.LatticeLaws.{listed_member}
 use Rattle.symmetry.proofs.ScanLists.{scan_gives_some, scan_lists_in_plane}
 use Rattle.symmetry.specs.Frames.{Basis, IsFrame, IsSkewed, IsAtHome}
 use Rattle.symmetry.specs.Lists.{IsListOf}
@@ -15,7 +14,6 @@ use Rattle.motions.specs.Views.{row_of}
 use Rattle.motions.specs.declared.basis.Basis.{Basis as BasisOfCode}
 use Rattle.motions.specs.declared.miller.Miller.{Miller}
 use Rattle.closure.specs.declared.group.Group.{Group}
-use Rattle.closure.specs.Groups.{group_listing}
 use Rattle.plane_lattice.specs.Coordinates.{vectors}
 use Rattle.plane_lattice.specs.FrameOf.{IsFrameOf}
 use Rattle.plane_lattice.specs.FrameView.{basis_of_frame}
@@ -25,26 +23,45 @@ use Rattle.scanning.specs.ScanView.{IsScanOf, scan_of}
 use Rattle.scanning.specs.declared.scan.Scan.{Scan}
 use Rattle.scanning.specs.declared.at_fault.AtFault.{AtFault}
 use Rattle.scanning.specs.declared.at_fault.AtFault.TheVariants as at_faults
-use Rattle.orbits.proofs.FirstRows.{orientations_of_firsts}
 use Rattle.orbits.specs.Orientations.{AreOrientations, IsOrbitFault, IsWide}
-use Rattle.orbits.specs.declared.limits.TheConstants.{WIDE}
 use Rattle.orbits.specs.declared.orbit_fault.OrbitFault.{OrbitFault}
 use Rattle.orbits.specs.declared.orbit_fault.OrbitFault.TheVariants as orbit_faults
+use Rattle.fractions.specs.Fractions.{Fractions}
 use Rattle.report.specs.Texts.{at_text, images_text, report_text}
-use Rattle.report.specs.Reports.{IsReport, Report, scan_of_report}
-use Rattle.command.specs.declared.limits.TheConstants.{MOST_BYTES}
-use Rattle.command.specs.declared.refusal.Refusal.TheVariants.{Wide}
+use Rattle.report.specs.Reports.{IsMean, IsReport, Report, scan_of_report}
 use Rattle.command.specs.Obstacles.{obstacle_of_height, obstacle_of_orbits}
 use Rattle.command.specs.Limits.{IsHeightInRange}
-use Rattle.command.specs.Requests.{at_height, all_heights, image_rows}
-use Rattle.command.specs.Responses.{IsInputObstacle}
-use Rattle.command.specs.Alike.{IsGroupOf}
-use Rattle.command.specs.Answers.{IsOutput}
-use Rattle.command.specs.Causes.{IsFrameHere}
-use Rattle.command.specs.Contents.{IsFairFrame}
-use Rattle.command.proofs.Alike.{frame_from, skewed_as}
-use Rattle.command.proofs.AlikeReports.{report_from, scan_from}
-use Rattle.command.proofs.FrameCauses.{input_refusal}
+use Rattle.command.specs.Questions.{at_height, all_heights, image_rows}
+use Rattle.closure.specs.Groups.{group_listing, IsGroupOf}
+use Rattle.command.specs.Causes.{IsFrameHere, IsGroupsObstacle}
+use Rattle.command.specs.Answers.{Answers}
+use Rattle.command.specs.FairFrames.{FrameFails, IsFairFrame}
+use Rattle.symmetry.specs.Listings.{AreAlike}
+use Rattle.symmetry.proofs.Alike.{frame_to, frame_from, period_from, skewed_as}
+use Rattle.symmetry.proofs.AlikeScans.{numbers_from, planes_from, scan_from, scanning_from}
+use Rattle.motions.specs.declared.frame_fault.FrameFault.{FrameFault}
+use Rattle.motions.specs.declared.frame_fault.FrameFault.TheVariants as frames
+use Rattle.plane_lattice.specs.FrameOf.{IsFrameFault}
+use Rattle.command.specs.declared.obstacle.Obstacle.{Obstacle}
+use Rattle.command.specs.declared.obstacle.Obstacle.TheVariants as obstacles
+use Rattle.command.specs.Causes.{IsFrameObstacle}
+use Rattle.command.specs.Obstacles.{refusal_of_frame}
+
+-- listings of one group have the same reports
+module _ (g h : Listing) (alike : AreAlike g h) (r : Vector) where
+  mean_from : (tau : Vector) (v : Fractions) → IsMean h r tau v → IsMean g r tau v
+  mean_from tau v is = record { scanning = is.scanning; are_scanning = scanning_from g h alike r is.scanning is.are_scanning; is = is.is }
+
+  report_from : (f : Basis) (report : Report) → IsReport h r f report → IsReport g r f report
+  report_from f report is = record {
+    row = is.row;
+    basis = is.basis;
+    period = period_from g h alike r report.period is.period;
+    mean = mean_from f.tau report.mean is.mean;
+    scan = scan_from g h alike r f _ is.scan;
+    orbits = numbers_from g h alike r _ _ is.orbits;
+    planes = planes_from g h alike r report.period report.planes is.planes;
+  }
 
 -- ---- the frame
 
@@ -80,67 +97,54 @@ module _ (row : Vector) (basis : Basis) (group : Group) (frame : Frame) (here : 
   to_asked : (P : Vector → Basis → Type 0) → P (row_of frame.plane) (basis_of_frame frame) → P row basis
   to_asked P h = subst (λ (r : Vector). P r basis) here.row_is (subst (P (row_of frame.plane)) here.basis_is h)
 
-  module _ (input : List ℕ) (of : IsGroupOf input group) where
-    fair_frame : IsFairFrame of.listing row basis
+  module _ (g : Listing) (of : IsGroupOf g group) where
+    fair_frame : IsFairFrame g row basis
     fair_frame = record {
-      is_frame = frame_from of.listing (group_listing group) of.alike row basis is_frame_here;
-      not_skewed = λ s. not_skewed_here (skewed_as of.listing (group_listing group) (λ m. (of.alike.members m).0) row basis s);
+      is_frame = frame_from g (group_listing group) of.alike row basis is_frame_here;
+      not_skewed = λ s. not_skewed_here (skewed_as g (group_listing group) (λ m. (of.alike.members m).0) row basis s);
     }
 
     -- ---- one height
 
     -- a scan of the group is one of what the input lists
-    scan_here : (scan : ScanOfPlanes) → IsScan (group_listing group) (row_of frame.plane) (basis_of_frame frame) scan → IsScan of.listing row basis scan
-    scan_here scan is = scan_from of.listing (group_listing group) of.alike row basis scan (to_asked (λ r f. IsScan (group_listing group) r f scan) is)
+    scan_here : (scan : ScanOfPlanes) → IsScan (group_listing group) (row_of frame.plane) (basis_of_frame frame) scan → IsScan g row basis scan
+    scan_here scan is = scan_from g (group_listing group) of.alike row basis scan (to_asked (λ r f. IsScan (group_listing group) r f scan) is)
 
-    pub height_answer : (short : length input ≤ MOST_BYTES) (s : Fraction) (scan : ScanOfPlanes) (ops : List Motion) (text : List ℕ)
+    pub height_answer : (s : Fraction) (scan : ScanOfPlanes) (ops : List Motion) (text : List ℕ)
         → IsScan (group_listing group) (row_of frame.plane) (basis_of_frame frame) scan
         → ((g : Listing) → IsGroup g → IsFrame g (row_of frame.plane) (basis_of_frame frame) → IsScan g (row_of frame.plane) (basis_of_frame frame) scan
         → IsListOf (SameModulo g) g.ops (IsAtHome (basis_of_frame frame)) (InStabiliser g (row_of frame.plane) s) ops)
-        → text ≡ at_text s ops → IsOutput (at_height row basis s) input text
-    height_answer short s scan ops text is_scan list is =
-        let g = of.listing in
-        let told = list g of.lists.is_group (of_frame (IsFrame g) fair_frame.is_frame) (of_frame (λ r f. IsScan g r f scan) (scan_here scan is_scan)) in (
-          short,
-          record {
-            group = g;
-            lists = of.lists;
-            answers = record {
-              frame = fair_frame;
-              ops = ops;
-              are_ops = to_asked (λ r f. IsListOf (SameModulo g) g.ops (IsAtHome f) (InStabiliser g r s) ops) told;
-              is_text = is;
-            };
-          },
-        )
+        → text ≡ at_text s ops → Answers g (at_height row basis s) text
+    height_answer s scan ops text is_scan list is =
+        let told = list g of.is_group (of_frame (IsFrame g) fair_frame.is_frame) (of_frame (λ r f. IsScan g r f scan) (scan_here scan is_scan)) in
+        record {
+          frame = fair_frame;
+          ops = ops;
+          are_ops = to_asked (λ r f. IsListOf (SameModulo g) g.ops (IsAtHome f) (InStabiliser g r s) ops) told;
+          is_text = is;
+        }
 
     -- ---- all heights
 
     -- the report of the group is that of what the input lists
-    report_here : (report : Report) → IsReport (group_listing group) (row_of frame.plane) (basis_of_frame frame) report → IsReport of.listing row basis report
+    report_here : (report : Report) → IsReport (group_listing group) (row_of frame.plane) (basis_of_frame frame) report → IsReport g row basis report
     report_here report is =
-        let h = group_listing group in report_from of.listing h of.alike row basis report (to_asked (λ r f. IsReport h r f report) is)
+        let h = group_listing group in report_from g h of.alike row basis report (to_asked (λ r f. IsReport h r f report) is)
 
-    pub report_answer : (short : length input ≤ MOST_BYTES) → IsCoprime row → (report : Report) (text : List ℕ)
-        → IsReport (group_listing group) (row_of frame.plane) (basis_of_frame frame) report → text ≡ report_text report → IsOutput (all_heights row basis) input text
-    report_answer short coprime report text made is =
+    pub report_answer : IsCoprime row → (report : Report) (text : List ℕ)
+        → IsReport (group_listing group) (row_of frame.plane) (basis_of_frame frame) report → text ≡ report_text report → Answers g (all_heights row basis) text
+    report_answer coprime report text made is =
         let told = report_here report made in
-        let fair = fair_frame in (
-          short,
-          record {
-            group = of.listing;
-            lists = of.lists;
-            answers = record {
-              frame = fair;
-              report = report;
-              is_report = told;
-              is_text = is;
-              classes = told.scan.classes;
-              given = λ s high. scan_gives_some of.listing row basis fair.is_frame (scan_of_report report) told.scan s high;
-              exactly = λ s ops high given. scan_lists_in_plane of.listing row basis fair.is_frame of.lists.is_group coprime (scan_of_report report) told.scan s high ops given;
-            };
-          },
-        )
+        let fair = fair_frame in
+        record {
+          frame = fair;
+          report = report;
+          is_report = told;
+          is_text = is;
+          classes = told.scan.classes;
+          given = λ s high. scan_gives_some g row basis fair.is_frame (scan_of_report report) told.scan s high;
+          exactly = λ s ops high given. scan_lists_in_plane g row basis fair.is_frame of.is_group coprime (scan_of_report report) told.scan s high ops given;
+        }
 
 -- a scan keeps the frame that it was made in
 pub scanned : (row : Vector) (basis : Basis) (group : Group) (frame : Frame) (scan : Scan) → IsFrameHere group row basis frame → IsScanOf (group_listing group) frame scan
@@ -151,41 +155,38 @@ scanned row basis group frame scan here is = (
 )
 
 -- a height in range has a list
-pub height_obstacle : (row : Vector) (basis : Basis) (s : Fraction) (input : List ℕ) (fault : AtFault) → IsHeightInRange s
-    → (fault ≡ at_faults.Large → ¬ IsFractionWithin (10 ^ 9) s) → IsInputObstacle (at_height row basis s) input (obstacle_of_height fault)
-height_obstacle row basis s input at_faults.Large range large = absurd (large refl (record { num = range.num; den = range.den }))
-height_obstacle row basis s input at_faults.NoMemory range large = tt
+pub height_obstacle : (row : Vector) (basis : Basis) (s : Fraction) (group : Group) (fault : AtFault) → IsHeightInRange s
+    → (fault ≡ at_faults.Large → ¬ IsFractionWithin (10 ^ 9) s) → IsGroupsObstacle group (at_height row basis s) (obstacle_of_height fault)
+height_obstacle row basis s group at_faults.Large range large = absurd (large refl (record { num = range.num; den = range.den }))
+height_obstacle row basis s group at_faults.NoMemory range large = tt
 
 -- ---- images
 
-module _ (row : Vector) (input : List ℕ) (group : Group) (short : length input ≤ MOST_BYTES) (of : IsGroupOf input group) where
-  -- each listed operation has the matrix of one that the group keeps, and the other way round
-  wide_to : IsWide of.listing row → IsWide (group_listing group) row
-  wide_to (m, listed, large) =
-      let member : IsMember (group_listing group) m = (of.alike.members m).0 (listed_member of.listing m listed) in
-      (member.of, member.listed, subst (λ (w : Matrix). ¬ IsVectorWithin (unsigned_abs WIDE) (row_times row w)) member.same.matrix large)
+pub images_answer : (row : Vector) (g : Listing) (rows : List Vector) (text : List ℕ) → AreOrientations g row rows → ¬ IsWide g row
+    → text ≡ images_text rows → Answers g (image_rows row) text
+images_answer row g rows text are narrow is = record { rows = rows; are_images = are; not_wide = narrow; is_text = is }
 
-  wide_from : IsWide (group_listing group) row → IsWide of.listing row
-  wide_from (m, listed, large) =
-      let member : IsMember of.listing m = (of.alike.members m).1 (listed_member (group_listing group) m listed) in
-      (member.of, member.listed, subst (λ (w : Matrix). ¬ IsVectorWithin (unsigned_abs WIDE) (row_times row w)) member.same.matrix large)
+pub images_obstacle : (row : Vector) (group : Group) (fault : OrbitFault) → ((g : Listing) → IsGroupOf g group → IsOrbitFault g row fault)
+    → IsGroupsObstacle group (image_rows row) (obstacle_of_orbits fault)
+images_obstacle row group orbit_faults.Wide wide = λ g of. (wide g of, refl)
+images_obstacle row group orbit_faults.NoMemory h = tt
 
-  pub images_answer : (rows : List Vector) (text : List ℕ) → AreOrientations (group_listing group) row rows → ¬ IsWide (group_listing group) row
-      → text ≡ images_text rows → IsOutput (image_rows row) input text
-  images_answer rows text are narrow is = (
-    short,
-    record {
-      group = of.listing;
-      lists = of.lists;
-      answers = record {
-        rows = rows;
-        are_images = (orientations_of_firsts of.listing (group_listing group) row rows of.firsts).1 are;
-        not_wide = λ wide. narrow (wide_to wide);
-        is_text = is;
-      };
-    },
-  )
+-- ---- no frame
 
-  pub images_obstacle : (fault : OrbitFault) → IsOrbitFault (group_listing group) row fault → IsInputObstacle (image_rows row) input (obstacle_of_orbits fault)
-  images_obstacle orbit_faults.Wide wide = input_refusal (image_rows row) tt input Wide short (inr (of.listing, of.lists, wide_from wide))
-  images_obstacle orbit_faults.NoMemory h = tt
+pub frame_obstacle : (group : Group) (plane : Miller) (basis : BasisOfCode) (fault : FrameFault) → IsFrameFault group plane basis fault
+    → IsFrameObstacle group (row_of plane) (basis_of basis) (obstacles.Refused (refusal_of_frame fault))
+frame_obstacle group plane basis frames.NotFrame h = (frames.NotFrame, h, refl)
+frame_obstacle group plane basis frames.Skewed h = (frames.Skewed, h, refl)
+
+-- why one listing has no frame is why a like one has none
+module _ (row : Vector) (basis : Basis) (group : Group) where
+  fails_alike : (g : Listing) → IsGroupOf g group → (f : FrameFault) → FrameFails (group_listing group) row basis f → FrameFails g row basis f
+  fails_alike g of frames.NotFrame p = λ frame. p (frame_to g (group_listing group) of.alike row basis frame)
+  fails_alike g of frames.Skewed p =
+      (frame_from g (group_listing group) of.alike row basis p.0, skewed_as (group_listing group) g (λ m. (of.alike.members m).1) row basis p.1)
+
+  pub height_frame : (s : Fraction) (o : Obstacle) → IsFrameObstacle group row basis o → IsGroupsObstacle group (at_height row basis s) o
+  height_frame s o (f, p, e) = subst (IsGroupsObstacle group (at_height row basis s)) (sym e) (λ g of. (f, fails_alike g of f p, refl))
+
+  pub report_frame : (o : Obstacle) → IsFrameObstacle group row basis o → IsGroupsObstacle group (all_heights row basis) o
+  report_frame o (f, p, e) = subst (IsGroupsObstacle group (all_heights row basis)) (sym e) (λ g of. (f, fails_alike g of f p, refl))

@@ -1,56 +1,60 @@
--- What is answered over the source is what the words ask for.
-use Rattle.std.proofs.Common.{◌≡◌, ℕ, ◌<◌, List, [], length, Option, Some, Result, Ok, Err, IfErr, sym, subst, arith, inr}
-use Rattle.command.specs.declared.limits.TheConstants.{MOST_BYTES}
-use Rattle.command.specs.declared.refusal.Refusal.{Refusal}
-use Rattle.command.specs.declared.refusal.Refusal.TheVariants.{TooLong}
+-- What is made of a source is what the words ask for.
+use Rattle.std.proofs.Common.{◌≡◌, ℕ, List, Option, Some, Result, Ok, Err, IfOk, IfErr, Vec, Global, refl, inr}
+use Rattle.symmetry.specs.Groups.{Listing}
+use Rattle.closure.specs.declared.group_error.GroupError.{GroupError}
+use Rattle.closure.specs.declared.group_error.GroupError.TheVariants as groups
+use Rattle.closure.specs.GroupErrors.{IsGroupError}
+use Rattle.closure.specs.declared.group.Group.{Group}
+use Rattle.triplets.specs.Texts.{IsGroupText}
+use Rattle.triplets.specs.TextAnswers.{IsFaultOf}
+use Rattle.triplets.specs.declared.fault.TextFault.{TextFault}
+use Rattle.triplets.specs.declared.fault.TextFault.TheVariants as texts
 use Rattle.command.specs.declared.obstacle.Obstacle.{Obstacle}
 use Rattle.command.specs.declared.obstacle.Obstacle.TheVariants as obstacles
-use Rattle.command.specs.Requests.{Asked, IsRequest, ReadsInput}
-use Rattle.command.specs.Answers.{IsInput, IsInputRefusal, IsOutput}
-use Rattle.command.specs.Responses.{IsObstacle, IsSourceObstacle}
-use Rattle.command.proofs.OneRequest.{one_request}
-use Rattle.command.proofs.RunFacts.{reads_left, reads_nothing}
+use Rattle.closure.specs.Groups.{IsGroupOf}
+use Rattle.command.specs.Obstacles.{obstacle_of_group, obstacle_of_text}
+use Rattle.command.specs.Questions.{Question, about}
+use Rattle.command.specs.Requests.{IsRequest}
+use Rattle.command.specs.Inputs.{of_text, of_group, IsGroupOfInput, IsShort}
+use Rattle.command.specs.Answers.{Answers}
+use Rattle.command.specs.Causes.{HasAnswer, IsGroupObstacle, IsGroupsObstacle, IsObstacle}
 
-module _ (words : List (List ℕ)) (here : Asked) (asks : IsRequest words here) (left : Option (List ℕ)) where
-  same : (asked : Asked) → IsRequest words asked → asked ≡ here
-  same asked other = one_request words asked here other asks
+-- ---- the group of an input
 
-  module _ (reads : ReadsInput here) where
-    pub read_too : (asked : Asked) → IsRequest words asked → ReadsInput asked
-    read_too asked other = subst ReadsInput (sym (same asked other)) reads
+-- the error of what is listed
+pub group_obstacle : (input : List ℕ) (g : Listing) (error : GroupError) → IsShort input → IsGroupText input g → IsGroupError g error
+    → IsGroupObstacle input (obstacle_of_group error)
+group_obstacle input g (groups.TooMany n) short text h = (of_group (groups.TooMany n), (short, (g, text, h)), refl)
+group_obstacle input g groups.TooFine short text h = (of_group groups.TooFine, (short, (g, text, h)), refl)
+group_obstacle input g (groups.Fault fault) short text h = (of_group (groups.Fault fault), (short, (g, text, h)), refl)
+group_obstacle input g groups.NoMemory short text h = tt
 
-    left_is : (asked : Asked) (input : List ℕ) → IsRequest words asked → IsInput asked left input → left ≡ Some input
-    left_is asked input other is = reads_left asked left input (read_too asked other) is
+-- a bad text
+pub text_obstacle : (input : List ℕ) (fault : TextFault) → IsShort input → IsFaultOf input fault → IsGroupObstacle input (obstacle_of_text fault)
+text_obstacle input (texts.At line column kind) short is = (of_text (record { line = line; column = column; kind = kind }), (short, is), refl)
+text_obstacle input texts.NoMemory short is = tt
 
-    pub source_refuses : (X : Refusal → Type 0)
-        → ((input : List ℕ) (refusal : Refusal) → left ≡ Some input → IsInputRefusal here input refusal → X refusal)
-        → (asked : Asked) (input : List ℕ) (refusal : Refusal) → IsRequest words asked → IsInput asked left input → IsInputRefusal asked input refusal → X refusal
-    source_refuses X refuses asked input refusal other is cause =
-        refuses input refusal (left_is asked input other is) (subst (λ (a : Asked). IsInputRefusal a input refusal) (same asked other) cause)
+-- ---- the answer of a group that a source gave
 
-    pub source_answers : (X : Type 0) → ((input text : List ℕ) → left ≡ Some input → IsOutput here input text → X)
-        → (asked : Asked) (input text : List ℕ) → IsRequest words asked → IsInput asked left input → IsOutput asked input text → X
-    source_answers X answers asked input text other is out =
-        answers input text (left_is asked input other is) (subst (λ (a : Asked). IsOutput a input text) (same asked other) out)
+module _ (words : List (List ℕ)) (question : Question) (asks : IsRequest words (about question)) (left : Option (List ℕ))
+    (group : Group) (is_of : (input : List ℕ) → left ≡ Some input → IsGroupOfInput input group) where
+  pub answered : (result : Result (Vec ℕ Global) Obstacle)
+      → IfOk result (λ text. (g : Listing) → IsGroupOf g group → Answers g question text.items)
+      → IfOk result (λ text. HasAnswer words left text.items)
+  answered (Ok text) answers = record {
+    asked = about question;
+    asks = asks;
+    answers = λ input is.
+        let of = is_of input is in record { short = of.short; group = of.listing; lists = of.lists; answers = answers of.listing of.is_of };
+  }
+  answered (Err o) answers = tt
 
-    pub source_obstacle : {A : Type 0} (r : Result A Obstacle) (faults faults' : ℕ)
-        → IfErr r (IsSourceObstacle here left faults faults') → IfErr r (IsObstacle words left faults faults')
-    source_obstacle (Ok a) faults faults' h = tt
-    source_obstacle (Err (obstacles.Refused refusal)) faults faults' h =
-        inr (here, asks, λ input is. h input (left_is here input asks is))
-    source_obstacle (Err obstacles.ReadFault) faults faults' h = h
-    source_obstacle (Err obstacles.NoMemory) faults faults' h = tt
-
-  -- what needs no input is not refused for one
-  module _ (nothing : ¬ ReadsInput here) where
-    none_here : (input : List ℕ) (refusal : Refusal) → input ≡ [] → IsInputRefusal here input refusal → ⊥
-    none_here input TooLong empty h = no_bytes (subst (λ (i : List ℕ). MOST_BYTES < length i) empty h)
-      where
-        no_bytes : MOST_BYTES < 0 → ⊥
-        no_bytes l = absurd (omega (arith, l))
-    none_here input _ empty h = nothing h.1.0
-
-    pub nothing_refused : (asked : Asked) (input : List ℕ) (refusal : Refusal) → IsRequest words asked → IsInput asked left input → IsInputRefusal asked input refusal → ⊥
-    nothing_refused asked input refusal other is cause =
-        none_here input refusal (reads_nothing here left input nothing (subst (λ (a : Asked). IsInput a left input) (same asked other) is))
-        (subst (λ (a : Asked). IsInputRefusal a input refusal) (same asked other) cause)
+  pub kept_from_answer : (result : Result (Vec ℕ Global) Obstacle) (faults faults' : ℕ) → faults' ≡ faults
+      → IfErr result (IsGroupsObstacle group question) → IfErr result (IsObstacle words left faults faults')
+  kept_from_answer (Ok text) faults faults' same o = tt
+  kept_from_answer (Err (obstacles.Refused r)) faults faults' same o = (
+    inr (about question, asks, λ input is. let of = is_of input is in inr (of.short, (of.listing, of.lists, o of.listing of.is_of))),
+    same,
+  )
+  kept_from_answer (Err obstacles.ReadFault) faults faults' same o = absurd o
+  kept_from_answer (Err obstacles.NoMemory) faults faults' same o = same

@@ -1,87 +1,68 @@
--- Long inputs are refused as such, and a request is one.
-use Rattle.std.proofs.Common.{◌≡◌, ℕ, ◌<◌, List, [], length, refl, sym, ap, ◌∙◌, subst, arith, inl, inr, Err, Vec, Global, Some, IfSome, Option}
-use Rattle.devices.specs.declared.read.Input.{Input}
-use Rattle.devices.specs.declared.read.Input.TheVariants as inputs
-use Rattle.devices.specs.Input.{IfWhole}
-use Rattle.command.specs.declared.limits.TheConstants.{MOST_BYTES}
+-- What was made for the words is what they ask for: the one answer, or the one refusal.
+use Rattle.std.proofs.Common.{◌≡◌, ℕ, List, sym, subst, inl, inr, Option}
 use Rattle.command.specs.declared.refusal.Refusal.{Refusal}
-use Rattle.command.specs.declared.refusal.Refusal.TheVariants.{Usage, OutOfRange, AllZero, NotCoprime, FrameLimit, HeightLimit, TooLong, Text, TooMany, TooFine, NoIdentity, ShiftMoved, NotClosed, NoInverse, NotFrame, SkewFrame, Wide}
-use Rattle.command.specs.Requests.{Asked, ReadsInput, at_height, all_heights, image_rows, type_table}
-use Rattle.command.specs.Answers.{IsInput, IsInputRefusal}
 use Rattle.command.specs.declared.obstacle.Obstacle.{Obstacle}
 use Rattle.command.specs.declared.obstacle.Obstacle.TheVariants as obstacles
-use Rattle.command.specs.Responses.{AnswersInput, HasAnswer}
-use Rattle.command.specs.Runs.{WritesAnswer, WritesFront}
-use Rattle.std.specs.Io.KnownBytes.{append_known}
-use Rattle.devices.specs.Transfers.{HoldsFront}
+use Rattle.command.specs.declared.outcome.Outcome.{Outcome}
+use Rattle.command.specs.Questions.{Asked, about, type_table}
+use Rattle.command.specs.Requests.{IsRequest}
+use Rattle.command.specs.Answers.{HasOutput, IsInput, IsInputRefusal, IsOutput}
+use Rattle.command.specs.Runs.{IsCause, Refuses}
+use Rattle.command.specs.Causes.{HasAnswer, IsObstacle, IsRefusedOr}
+use Rattle.command.proofs.OneRequest.{one_request, not_refused}
+use Rattle.command.proofs.OneAnswer.{one_refusal, answer_and_refusal, fair_and_refusal}
 
--- an input that is too long is refused for that alone
-pub long_refusal : (asked : Asked) (input : List ℕ) (refusal : Refusal) → MOST_BYTES < length input → IsInputRefusal asked input refusal → refusal ≡ TooLong
-long_refusal asked input TooLong l h = refl
-long_refusal asked input Usage l h = absurd (omega arith)
-long_refusal asked input OutOfRange l h = absurd (omega arith)
-long_refusal asked input AllZero l h = absurd (omega arith)
-long_refusal asked input (NotCoprime g) l h = absurd (omega arith)
-long_refusal asked input FrameLimit l h = absurd (omega arith)
-long_refusal asked input HeightLimit l h = absurd (omega arith)
-long_refusal asked input (Text line column kind) l h = absurd (omega arith)
-long_refusal asked input (TooMany n) l h = absurd (omega arith)
-long_refusal asked input TooFine l h = absurd (omega arith)
-long_refusal asked input NoIdentity l h = absurd (omega arith)
-long_refusal asked input (ShiftMoved i) l h = absurd (omega arith)
-long_refusal asked input (NotClosed i j) l h = absurd (omega arith)
-long_refusal asked input (NoInverse i) l h = absurd (omega arith)
-long_refusal asked input NotFrame l h = absurd (omega arith)
-long_refusal asked input SkewFrame l h = absurd (omega arith)
-long_refusal asked input Wide l h = absurd (omega arith)
+-- ---- what has to be made
 
--- what is refused is not answered
-pub refused_without_answer : {A : Type 0} → (refusal : Refusal) (obstacle : Obstacle) → obstacle ≡ obstacles.Refused refusal → AnswersInput {A = A} (Err obstacle) → ⊥
-refused_without_answer {A = A} refusal obstacle is h = not_answered (subst (λ (o : Obstacle). AnswersInput {A = A} (Err o)) is h)
-  where
-    not_answered : AnswersInput {A = A} (Err (obstacles.Refused refusal)) → ⊥
-    not_answered (inl (inl ok)) = absurd cc
-    not_answered (inl (inr memory)) = absurd cc
-    not_answered (inr fault) = absurd cc
+-- a request is refused or answered, and in one way
+module _ (input : List ℕ) where
+  pub one_input_refusal : (asked : Asked) (r r' : Refusal) → IsInputRefusal asked input r → IsInputRefusal asked input r' → r ≡ r'
+  one_input_refusal (about question) r r' p q = one_refusal question input r r' p q
+  one_input_refusal (type_table kind n) r r' p q = absurd p
 
--- a whole input is all that was left
-pub whole_bytes : {left : Option (List ℕ)} {input : List ℕ} (read : Input) (bytes : Vec ℕ Global) → read ≡ inputs.Whole bytes → IfWhole read (λ items. IfSome left (λ all. items ≡ all)) → left ≡ Some input → input ≡ bytes.items
-whole_bytes {left = left} {input = input} read bytes is whole left_is = sym all
-  where
-    whole_too : IfSome (Some input) (λ all. bytes.items ≡ all)
-    whole_too = subst (λ (l : Option (List ℕ)). IfSome l (λ all. bytes.items ≡ all)) left_is (subst (λ (r : Input). IfWhole r (λ items. IfSome left (λ all. items ≡ all))) is whole)
+  pub output_and_refusal : (asked : Asked) (text : List ℕ) (r : Refusal) → IsOutput asked input text → IsInputRefusal asked input r → ⊥
+  output_and_refusal (about question) text r answer p = answer_and_refusal question input text r answer p
+  output_and_refusal (type_table kind n) text r answer p = p
 
-    all : bytes.items ≡ input
-    all = whole_too
+  pub has_output_and_refusal : (asked : Asked) (r : Refusal) → HasOutput asked input → IsInputRefusal asked input r → ⊥
+  has_output_and_refusal (about question) r fair p = fair_and_refusal question input r fair p
+  has_output_and_refusal (type_table kind n) r fair p = p
 
--- the text that was made is the answer; it was written whole
-pub written : (words : List (List ℕ)) (left held held' : Option (List ℕ)) (text bytes : List ℕ) → HasAnswer words left text → bytes ≡ text
-    → held' ≡ append_known held bytes → WritesAnswer words left held held'
-written words left held held' text bytes made same is = record {
-  asked = made.asked;
-  asks = made.asks;
-  writes = λ input all. (text, made.answers input all, is ∙ ap (append_known held) same);
-}
+module _ (words : List (List ℕ)) (left : Option (List ℕ)) where
+  -- what is an obstacle as a refusal has its cause
+  pub told_cause : (faults faults' : ℕ) (refusal : Refusal) (obstacle : Obstacle) → obstacle ≡ obstacles.Refused refusal
+      → IsObstacle words left faults faults' obstacle → IsCause words left refusal
+  told_cause faults faults' refusal obstacle is h = (subst (IsObstacle words left faults faults') is h).0
 
--- or a front of it
-pub front_written : (words : List (List ℕ)) (left held held' : Option (List ℕ)) (text bytes : List ℕ) → HasAnswer words left text → bytes ≡ text
-    → HoldsFront held held' bytes → WritesFront words left held held'
-front_written words left held held' text bytes made same front = record {
-  asked = made.asked;
-  asks = made.asks;
-  writes = λ input all. (text, made.answers input all, subst (HoldsFront held held') same front);
-}
+  module _ (asked : Asked) (input : List ℕ) (asks : IsRequest words asked) (is : IsInput asked left input) where
+    same : (other : Asked) → IsRequest words other → other ≡ asked
+    same other others = one_request words other asked others asks
 
--- ---- the input of a request
+    input_here : (other : Asked) → other ≡ asked → IsInput other left input
+    input_here other e = subst (λ (a : Asked). IsInput a left input) (sym e) is
 
-pub reads_left : (asked : Asked) (left : Option (List ℕ)) (input : List ℕ) → ReadsInput asked → IsInput asked left input → left ≡ Some input
-reads_left (at_height row basis s) left input reads is = is
-reads_left (all_heights row basis) left input reads is = is
-reads_left (image_rows row) left input reads is = is
-reads_left (type_table kind n) left input reads is = absurd reads
+    -- an input that is refused is not answered, and for one reason
+    pub no_answer : (text : List ℕ) (refusal : Refusal) → HasAnswer words left text → IsInputRefusal asked input refusal → ⊥
+    no_answer text refusal made p =
+        let e = same made.asked made.asks in
+        output_and_refusal input asked text refusal
+        (subst (λ (a : Asked). IsOutput a input text) e (made.answers input (input_here made.asked e))) p
 
-pub reads_nothing : (asked : Asked) (left : Option (List ℕ)) (input : List ℕ) → ¬ ReadsInput asked → IsInput asked left input → input ≡ []
-reads_nothing (at_height row basis s) left input reads is = absurd (reads tt)
-reads_nothing (all_heights row basis) left input reads is = absurd (reads tt)
-reads_nothing (image_rows row) left input reads is = absurd (reads tt)
-reads_nothing (type_table kind n) left input reads is = is
+    pub input_cause : (r refusal : Refusal) → IsCause words left r → IsInputRefusal asked input refusal → r ≡ refusal
+    input_cause r refusal (inl q) p = absurd (not_refused words asked r asks q)
+    input_cause r refusal (inr (other, others, all)) p =
+        let e = same other others in
+        one_input_refusal input asked r refusal (subst (λ (a : Asked). IsInputRefusal a input r) e (all input (input_here other e))) p
+
+    -- what has to be answered is not refused
+    pub no_cause : (r : Refusal) → IsCause words left r → HasOutput asked input → ⊥
+    no_cause r (inl q) out = not_refused words asked r asks q
+    no_cause r (inr (other, others, all)) out =
+        let e = same other others in
+        has_output_and_refusal input asked r out (subst (λ (a : Asked). IsInputRefusal a input r) e (all input (input_here other e)))
+
+-- ---- the outcome of a refusal
+
+pub refuses : (r refusal : Refusal) (outcome : Outcome) → IsRefusedOr r outcome → r ≡ refusal → Refuses refusal outcome
+refuses r refusal outcome (inl is) e = subst (Refuses refusal) (sym is) e
+refuses r refusal outcome (inr is) e = subst (Refuses refusal) (sym is) tt

@@ -1,21 +1,77 @@
 -- What the program answers to a request over an input.
-use Rattle.std.specs.Prelude.{◌≡◌, ℕ, ◌<◌, ◌≤◌, List, [], length, Option, Some}
-use Rattle.command.specs.declared.limits.TheConstants.{MOST_BYTES}
+use Rattle.std.specs.Prelude.{◌≡◌, ℕ, ◌⊎◌, List, [], Option, Some}
+use Rattle.symmetry.specs.Groups.{Listing}
+use Rattle.orbits.specs.Orientations.{IsWide}
+use Rattle.report.specs.TypeTexts.{IsTypeText}
 use Rattle.command.specs.declared.refusal.Refusal.{Refusal}
-use Rattle.command.specs.declared.refusal.Refusal.TheVariants.{TooLong}
-use Rattle.command.specs.Requests.{Asked, type_table}
-use Rattle.command.specs.Contents.{IsAnswer, IsRefusal}
+use Rattle.command.specs.declared.refusal.Refusal.TheVariants.{Wide}
+use Rattle.command.specs.Questions.{Asked, Question, about, type_table, at_height, all_heights, image_rows}
+use Rattle.command.specs.FairFrames.{IsFairFrame, RefusesFrame}
+use Rattle.command.specs.Inputs.{IsRefusedInput, IsShort, ListsGroup}
+use Rattle.command.specs.At.{IsHeightAnswer}
+use Rattle.command.specs.Layers.{IsReportAnswer}
+use Rattle.command.specs.Images.{IsImagesAnswer}
+
+-- ---- of a group
+
+-- the text is what is asked of the group
+abbrev pub Answers : Listing → Question → List ℕ → Type 0
+Answers g (at_height row basis s) text = IsHeightAnswer g row basis s text
+Answers g (all_heights row basis) text = IsReportAnswer g row basis text
+Answers g (image_rows row) text = IsImagesAnswer g row text
+
+-- the question may be asked of the group
+abbrev pub IsFair : Listing → Question → Type 0
+IsFair g (at_height row basis s) = IsFairFrame g row basis
+IsFair g (all_heights row basis) = IsFairFrame g row basis
+IsFair g (image_rows row) = ¬ IsWide g row
+
+-- why it may not
+abbrev pub RefusesQuestion : Listing → Question → Refusal → Type 0
+RefusesQuestion g (at_height row basis s) refusal = RefusesFrame g row basis refusal
+RefusesQuestion g (all_heights row basis) refusal = RefusesFrame g row basis refusal
+RefusesQuestion g (image_rows row) refusal = IsWide g row × (refusal ≡ Wide)
+
+-- ---- of an input
+
+-- the text is what is asked of the group that the input lists
+pub record AnswersInput (question : Question) (input text : List ℕ) : Type 0 where
+  pub short : IsShort input
+  pub group : Listing
+  pub lists : ListsGroup input group
+  pub answers : Answers group question text
+
+-- the question may be asked of the group that the input lists
+pub record IsFairInput (question : Question) (input : List ℕ) : Type 0 where
+  pub short : IsShort input
+  pub group : Listing
+  pub lists : ListsGroup input group
+  pub fair : IsFair group question
+
+-- why there is no answer over the input: it gives no group, or one that may not be asked
+abbrev pub RefusesInput : Question → List ℕ → Refusal → Type 0
+RefusesInput question input refusal =
+    IsRefusedInput input refusal
+    ⊎ (IsShort input × ((g : Listing) × ListsGroup input g × RefusesQuestion g question refusal))
+
+-- ---- to a request
 
 -- the input over which it is answered: all that the source has left, where it tells that, or nothing
 abbrev pub IsInput : Asked → Option (List ℕ) → List ℕ → Type 0
+IsInput (about question) left input = left ≡ Some input
 IsInput (type_table kind n) left input = input ≡ []
-IsInput _ left input = left ≡ Some input
 
 -- the text is the answer over the input
 abbrev pub IsOutput : Asked → List ℕ → List ℕ → Type 0
-IsOutput asked input text = (length input ≤ MOST_BYTES) × IsAnswer asked input text
+IsOutput (about question) input text = AnswersInput question input text
+IsOutput (type_table kind n) input text = IsTypeText kind n text
 
--- why the input is refused: it is too long, or for its content
+-- it has to be answered over the input: the table of a type always
+abbrev pub HasOutput : Asked → List ℕ → Type 0
+HasOutput (about question) input = IsFairInput question input
+HasOutput (type_table kind n) input = Unit {0}
+
+-- why the input is refused: the table of a type never is
 abbrev pub IsInputRefusal : Asked → List ℕ → Refusal → Type 0
-IsInputRefusal asked input TooLong = MOST_BYTES < length input
-IsInputRefusal asked input refusal = (length input ≤ MOST_BYTES) × IsRefusal asked input refusal
+IsInputRefusal (about question) input refusal = RefusesInput question input refusal
+IsInputRefusal (type_table kind n) input refusal = ⊥

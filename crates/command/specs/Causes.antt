@@ -1,22 +1,53 @@
--- What keeps an input from a group, and a group from a frame.
-use Rattle.std.specs.Prelude.{◌≡◌, ℕ, List}
+-- What the steps of a run make, and what keeps them from it.
+use Rattle.std.specs.Prelude.{◌≡◌, ◌≢◌, ◌⊎◌, ℕ, List, Option, Some, Result, Ok, Err}
 use Rattle.symmetry.specs.Vectors.{Vector}
+use Rattle.symmetry.specs.Groups.{Listing}
 use Rattle.symmetry.specs.Frames.{Basis}
 use Rattle.motions.specs.Views.{row_of}
+use Rattle.motions.specs.declared.frame_fault.FrameFault.{FrameFault}
+use Rattle.devices.specs.Calls.{Rose}
 use Rattle.closure.specs.declared.group.Group.{Group}
-use Rattle.closure.specs.Groups.{group_listing}
 use Rattle.plane_lattice.specs.declared.frame.Frame.{Frame}
 use Rattle.plane_lattice.specs.FrameView.{basis_of_frame}
 use Rattle.plane_lattice.specs.FrameOf.{IsMadeFor}
 use Rattle.command.specs.declared.obstacle.Obstacle.{Obstacle}
 use Rattle.command.specs.declared.obstacle.Obstacle.TheVariants as obstacles
-use Rattle.command.specs.Contents.{RefusesGroup, RefusesFrame}
+use Rattle.command.specs.declared.outcome.Outcome.{Outcome}
+use Rattle.command.specs.declared.outcome.Outcome.TheVariants as outcomes
+use Rattle.command.specs.declared.refusal.Refusal.{Refusal}
+use Rattle.command.specs.declared.refusal.Refusal.TheVariants.{TooLong}
+use Rattle.command.specs.Obstacles.{refusal_of_frame}
+use Rattle.command.specs.Questions.{Asked, Question}
+use Rattle.command.specs.Requests.{IsRequest}
+use Rattle.command.specs.Inputs.{IsRefusedInput}
+use Rattle.closure.specs.Groups.{group_listing, IsGroupOf}
+use Rattle.command.specs.FairFrames.{FrameFails}
+use Rattle.command.specs.Answers.{IsInput, IsOutput, RefusesQuestion}
+use Rattle.command.specs.Runs.{IsCause}
+
+-- ---- the group of an input
 
 -- what keeps the input from a group
 abbrev pub IsGroupObstacle : List ℕ → Obstacle → Type 0
-IsGroupObstacle input (obstacles.Refused refusal) = RefusesGroup input refusal
+IsGroupObstacle input (obstacles.Refused refusal) = IsRefusedInput input refusal
 IsGroupObstacle input obstacles.ReadFault = ⊥
 IsGroupObstacle input obstacles.NoMemory = Unit {0}
+
+-- what keeps a source from a group; its count of faults rose where it failed alone
+abbrev pub IsSourceObstacle : Option (List ℕ) → ℕ → ℕ → Obstacle → Type 0
+IsSourceObstacle left faults faults' (obstacles.Refused refusal) =
+    ((input : List ℕ) → left ≡ Some input → IsRefusedInput input refusal) × (faults' ≡ faults)
+IsSourceObstacle left faults faults' obstacles.ReadFault = Rose faults faults'
+IsSourceObstacle left faults faults' obstacles.NoMemory = faults' ≡ faults
+
+-- the source was read to its end before this came up
+abbrev pub IsReadWhole : {A : Type 0} → Result A Obstacle → Type 0
+IsReadWhole (Ok made) = Unit {0}
+IsReadWhole (Err (obstacles.Refused refusal)) = refusal ≢ TooLong
+IsReadWhole (Err obstacles.ReadFault) = ⊥
+IsReadWhole (Err obstacles.NoMemory) = ⊥
+
+-- ---- the answer of a group
 
 -- the frame of the orientation with the vectors, which is one of the group and not skewed
 pub record IsFrameHere (group : Group) (row : Vector) (basis : Basis) (frame : Frame) : Type 0 where
@@ -26,6 +57,29 @@ pub record IsFrameHere (group : Group) (row : Vector) (basis : Basis) (frame : F
 
 -- what keeps the group from the frame
 abbrev pub IsFrameObstacle : Group → Vector → Basis → Obstacle → Type 0
-IsFrameObstacle group row basis (obstacles.Refused refusal) = RefusesFrame (group_listing group) row basis refusal
-IsFrameObstacle group row basis obstacles.ReadFault = ⊥
-IsFrameObstacle group row basis obstacles.NoMemory = ⊥
+IsFrameObstacle group row basis obstacle =
+    (fault : FrameFault) × FrameFails (group_listing group) row basis fault × (obstacle ≡ obstacles.Refused (refusal_of_frame fault))
+
+-- what keeps the group from an answer, as each listing of it tells
+abbrev pub IsGroupsObstacle : Group → Question → Obstacle → Type 0
+IsGroupsObstacle group question (obstacles.Refused refusal) = (g : Listing) → IsGroupOf g group → RefusesQuestion g question refusal
+IsGroupsObstacle group question obstacles.ReadFault = ⊥
+IsGroupsObstacle group question obstacles.NoMemory = Unit {0}
+
+-- ---- the answer to words
+
+-- the words are a request, and the text is the answer over its input
+pub record HasAnswer (words : List (List ℕ)) (left : Option (List ℕ)) (text : List ℕ) : Type 0 where
+  pub asked : Asked
+  pub asks : IsRequest words asked
+  pub answers : (input : List ℕ) → IsInput asked left input → IsOutput asked input text
+
+-- what keeps the words from an answer; the count of faults rose where the source failed alone
+abbrev pub IsObstacle : List (List ℕ) → Option (List ℕ) → ℕ → ℕ → Obstacle → Type 0
+IsObstacle words left faults faults' (obstacles.Refused refusal) = IsCause words left refusal × (faults' ≡ faults)
+IsObstacle words left faults faults' obstacles.ReadFault = Rose faults faults'
+IsObstacle words left faults faults' obstacles.NoMemory = faults' ≡ faults
+
+-- this refusal, unless memory ran out for its line
+abbrev pub IsRefusedOr : Refusal → Outcome → Type 0
+IsRefusedOr refusal outcome = (outcome ≡ outcomes.Refused refusal) ⊎ (outcome ≡ outcomes.NoMemory)

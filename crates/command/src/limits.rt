@@ -1,34 +1,28 @@
 // The limits of a request.
-ghost use Rattle.std.specs.Prelude.{◌≡◌, ◌*◌, ◌<◌, pos, ◌*ℤ◌, ◌↔◌, MatchOption, IfOk, IsTrue, Err, unsigned_abs};
-ghost use Rattle.std.specs.Option.{option_map};
+ghost use Rattle.std.specs.Prelude.{◌≡◌, ◌*◌, ◌<◌, ◌↔◌, IfOk, IfSome, IsTrue, Some, option_map, unsigned_abs};
+ghost use Rattle.std.specs.Result.{result_err};
+ghost use Rattle.fractions.specs.declared.part.Part.{Part};
 ghost use Rattle.integers.specs.Size.{IsWithin};
 ghost use Rattle.fractions.specs.declared.part.TheConstants.{UNIT};
 ghost use Rattle.fractions.specs.FractionOf.{fraction_of};
 ghost use Rattle.symmetry.specs.Sizes.{IsVectorWithin};
 ghost use Rattle.motions.specs.Views.{parts, row_of};
-ghost use Rattle.motions.specs.PlaneFaults.{IsPlaneFault};
-ghost use Rattle.motions.specs.declared.plane_fault.PlaneFault.{PlaneFault};
 ghost use Rattle.motions.specs.BasisView.{basis_of};
-ghost use Rattle.command.specs.VectorWords.{fractions_of, frame_of, index_row};
-ghost use Rattle.command.specs.Limits.{IsEntrySize, IsFrameEntry, AreFrameEntries, AreFrameVectors, IsFrameInRange, IsHeightInRange, IsHeightLimit, IsInParts, IsFrameInParts, IsBasisOf, edges_basis};
+ghost use Rattle.command.specs.Limits.{basis_parts, edges_basis, entry_parts, IsHeightLimit, is_height_in_range, is_height_limit, plane_fault, plane_refusal, size_parts, vector_parts, within_limits};
+ghost use Rattle.command.specs.Questions.{result_map};
+ghost use Rattle.command.specs.Views.{fractions_of, frame_of, index_row, plane_words, planes_of};
+ghost use Rattle.motions.specs.declared.plane_fault.PlaneFault.{PlaneFault};
 
+use crate::refusal::Refusal;
 use crate::words::{FrameWord, IndexWords, VectorWord};
 use fractions::{Part, Ratio, UNIT};
-use motions::{Basis, Miller, PlaneFault};
-
-/// How many bytes the input may have.
-pub const MOST_BYTES: usize = 65_536;
-
-/// How large an entry of a frame vector may be, in cell edges.
-const MOST_ENTRY: u128 = 1000;
-
-/// How large the numerator and the denominator of a height may be.
-const MOST_HEIGHT: u128 = 1_000_000_000;
+use motions::{Basis, MOST_ENTRY, Miller, PlaneFault};
+use scanning::MOST_HEIGHT;
 
 /// The orientation that the indices give, or what is wrong with them.
-pub fn plane_of_words(words: IndexWords) -> Result<Miller, PlaneFault>
+fn plane_of_words(words: IndexWords) -> Result<Miller, PlaneFault>
     ensures ok { IfOk result (λ plane. row_of plane ≡ index_row words) }
-    ensures faults { (fault : PlaneFault) → (result ≡ Err fault) ↔ IsPlaneFault (index_row words) fault }
+    ensures fault { result_err result ≡ plane_fault (index_row words) }
 {
     Miller::make(words.h, words.k, words.l)
 }
@@ -36,9 +30,8 @@ pub fn plane_of_words(words: IndexWords) -> Result<Miller, PlaneFault>
 /// How many parts a size over a denominator is, if the denominator divides [`UNIT`] and the size is in range.
 fn size_in_parts(size: u128, den: u128) -> Option<i64>
     requires { 0 < den }
-    ensures { MatchOption result
-        (¬ (IsEntrySize size den))
-        (λ parts. IsEntrySize size den × (parts *ℤ pos den ≡ pos size *ℤ UNIT) × IsWithin (1000 * unsigned_abs UNIT) parts) }
+    ensures value { result ≡ size_parts size den }
+    ensures small { IfSome result (IsWithin (1000 * unsigned_abs UNIT)) }
 {
     let unit = u128::from(UNIT.unsigned_abs());
     if den > unit || unit % den != 0 || size > MOST_ENTRY * den {
@@ -49,10 +42,8 @@ fn size_in_parts(size: u128, den: u128) -> Option<i64>
 
 /// An entry of a frame vector in parts, if it is in range.
 fn entry_in_parts(entry: Ratio) -> Option<Part>
-    ensures { MatchOption result
-        (¬ (IsFrameEntry (fraction_of entry)))
-        (λ part. IsFrameEntry (fraction_of entry) × (part.0 *ℤ (fraction_of entry).den ≡ (fraction_of entry).num *ℤ UNIT)
-        × IsWithin (1000 * unsigned_abs UNIT) part.0) }
+    ensures value { option_map (λ (part : Part). part.0) result ≡ entry_parts (fraction_of entry) }
+    ensures small { IfSome result (λ part. IsWithin (1000 * unsigned_abs UNIT) part.0) }
 {
     let size = size_in_parts(entry.num().unsigned_abs(), entry.den().unsigned_abs())?;
     Some(Part(if entry.num() < 0 { -size } else { size }))
@@ -60,10 +51,8 @@ fn entry_in_parts(entry: Ratio) -> Option<Part>
 
 /// A frame vector in parts, if its entries are in range.
 fn vector_in_parts(v: &VectorWord) -> Option<[Part; 3]>
-    ensures { MatchOption result
-        (¬ (AreFrameEntries (fractions_of v.now)))
-        (λ vector. AreFrameEntries (fractions_of v.now) × IsInParts (fractions_of v.now) (parts vector)
-        × IsVectorWithin (1000 * unsigned_abs UNIT) (parts vector)) }
+    ensures value { option_map parts result ≡ vector_parts (fractions_of v.now) }
+    ensures small { IfSome result (λ vector. IsVectorWithin (1000 * unsigned_abs UNIT) (parts vector)) }
 {
     let x = entry_in_parts(v.x)?;
     let y = entry_in_parts(v.y)?;
@@ -73,9 +62,7 @@ fn vector_in_parts(v: &VectorWord) -> Option<[Part; 3]>
 
 /// The vectors of a frame in parts, if their entries are in range.
 fn frame_in_parts(frame: &FrameWord) -> Option<Basis>
-    ensures { MatchOption result
-        (¬ (AreFrameVectors (frame_of frame.now)))
-        (λ basis. AreFrameVectors (frame_of frame.now) × IsFrameInParts (frame_of frame.now) (basis_of basis)) }
+    ensures { option_map basis_of result ≡ basis_parts (Some (frame_of frame.now)) }
 {
     let a = vector_in_parts(&frame.a)?;
     let b = vector_in_parts(&frame.b)?;
@@ -97,10 +84,8 @@ fn edges() -> Basis
 }
 
 /// The vectors that the words give, if their entries are in range, or the cell edges.
-pub fn basis_of_words(frame: Option<FrameWord>) -> Option<Basis>
-    ensures { MatchOption result
-        (¬ (IsFrameInRange (option_map frame_of frame)))
-        (λ basis. IsFrameInRange (option_map frame_of frame) × IsBasisOf (option_map frame_of frame) (basis_of basis)) }
+fn basis_of_words(frame: Option<FrameWord>) -> Option<Basis>
+    ensures { option_map basis_of result ≡ basis_parts (option_map frame_of frame) }
 {
     match frame {
         None => Some(edges()),
@@ -110,17 +95,63 @@ pub fn basis_of_words(frame: Option<FrameWord>) -> Option<Basis>
 
 /// Whether numerator and denominator of a height are in range.
 fn is_height_in_range(s: Ratio) -> bool
-    ensures { IsTrue result ↔ IsHeightInRange (fraction_of s) }
+    ensures is { result ≡ is_height_in_range (fraction_of s) }
+    ensures range { IsTrue result → IsHeightLimit (Some (fraction_of s)) }
 {
     s.num().unsigned_abs() <= MOST_HEIGHT && s.den().unsigned_abs() <= MOST_HEIGHT
 }
 
 /// Whether a height, where one is given, is in range.
-pub fn is_height_within(s: Option<Ratio>) -> bool
-    ensures { IsTrue result ↔ IsHeightLimit (option_map fraction_of s) }
+fn is_height_within(s: Option<Ratio>) -> bool
+    ensures is { result ≡ is_height_limit (option_map fraction_of s) }
+    ensures range { IsTrue result → IsHeightLimit (option_map fraction_of s) }
 {
     match s {
         None => true,
         Some(s) => is_height_in_range(s),
     }
+}
+
+/// What words say of a plane: its indices, the vectors of a frame and a height, where they have them.
+#[derive(Clone, Copy)]
+pub struct PlaneWords {
+    pub row: IndexWords,
+    pub frame: Option<FrameWord>,
+    pub s: Option<Ratio>,
+}
+
+/// An orientation and the vectors of a frame.
+#[derive(Clone, Copy)]
+pub struct Planes {
+    pub plane: Miller,
+    pub basis: Basis,
+}
+
+/// The refusal of indices that are no Miller indices.
+fn refusal_of(fault: PlaneFault) -> Refusal
+    ensures { result ≡ plane_refusal fault }
+{
+    match fault {
+        PlaneFault::OutOfRange => Refusal::OutOfRange,
+        PlaneFault::AllZero => Refusal::AllZero,
+        PlaneFault::NotCoprime(divisor) => Refusal::NotCoprime(divisor),
+    }
+}
+
+/// The orientation and the frame, if the words are within the limits, else the first limit that they pass.
+pub fn within_limits(words: PlaneWords) -> Result<Planes, Refusal>
+    ensures is { result_map planes_of result ≡ within_limits (plane_words words) }
+    ensures height { IfOk result (λ _. IsHeightLimit (plane_words words).height) }
+{
+    let plane = match plane_of_words(words.row) {
+        Ok(plane) => plane,
+        Err(fault) => return Err(refusal_of(fault)),
+    };
+    let Some(basis) = basis_of_words(words.frame) else {
+        return Err(Refusal::FrameLimit);
+    };
+    if !is_height_within(words.s) {
+        return Err(Refusal::HeightLimit);
+    }
+    Ok(Planes { plane, basis })
 }

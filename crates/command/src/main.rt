@@ -3,9 +3,12 @@
 // Promises to its user: the contract of `run`, over the words, the standard streams and the status of the process.
 #![tactic(auto)]
 
-#[cfg(test)]
-mod case_tests;
-mod commands;
+mod at;
+mod frame;
+mod images;
+mod input;
+mod laws;
+mod layers;
 mod limits;
 mod obstacle;
 mod outcome;
@@ -16,6 +19,7 @@ mod respond;
 mod run;
 #[cfg(test)]
 mod tests;
+mod types;
 mod words;
 
 use devices::{RealSink, RealSource};

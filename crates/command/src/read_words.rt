@@ -1,104 +1,30 @@
 // The request that the words are, or the first refusal that applies.
-ghost use Rattle.std.specs.Prelude.{◌≡◌, ◌↔◌, Err, IfOk, map, string_bytes};
-ghost use Rattle.motions.specs.BasisView.{basis_of};
-ghost use Rattle.motions.specs.Views.{row_of};
-ghost use Rattle.motions.specs.declared.plane_fault.PlaneFault.{PlaneFault};
-ghost use Rattle.command.specs.declared.refusal.Refusal.{Refusal};
-ghost use Rattle.command.specs.CommandView.{said};
-ghost use Rattle.command.specs.PlaneView.{plane_words};
-ghost use Rattle.command.specs.RequestView.{asked_of};
-ghost use Rattle.command.specs.Requests.{Asks, AsksPlane, IsRequest, IsWordsRefusal, PassesLimit, PassesPlaneLimit, plane_refusal};
+ghost use Rattle.std.specs.Prelude.{◌≡◌, IfOk, IfSome, map, option_map, string_bytes};
+ghost use Rattle.command.specs.Questions.{IsAskedInRange, result_map};
+ghost use Rattle.command.specs.Requests.{asked_by, command_words};
+ghost use Rattle.command.specs.Views.{asked_of};
 
-use crate::commands::{CommandWords, read_command};
-use crate::limits::{basis_of_words, is_height_within, plane_of_words};
+use crate::at::read_at;
+use crate::images::read_images;
+use crate::layers::read_layers;
 use crate::refusal::Refusal;
 use crate::request::Request;
-use crate::words::{FrameWord, IndexWords};
-use fractions::Ratio;
-use motions::{Basis, Miller, PlaneFault};
+use crate::types::read_types;
 
-/// What words say of a plane: its indices, the vectors of a frame and a height, where they have them.
-#[derive(Clone, Copy)]
-pub struct PlaneWords {
-    pub row: IndexWords,
-    pub frame: Option<FrameWord>,
-    pub s: Option<Ratio>,
-}
-
-/// An orientation and the vectors of a frame.
-#[derive(Clone, Copy)]
-struct Planes {
-    plane: Miller,
-    basis: Basis,
-}
-
-/// The refusal of indices that are no Miller indices.
-fn refusal_of(fault: PlaneFault) -> Refusal
-    ensures { result ≡ plane_refusal fault }
+/// What the words of a command ask for, or the first limit that they pass. `None` where they are no command.
+fn read_command(words: &[String]) -> Option<Result<Request, Refusal>>
+    ensures is { option_map (λ read. result_map asked_of read) result ≡ command_words (map string_bytes words.now) }
+    ensures range { IfSome result (λ read. IfOk read (λ request. IsAskedInRange (asked_of request))) }
 {
-    match fault {
-        PlaneFault::OutOfRange => Refusal::OutOfRange,
-        PlaneFault::AllZero => Refusal::AllZero,
-        PlaneFault::NotCoprime(divisor) => Refusal::NotCoprime(divisor),
-    }
-}
-
-/// The orientation and the frame, if the words are within the limits, else the first limit that they pass.
-fn within_limits(words: PlaneWords) -> Result<Planes, Refusal>
-    ensures ok { IfOk result (λ planes. AsksPlane (plane_words words) (row_of planes.plane) (basis_of planes.basis)) }
-    ensures refused { (refusal : Refusal) → (result ≡ Err refusal) ↔ PassesPlaneLimit (plane_words words) refusal }
-{
-    let plane = match plane_of_words(words.row) {
-        Ok(plane) => plane,
-        Err(fault) => return Err(refusal_of(fault)),
-    };
-    let Some(basis) = basis_of_words(words.frame) else {
-        return Err(Refusal::FrameLimit);
-    };
-    if !is_height_within(words.s) {
-        return Err(Refusal::HeightLimit);
-    }
-    Ok(Planes { plane, basis })
-}
-
-/// What a command asks for, if it is within the limits, else the first limit that it passes.
-fn request_of(command: CommandWords) -> Result<Request, Refusal>
-    ensures ok { IfOk result (λ request. Asks (said command) (asked_of request)) }
-    ensures refused { (refusal : Refusal) → (result ≡ Err refusal) ↔ PassesLimit (said command) refusal }
-{
-    match command {
-        CommandWords::At(w) => {
-            let Planes { plane, basis } = within_limits(PlaneWords {
-                row: w.row,
-                frame: w.frame,
-                s: Some(w.s),
-            })?;
-            Ok(Request::At {
-                plane,
-                basis,
-                s: w.s,
-            })
-        }
-        CommandWords::Layers(w) => {
-            let Planes { plane, basis } = within_limits(PlaneWords {
-                row: w.row,
-                frame: w.frame,
-                s: None,
-            })?;
-            Ok(Request::Layers { plane, basis })
-        }
-        CommandWords::Images(row) => {
-            let Planes { plane, .. } = within_limits(PlaneWords {
-                row,
-                frame: None,
-                s: None,
-            })?;
-            Ok(Request::Images { plane })
-        }
-        CommandWords::Types(w) => Ok(Request::Types {
-            kind: w.kind,
-            n: w.n,
-        }),
+    match words {
+        [name, arguments @ ..] => match name.as_str() {
+            "at" => read_at(arguments),
+            "layers" => read_layers(arguments),
+            "images" => read_images(arguments),
+            "types" => read_types(arguments),
+            _ => None,
+        },
+        [] => None,
     }
 }
 
@@ -107,11 +33,11 @@ fn request_of(command: CommandWords) -> Result<Request, Refusal>
 /// The refusals, in this order: `Usage`, the words are no request; `OutOfRange`, `AllZero`, `NotCoprime`, the indices
 /// are no Miller indices; `FrameLimit`, `HeightLimit`, an entry of the frame or the height is out of range.
 pub fn read_words(words: &[String]) -> Result<Request, Refusal>
-    ensures ok { IfOk result (λ request. IsRequest (map string_bytes words.now) (asked_of request)) }
-    ensures refused { (refusal : Refusal) → (result ≡ Err refusal) ↔ IsWordsRefusal (map string_bytes words.now) refusal }
+    ensures is { result_map asked_of result ≡ asked_by (map string_bytes words.now) }
+    ensures range { IfOk result (λ request. IsAskedInRange (asked_of request)) }
 {
     match read_command(words) {
+        Some(read) => read,
         None => Err(Refusal::Usage),
-        Some(command) => request_of(command),
     }
 }

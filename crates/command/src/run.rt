@@ -1,23 +1,23 @@
 // The top call.
-ghost use Rattle.std.specs.Prelude.{◌≡◌, ◌≢◌, ℕ, ◌+◌, List, Option, Some, map, string_bytes, Err, IfOk, IfErr, OnOk};
+ghost use Rattle.std.specs.Prelude.{◌≡◌, ◌≢◌, ℕ, List, Err, IfErr, IfOk, OnOk, map, string_bytes};
 ghost use Rattle.std.specs.Io.KnownBytes.{IsAtEnd};
 ghost use Rattle.devices.specs.Transfers.{ReadsWithin};
-ghost use Rattle.command.specs.declared.limits.TheConstants.{MOST_BYTES};
 ghost use Rattle.command.specs.declared.refusal.Refusal.{Refusal};
-ghost use Rattle.command.specs.Requests.{Asked, IsRequest, IsWordsRefusal, ReadsInput};
-ghost use Rattle.command.specs.Answers.{IsInput, IsInputRefusal, IsOutput};
-ghost use Rattle.command.specs.RequestView.{asked_of, IsAskedInRange};
-ghost use Rattle.command.specs.Responses.{AnswersInput, HasAnswer, IsObstacle, IsSourceObstacle, RefusesBy, RefusesInput};
-ghost use Rattle.command.specs.Runs.{Answers, Complains, HasCause, IsCause, LeavesOut, Refuses};
+ghost use Rattle.command.specs.Questions.{Asked};
+ghost use Rattle.command.specs.Requests.{AsksInput, IsRequest, IsWordsRefusal};
+ghost use Rattle.command.specs.Answers.{HasOutput, IsInput, IsInputRefusal};
+ghost use Rattle.command.specs.Causes.{HasAnswer, IsObstacle, IsReadWhole, IsRefusedOr};
+ghost use Rattle.command.specs.Runs.{Complains, FitsIn, HasCause, LeavesOut, ReadsWhole, Refuses, Succeeds};
 
-use crate::limits::MOST_BYTES;
+use crate::input::group_of;
 use crate::obstacle::Obstacle;
 use crate::outcome::Outcome;
 use crate::read_words::read_words;
 use crate::refusal::Refusal;
 use crate::request::Request;
 use crate::respond::respond;
-use devices::{Input, Sink, Source, put_all, read_all};
+use devices::{Sink, Source, put_all};
+use report::type_text;
 use std::alloc::Global;
 
 /// Runs the program: reads the words, and for a request that asks for it the source to its end, and writes the whole
@@ -31,24 +31,37 @@ pub fn run<S: Source, K: Sink, E: Sink>(
     out: &mut K,
     complaints: &mut E,
 ) -> Outcome
-    ensures out { LeavesOut result (map string_bytes words.now) (S.left source.old) (K.held out.old) (K.held out.new) }
+    // A run that is done wrote the answer, and nothing else.
+    ensures out { LeavesOut K.held result (map string_bytes words.now) (S.left source.old) out.old out.new }
+    // A run that refuses wrote the line of its refusal, and nothing else.
+    ensures complaint { Complains E.held E.faults result complaints.old complaints.new }
+    // What is refused has that cause, and only a device that failed gives a fault.
     ensures cause { HasCause result (map string_bytes words.now) (S.left source.old)
         (S.faults source.old) (S.faults source.new) (K.faults out.old) (K.faults out.new) }
-    ensures complaint { Complains result (E.held complaints.old) (E.held complaints.new)
-        (E.faults complaints.old) (E.faults complaints.new) }
-    ensures whole { result ≡ Outcome.Done → (asked : Asked) → IsRequest (map string_bytes words.now) asked → ReadsInput asked →
-        IsAtEnd (S.left source.new) }
-    ensures untouched { (asked : Asked) → IsRequest (map string_bytes words.now) asked → ¬ ReadsInput asked →
-        (S.left source.new ≡ S.left source.old) × (result ≢ Outcome.ReadFault) }
+    // Words that are no request, or pass a limit, are refused: the first that applies.
     ensures refuses_words { (refusal : Refusal) → IsWordsRefusal (map string_bytes words.now) refusal →
-        Refuses refusal result × (S.left source.new ≡ S.left source.old) × (result ≢ Outcome.ReadFault) }
+        IsRefusedOr refusal result }
+    // An input that is too long, badly written, no group or none that may be asked is refused: the first that applies.
     ensures refuses_input { (asked : Asked) (input : List ℕ) (refusal : Refusal) →
-        IsRequest (map string_bytes words.now) asked → IsInput asked (S.left source.old) input → IsInputRefusal asked input refusal →
-        Refuses refusal result }
-    ensures answers { (asked : Asked) (input : List ℕ) (text : List ℕ) →
-        IsRequest (map string_bytes words.now) asked → IsInput asked (S.left source.old) input → IsOutput asked input text →
-        Answers result }
-    ensures within { ReadsWithin (S.left source.old) (S.left source.new) (MOST_BYTES + 1) }
+        IsRequest (map string_bytes words.now) asked → IsInput asked (S.left source.old) input →
+        IsInputRefusal asked input refusal → Refuses refusal result }
+    // A request over a group that may be asked is answered.
+    ensures answers { (asked : Asked) (input : List ℕ) →
+        IsRequest (map string_bytes words.now) asked → IsInput asked (S.left source.old) input →
+        HasOutput asked input →
+        Succeeds result (S.faults source.old) (S.faults source.new) (K.faults out.old) (K.faults out.new) }
+    // A source that never fails gives no fault.
+    ensures steady_source { S.NeverFails source.old → result ≢ Outcome.ReadFault }
+    // Nor does a sink that never fails and has room for the answer.
+    ensures steady_out { (n : ℕ) → K.Takes out.old n →
+        FitsIn (map string_bytes words.now) (S.left source.old) n → result ≢ Outcome.WriteFault }
+    // Words that ask nothing of an input leave the source as it is.
+    ensures untouched { ¬ AsksInput (map string_bytes words.now) →
+        (source.new ≡ source.old) × (result ≢ Outcome.ReadFault) }
+    // Else it is read to its end, but where it is too long or a step before gave up.
+    ensures whole { AsksInput (map string_bytes words.now) → ReadsWhole result → IsAtEnd (S.left source.new) }
+    // At most one byte more than an input may have is read.
+    ensures within { ReadsWithin (S.left source.old) (S.left source.new) 65537 }
 {
     match answer(alloc, words, source) {
         Ok(text) => match put_all(out, &text) {
@@ -61,57 +74,31 @@ pub fn run<S: Source, K: Sink, E: Sink>(
     }
 }
 
-/// Reads the words and the source, and makes the whole answer.
+/// Reads the words, and the source where they ask for it, and makes the whole answer.
 fn answer<S: Source>(alloc: Global, words: &[String], source: &mut S) -> Result<Vec<u8>, Obstacle>
     ensures text { IfOk result (λ text. HasAnswer (map string_bytes words.now) (S.left source.old) text.items) }
-    ensures whole { OnOk result ((asked : Asked) → IsRequest (map string_bytes words.now) asked → ReadsInput asked →
-        IsAtEnd (S.left source.new)) }
-    ensures untouched { (asked : Asked) → IsRequest (map string_bytes words.now) asked → ¬ ReadsInput asked →
-        (S.left source.new ≡ S.left source.old) × (result ≢ Err (Obstacle.ReadFault)) }
-    ensures obstacle { IfErr result (IsObstacle (map string_bytes words.now) (S.left source.old) (S.faults source.old) (S.faults source.new)) }
-    ensures refuses_words { (refusal : Refusal) → IsWordsRefusal (map string_bytes words.now) refusal →
-        (result ≡ Err (Obstacle.Refused refusal)) × (S.left source.new ≡ S.left source.old) }
-    ensures refuses_input { (asked : Asked) (input : List ℕ) (refusal : Refusal) →
-        IsRequest (map string_bytes words.now) asked → IsInput asked (S.left source.old) input → IsInputRefusal asked input refusal →
-        RefusesInput refusal result }
-    ensures answers { (asked : Asked) (input : List ℕ) (text : List ℕ) →
-        IsRequest (map string_bytes words.now) asked → IsInput asked (S.left source.old) input → IsOutput asked input text →
-        AnswersInput result }
-    ensures within { ReadsWithin (S.left source.old) (S.left source.new) (MOST_BYTES + 1) }
+    ensures obstacle { IfErr result
+        (IsObstacle (map string_bytes words.now) (S.left source.old) (S.faults source.old) (S.faults source.new)) }
+    ensures unfailed { OnOk result (S.faults source.new ≡ S.faults source.old) }
+    ensures steady { S.NeverFails source.old → result ≢ Err Obstacle.ReadFault }
+    ensures untouched { ¬ AsksInput (map string_bytes words.now) →
+        (source.new ≡ source.old) × (result ≢ Err Obstacle.ReadFault) }
+    ensures whole { AsksInput (map string_bytes words.now) → IsReadWhole result → IsAtEnd (S.left source.new) }
+    ensures within { ReadsWithin (S.left source.old) (S.left source.new) 65537 }
 {
-    let request = read_words(words)?;
-    if request.reads_input() {
-        respond_to_source(alloc, &request, source)
-    } else {
-        respond(alloc, &request, &[])
-    }
-}
-
-/// Reads the source to its end, and makes the answer to a request over what it gives.
-fn respond_to_source<S: Source>(
-    alloc: Global,
-    request: &Request,
-    source: &mut S,
-) -> Result<Vec<u8>, Obstacle>
-    requires range { IsAskedInRange (asked_of request.now) }
-    ensures text { IfOk result (λ text. (input : List ℕ) → S.left source.old ≡ Some input → IsOutput (asked_of request.now) input text.items) }
-    ensures whole { OnOk result (IsAtEnd (S.left source.new)) }
-    ensures obstacle { IfErr result (IsSourceObstacle (asked_of request.now) (S.left source.old) (S.faults source.old) (S.faults source.new)) }
-    ensures refuses { (input : List ℕ) (refusal : Refusal) → S.left source.old ≡ Some input →
-        IsInputRefusal (asked_of request.now) input refusal → RefusesInput refusal result }
-    ensures answers { (input : List ℕ) (text : List ℕ) → S.left source.old ≡ Some input →
-        IsOutput (asked_of request.now) input text → AnswersInput result }
-    ensures within { ReadsWithin (S.left source.old) (S.left source.new) (MOST_BYTES + 1) }
-{
-    match read_all(alloc, source, MOST_BYTES)? {
-        Input::Whole(input) => respond(alloc, request, &input),
-        Input::TooLong => Err(Obstacle::Refused(Refusal::TooLong)),
+    match read_words(words)? {
+        Request::About(question) => {
+            let group = group_of(alloc, source)?;
+            respond(alloc, &question, &group)
+        }
+        Request::Types { kind, n } => Ok(type_text(alloc, kind, n)?),
     }
 }
 
 /// Writes the line of a refusal to the complaints. It is refused whether that sink takes the line or not.
 fn refuse<E: Sink>(alloc: Global, refusal: Refusal, complaints: &mut E) -> Outcome
-    ensures { RefusesBy refusal result (E.held complaints.old) (E.held complaints.new) (E.faults complaints.old) (E.faults complaints.new) }
+    ensures refused { IsRefusedOr refusal result }
+    ensures complaint { Complains E.held E.faults result complaints.old complaints.new }
 {
     match format!(in alloc; "{refusal}\n") {
         Ok(line) => {

@@ -1,12 +1,9 @@
 // The words that a command is made of, before any limit.
-ghost use Rattle.std.specs.Prelude.{◌≡◌, ◌≢◌, ◌≤◌, ℕ, ℤ, Option, MatchOption, IsTrue, ◌↔◌, map, slice_index, length, string_bytes};
-ghost use Rattle.std.specs.Option.{option_map};
+ghost use Rattle.std.specs.Prelude.{◌≡◌, ◌≢◌, ◌≤◌, ◌↔◌, IfSome, IsTrue, length, map, option_map, slice_index, string_bytes};
 ghost use Rattle.std.specs.Str.Parse.{without_leading_sign};
-ghost use Rattle.fractions.specs.Fraction.{Fraction};
 ghost use Rattle.fractions.specs.FractionOf.{fraction_of};
-ghost use Rattle.symmetry.specs.Vectors.{Vector};
-ghost use Rattle.command.specs.VectorWords.{fractions_of, frame_of, index_row};
-ghost use Rattle.command.specs.Words.{AreIndices, AreVectorWords, Fractions, FrameWords, IsFrameWords, IsIndex, IsRatio, IsRatioAt, IsVectorWord, BeforeComma};
+ghost use Rattle.command.specs.Views.{fractions_of, frame_of, index_row, placed};
+ghost use Rattle.command.specs.Words.{frame_words, index_of, ratio_at, ratio_before_comma, ratio_to_end, row_words, vector_word, vector_words};
 
 use fractions::{Ratio, read_ratio};
 
@@ -26,7 +23,7 @@ fn is_short(word: &[u8]) -> bool
 
 /// The index that a word is: an optional hyphen, and one to nine digits.
 pub fn read_index(word: &str) -> Option<i64>
-    ensures { MatchOption result ((z : ℤ) → ¬ (IsIndex word.now z)) (IsIndex word.now) }
+    ensures { result ≡ index_of word.now }
 {
     if is_short(word.as_bytes()) {
         word.parse().ok()
@@ -37,35 +34,41 @@ pub fn read_index(word: &str) -> Option<i64>
 
 /// The ratio that a word is from its beginning to its end.
 pub fn read_whole_ratio(word: &[u8]) -> Option<Ratio>
-    ensures { MatchOption result ((q : Fraction) → ¬ (IsRatio word.now q)) (λ r. IsRatio word.now (fraction_of r)) }
+    ensures { option_map fraction_of result ≡ ratio_to_end word.now 0 }
 {
     read_to_end(word, 0)
+}
+
+/// The ratio that stands at an index, and the index behind it.
+fn read_placed(word: &[u8], at: usize) -> Option<(Ratio, usize)>
+    requires { at ≤ length word.now }
+    ensures value { option_map placed result ≡ ratio_at word.now at }
+    ensures within { IfSome result (λ read. read.1 ≤ length word.now) }
+{
+    read_ratio(word, at).ok()
 }
 
 /// The ratio that stands at an index with a comma behind it, and the index behind the comma.
 fn read_before_comma(word: &[u8], at: usize) -> Option<(Ratio, usize)>
     requires { at ≤ length word.now }
-    ensures { MatchOption result
-        ((behind : ℕ) (q : Fraction) → ¬ (BeforeComma word.now at behind q))
-        (λ read. BeforeComma word.now at read.1 (fraction_of read.0)) }
+    ensures value { option_map placed result ≡ ratio_before_comma word.now at }
+    ensures within { IfSome result (λ read. read.1 ≤ length word.now) }
 {
-    match read_ratio(word, at) {
-        Ok((ratio, end)) if word.get(end) == Some(&b',') => Some((ratio, end + 1)),
-        _ => None,
+    let (ratio, end) = read_placed(word, at)?;
+    if word.get(end) == Some(&b',') {
+        Some((ratio, end + 1))
+    } else {
+        None
     }
 }
 
 /// The ratio that stands from an index to the end of a word.
 fn read_to_end(word: &[u8], at: usize) -> Option<Ratio>
     requires { at ≤ length word.now }
-    ensures { MatchOption result
-        ((q : Fraction) → ¬ (IsRatioAt word.now at (length word.now) q))
-        (λ r. IsRatioAt word.now at (length word.now) (fraction_of r)) }
+    ensures { option_map fraction_of result ≡ ratio_to_end word.now at }
 {
-    match read_ratio(word, at) {
-        Ok((ratio, end)) if end == word.len() => Some(ratio),
-        _ => None,
-    }
+    let (ratio, end) = read_placed(word, at)?;
+    if end == word.len() { Some(ratio) } else { None }
 }
 
 /// Three ratios, as the entries of a vector.
@@ -78,9 +81,7 @@ pub struct VectorWord {
 
 /// The vector that a word is: three ratios joined by commas.
 pub fn read_vector(word: &[u8]) -> Option<VectorWord>
-    ensures { MatchOption result
-        ((v : Fractions) → ¬ (IsVectorWord word.now v))
-        (λ v. IsVectorWord word.now (fractions_of v)) }
+    ensures { option_map fractions_of result ≡ vector_word word.now }
 {
     let (x, second) = read_before_comma(word, 0)?;
     let (y, third) = read_before_comma(word, second)?;
@@ -106,9 +107,7 @@ pub struct IndexWords {
 
 /// The indices that three words are.
 pub fn read_indices(h: &str, k: &str, l: &str) -> Option<IndexWords>
-    ensures { MatchOption result
-        ((row : Vector) → ¬ (AreIndices h.now k.now l.now row))
-        (λ p. AreIndices h.now k.now l.now (index_row p)) }
+    ensures { option_map index_row result ≡ row_words h.now k.now l.now }
 {
     let h = read_index(h)?;
     let k = read_index(k)?;
@@ -118,9 +117,7 @@ pub fn read_indices(h: &str, k: &str, l: &str) -> Option<IndexWords>
 
 /// The vectors that three words are.
 fn read_vectors(a: &[u8], b: &[u8], t: &[u8]) -> Option<FrameWord>
-    ensures { MatchOption result
-        ((f : FrameWords) → ¬ (AreVectorWords a.now b.now t.now f))
-        (λ f. AreVectorWords a.now b.now t.now (frame_of f)) }
+    ensures { option_map frame_of result ≡ vector_words a.now b.now t.now }
 {
     let a = read_vector(a)?;
     let b = read_vector(b)?;
@@ -130,9 +127,7 @@ fn read_vectors(a: &[u8], b: &[u8], t: &[u8]) -> Option<FrameWord>
 
 /// The frame that the words behind a height give: none, or `--frame a b t`.
 pub fn read_frame(words: &[String]) -> Option<Option<FrameWord>>
-    ensures { MatchOption result
-        ((f : Option FrameWords) → ¬ (IsFrameWords (map string_bytes words.now) f))
-        (λ f. IsFrameWords (map string_bytes words.now) (option_map frame_of f)) }
+    ensures { option_map (λ f. option_map frame_of f) result ≡ frame_words (map string_bytes words.now) }
 {
     match words {
         [] => Some(None),

@@ -1,40 +1,20 @@
-use Rattle.std.proofs.Common.{map, string_bytes}
-use Rattle.command.specs.RequestView.{asked_of}
-use Rattle.command.specs.Responses.{AnswersInput, RefusesInput}
-use Rattle.command.proofs.OneRequest.{not_refused}
-use Rattle.command.proofs.Reading.{nothing_refused, read_too, source_answers, source_obstacle, source_refuses}
+use Rattle.std.proofs.Common.{map, string_bytes, sym, subst}
+use Rattle.command.specs.declared.request.Request.{Request}
+use Rattle.command.specs.Questions.{about}
+use Rattle.command.specs.Requests.{IsRequest}
+use Rattle.command.specs.Views.{asked_of, question_of}
+use Rattle.command.proofs.Reading.{answered, kept_from_answer}
 use Rattle.command.proofs.run.answer.Goals as goal
 
-pub returns-in_err-request-clause-refuses_input : goal.returns-in_err-request-clause-refuses_input
-returns-in_err-request-clause-refuses_input g c =
-    λ asked input refusal asks is cause. absurd (not_refused (map string_bytes c.args.words.now) asked c.in_err-request.field-0.0 asks ((c.read_words.ensures.refused c.in_err-request.field-0.0).0 c.in_err-request.was))
+pub returns-in_ok-group-in-About-clause-text : goal.returns-in_ok-group-in-About-clause-text
+returns-in_ok-group-in-About-clause-text g c =
+    let words = map string_bytes c.args.words.now in
+    let asks : IsRequest words (about (question_of c.in-About.question)) = subst (λ (r : Request). IsRequest words (asked_of r)) c.in-About.is (sym c.in_ok-question.ensures.is) in
+    answered words (question_of c.in-About.question) asks (g.S.Source.left c.args.source.now) c.in_ok-group-in-About.group c.in_ok-group-in-About.ensures.group c.respond.result c.respond.ensures.text
 
-pub returns-in_err-request-clause-answers : goal.returns-in_err-request-clause-answers
-returns-in_err-request-clause-answers g c =
-    λ asked input text asks is out. absurd (not_refused (map string_bytes c.args.words.now) asked c.in_err-request.field-0.0 asks ((c.read_words.ensures.refused c.in_err-request.field-0.0).0 c.in_err-request.was))
-
-pub returns-then-reads_input-clause-untouched : goal.returns-then-reads_input-clause-untouched
-returns-then-reads_input-clause-untouched g c =
-    λ asked asks nothing. absurd (nothing (read_too (map string_bytes c.args.words.now) (asked_of c.in_ok-request.request) c.in_ok-request.ensures.ok
-    (g.S.Source.left c.args.source.now) (c.reads_input.ensures.0 c.if-reads_input.true) asked asks))
-
-pub returns-then-reads_input-clause-obstacle : goal.returns-then-reads_input-clause-obstacle
-returns-then-reads_input-clause-obstacle g c =
-    source_obstacle (map string_bytes c.args.words.now) (asked_of c.in_ok-request.request) c.in_ok-request.ensures.ok (g.S.Source.left c.args.source.now)
-    (c.reads_input.ensures.0 c.if-reads_input.true) c.respond_to_source.result _ _ c.respond_to_source.ensures.obstacle
-
-pub returns-then-reads_input-clause-refuses_input : goal.returns-then-reads_input-clause-refuses_input
-returns-then-reads_input-clause-refuses_input g c =
-    source_refuses (map string_bytes c.args.words.now) (asked_of c.in_ok-request.request) c.in_ok-request.ensures.ok (g.S.Source.left c.args.source.now)
-    (c.reads_input.ensures.0 c.if-reads_input.true) (λ refusal. RefusesInput refusal c.respond_to_source.result) c.respond_to_source.ensures.refuses
-
-pub returns-then-reads_input-clause-answers : goal.returns-then-reads_input-clause-answers
-returns-then-reads_input-clause-answers g c =
-    source_answers (map string_bytes c.args.words.now) (asked_of c.in_ok-request.request) c.in_ok-request.ensures.ok (g.S.Source.left c.args.source.now)
-    (c.reads_input.ensures.0 c.if-reads_input.true) (AnswersInput c.respond_to_source.result) c.respond_to_source.ensures.answers
-
-pub returns-else-reads_input-clause-refuses_input : goal.returns-else-reads_input-clause-refuses_input
-returns-else-reads_input-clause-refuses_input g c =
-    λ asked input refusal asks is cause.
-    absurd (nothing_refused (map string_bytes c.args.words.now) (asked_of c.in_ok-request.request) c.in_ok-request.ensures.ok (g.S.Source.left c.args.source.now)
-    (λ reads. let t = c.if-reads_input.ensures.1 reads in cc) asked input refusal asks is cause)
+pub returns-in_ok-group-in-About-clause-obstacle : goal.returns-in_ok-group-in-About-clause-obstacle
+returns-in_ok-group-in-About-clause-obstacle g c =
+    let words = map string_bytes c.args.words.now in
+    let asks : IsRequest words (about (question_of c.in-About.question)) = subst (λ (r : Request). IsRequest words (asked_of r)) c.in-About.is (sym c.in_ok-question.ensures.is) in
+    kept_from_answer words (question_of c.in-About.question) asks (g.S.Source.left c.args.source.now) c.in_ok-group-in-About.group c.in_ok-group-in-About.ensures.group c.respond.result
+    _ _ c.in_ok-group-in-About.ensures.unfailed c.respond.ensures.obstacle
