@@ -1,5 +1,5 @@
 -- The numbers of the reader stay small.
-use Rattle.std.proofs.Common.{◌≡◌, ℕ, ◌+◌, ◌*◌, ◌<◌, ◌≤◌, false, Option, Some, None, ℤ, pos, negsuc, neg_ℤ, ◌+ℤ◌, sym, subst, arith}
+use Rattle.std.proofs.Common.{div-le_self, mul-le-mul_right, lt_of_le_of_lt, ◌≡◌, ℕ, ◌+◌, ◌*◌, ◌<◌, ◌≤◌, false, Option, Some, None, ℤ, pos, negsuc, neg_ℤ, ◌+ℤ◌, sym, subst, arith}
 use Rattle.std.specs.Prelude.{◌≤ℤ◌, ◌^◌, nat_le, nat_abs}
 use Rattle.std.proofs.lemmas.Bool.Decides.{nat_tests}
 use Rattle.std.proofs.lemmas.Int.{ints}
@@ -8,8 +8,6 @@ use Rattle.triplets.specs.declared.marks.Axis.TheVariants.{X, Y, Z}
 use Rattle.motions.specs.declared.motion.Sign.{Sign}
 use Rattle.motions.specs.declared.motion.Sign.TheVariants.{Plus, Minus}
 use Rattle.triplets.specs.declared.part.Used.{Used}
-use Rattle.triplets.specs.declared.denominator.Denominator.{Denominator}
-use Rattle.triplets.specs.declared.denominator.Denominator.TheVariants.{One, Two, Three, Four, Six, Eight, Twelve, TwentyFour}
 use Rattle.triplets.specs.declared.fault.TextKind.TheVariants as kinds
 use Rattle.triplets.specs.declared.marks.Mark.{Mark}
 use Rattle.triplets.specs.declared.marks.Mark.TheVariants as marks
@@ -22,11 +20,12 @@ use Rattle.triplets.specs.declared.triplet.Nth.TheVariants.{First, Second, Third
 use Rattle.triplets.specs.declared.triplet.TripletReader.{TripletReader}
 use Rattle.triplets.specs.Marks.{mark, IsMarkInRange}
 use Rattle.triplets.specs.Rows.{signed, with_entry, with_shift, IsRoomy}
-use Rattle.triplets.specs.Denominators.{unit, parts}
-use Rattle.triplets.specs.PartReading.{begin, settled, part_step, on_blank, on_sign, on_digit, on_slash, on_new_letter_at, with_letter, IsSmall, IsSpotSmall}
+use Rattle.triplets.specs.Denominators.{unit, parts, further_digit}
+use Rattle.triplets.specs.PartReading.{begin, settled, part_step, on_blank, on_sign, on_digit, on_slash, on_new_letter_at, below_or, with_letter, IsSmall, IsSpotSmall}
 use Rattle.triplets.specs.TripletReading.{in_part, next_part, comma_at, step}
 use Rattle.triplets.specs.PlaceBounds.{IsRowWithin, IsSpotWithin, IsPartWithin}
 use Rattle.triplets.proofs.Bytes.{IsMark, mark_is}
+use Rattle.triplets.proofs.Divisors.{at_least_one, at_most_unit, further_tells}
 use Rattle.triplets.proofs.Partials.{fine, ok_is, err_is, passed, met, below_is}
 use Rattle.triplets.proofs.Wholes.{going, going_is, part_step_is}
 
@@ -48,15 +47,8 @@ entry_room n Z v r h = omega arith
 shift_room : (n : ℕ) (s : Sign) (v : ℕ) (r : rows.Row) → v < 1000 * unit → IsRowWithin n r → IsRowWithin (n + 1) (with_shift s v r)
 shift_room n s v r b h = let most = moved_size r.shift s v in omega arith
 
-pub parts_small : (d : Denominator) (v : ℕ) → v < 1000 → parts d * v < 1000 * unit
-parts_small One v h = omega arith
-parts_small Two v h = omega arith
-parts_small Three v h = omega arith
-parts_small Four v h = omega arith
-parts_small Six v h = omega arith
-parts_small Eight v h = omega arith
-parts_small Twelve v h = omega arith
-parts_small TwentyFour v h = omega arith
+pub parts_small : (d v : ℕ) → v < 1000 → parts d * v < 1000 * unit
+parts_small d v h = lt_of_le_of_lt (mul-le-mul_right v (div-le_self unit d)) (omega arith)
 
 abbrev pub at : rows.Row → Used → Sign → Spot → PartReader
 at r u g spot = record { row = r; used = u; sign = g; spot = spot }
@@ -69,7 +61,7 @@ within_blank Begin n r u g q h i w = within_at _ (at r u g Begin) q (ok_is _ q w
 within_blank Signed n r u g q h i w = within_at _ (at r u g Signed) q (ok_is _ q w) (more_room n r h) tt
 within_blank (Digits k v) n r u g q h i w = within_at _ _ q (ok_is _ q w) (shift_room n g (unit * v) r (omega (arith, i.1.1.0)) h) tt
 within_blank (Divided v) n r u g q h i w = err_is _ q w
-within_blank (Below v d) n r u g q h i w = within_at _ _ q (ok_is _ q w) (shift_room n g (parts d * v) r (parts_small d v i) h) tt
+within_blank (Below v d) n r u g q h i w = within_at _ _ q (ok_is _ q w) (shift_room n g (parts d * v) r (parts_small d v i.0) h) tt
 within_blank Behind n r u g q h i w = within_at _ (at r u g Behind) q (ok_is _ q w) (more_room n r h) tt
 
 pub within_sign : (spot : Spot) (n : ℕ) (r : rows.Row) (u : Used) (g s : Sign) (q : PartReader) → IsRowWithin n r → IsSpotWithin spot → on_sign s (at r u g spot) ≡ fine q → IsPartWithin (n + 1) q
@@ -77,7 +69,7 @@ within_sign Begin n r u g s q h i w = within_at _ _ q (ok_is _ q w) (more_room n
 within_sign Signed n r u g s q h i w = err_is _ q w
 within_sign (Digits k v) n r u g s q h i w = within_at _ _ q (ok_is _ q w) (shift_room n g (unit * v) r (omega (arith, i.1.1.0)) h) tt
 within_sign (Divided v) n r u g s q h i w = err_is _ q w
-within_sign (Below v d) n r u g s q h i w = within_at _ _ q (ok_is _ q w) (shift_room n g (parts d * v) r (parts_small d v i) h) tt
+within_sign (Below v d) n r u g s q h i w = within_at _ _ q (ok_is _ q w) (shift_room n g (parts d * v) r (parts_small d v i.0) h) tt
 within_sign Behind n r u g s q h i w = within_at _ _ q (ok_is _ q w) (more_room n r h) tt
 
 within_letter : (spot : Spot) (n : ℕ) (r : rows.Row) (u : Used) (g : Sign) (a : Axis) (q : PartReader) → IsRowWithin n r → on_new_letter_at a spot (at r u g spot) ≡ fine q → IsPartWithin (n + 1) q
@@ -91,6 +83,12 @@ within_letter Behind n r u g a q h w = err_is _ q w
 below_three : (n : ℕ) → nat_le 3 n ≡ false → n < 3
 below_three n h = grind (arith, nat_tests)
 
+within_below : (n : ℕ) (r : rows.Row) (u : Used) (g : Sign) (v : ℕ) (spot : Spot) (m d : ℕ) (q : PartReader) → IsRowWithin n r → v < 1000 → below_or v (further_digit m d) (at r u g spot) ≡ fine q → IsPartWithin (n + 1) q
+within_below n r u g v spot m d q h i w =
+    let b = below_is v (further_digit m d) (at r u g spot) q w in
+    let divides = (further_tells m d b.0 b.1).1 in
+    within_at (n + 1) (at r u g (Below v b.0)) q b.2 (more_room n r h) (i, (at_least_one b.0 divides, at_most_unit b.0 divides))
+
 within_digit : (spot : Spot) (n : ℕ) (r : rows.Row) (u : Used) (g : Sign) (d : ℕ) (q : PartReader) → d < 10 → IsRowWithin n r → IsSpotWithin spot → on_digit d (at r u g spot) ≡ fine q → IsPartWithin (n + 1) q
 within_digit Begin n r u g d q t h i w = within_at _ (at r u g (Digits 1 d)) q (ok_is _ q w) (more_room n r h) (omega arith, (omega arith, (omega arith, (λ z. omega arith, λ z. omega arith))))
 within_digit Signed n r u g d q t h i w = within_at _ (at r u g (Digits 1 d)) q (ok_is _ q w) (more_room n r h) (omega arith, (omega arith, (omega arith, (λ z. omega arith, λ z. omega arith))))
@@ -99,8 +97,8 @@ within_digit (Digits k v) n r u g d q t h i w =
     let few : k < 3 = below_three k p.0 in
     within_at _ (at r u g (Digits (k + 1) (10 * v + d))) q (ok_is _ q p.1) (more_room n r h)
     (omega arith, (omega arith, ((let low = i.1.1.1.0 (omega arith) in omega arith), ((λ z. let low = i.1.1.1.1 (omega arith) in omega arith), λ z. absurd (omega (arith, i.0))))))
-within_digit (Divided v) n r u g d q t h i w = within_at _ (at r u g (Below v (below_is _ _ _ q w).0)) q (below_is _ _ _ q w).2 (more_room n r h) i
-within_digit (Below v e) n r u g d q t h i w = within_at _ (at r u g (Below v (below_is _ _ _ q w).0)) q (below_is _ _ _ q w).2 (more_room n r h) i
+within_digit (Divided v) n r u g d q t h i w = within_below n r u g v (Divided v) 0 d q h i w
+within_digit (Below v e) n r u g d q t h i w = within_below n r u g v (Below v e) e d q h i.0 w
 within_digit Behind n r u g d q t h i w = err_is _ q w
 
 within_slash : (spot : Spot) (n : ℕ) (r : rows.Row) (u : Used) (g : Sign) (q : PartReader) → IsRowWithin n r → IsSpotWithin spot → on_slash (at r u g spot) ≡ fine q → IsPartWithin (n + 1) q

@@ -6,7 +6,6 @@ use Rattle.triplets.specs.declared.marks.Axis.{Axis}
 use Rattle.triplets.specs.declared.marks.Axis.TheVariants.{X, Y, Z}
 use Rattle.motions.specs.declared.motion.Sign.{Sign}
 use Rattle.triplets.specs.declared.part.Used.{Used}
-use Rattle.triplets.specs.declared.denominator.Denominator.{Denominator}
 use Rattle.triplets.specs.declared.fault.TextKind.{TextKind}
 use Rattle.triplets.specs.declared.fault.TextKind.TheVariants as kinds
 use Rattle.triplets.specs.declared.marks.Mark.{Mark}
@@ -149,7 +148,7 @@ pub not_passed : (b : Bool) (p : PartReader) (k l : TextKind) → cond b (part_s
 not_passed true p k l e = (refl, cc)
 not_passed false p k l e = absurd cc
 
-pub below_err : (v : ℕ) (o : Option Denominator) (p : PartReader) (k : TextKind) → below_or v o p ≡ part_stopped k → k ≡ kinds.Denominator
+pub below_err : (v : ℕ) (o : Option ℕ) (p : PartReader) (k : TextKind) → below_or v o p ≡ part_stopped k → k ≡ kinds.Denominator
 below_err v None p k e = cc
 below_err v (Some d) p k e = absurd cc
 

@@ -1,4 +1,5 @@
 pub mod Bytes
+pub mod Divisors
 pub mod PartRuns
 pub mod Written
 pub mod Partials

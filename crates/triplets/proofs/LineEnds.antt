@@ -12,10 +12,11 @@ use Rattle.triplets.specs.Grammar.{Blank, blanks_text, part_text}
 use Rattle.triplets.specs.Lines.{Coordinate, coordinate_text, Centrings, centrings_text, Label, label_text, Form, empty, operation, row, form_text, form_value, IsLine}
 use Rattle.triplets.specs.LineReading.{LineState, line_start, line_run, line_value, operations_of, some_operation, listing_by}
 use Rattle.triplets.specs.LineFaults.{IsPrefixOfGoodLine}
+use Rattle.triplets.specs.Denominators.{denominator_text}
+use Rattle.triplets.proofs.Divisors.{one}
 use Rattle.triplets.proofs.Partials.{Partial, lead, digits, divided, below, behind, partial_text, IsLike}
 use Rattle.triplets.proofs.Wholes.{Begun, begun_text, begun_state, ends, zero, zero_part, prefix_of}
-use Rattle.triplets.specs.declared.denominator.Denominator.TheVariants.{One}
-use Rattle.triplets.specs.Grammar.{whole, fraction}
+use Rattle.triplets.specs.Grammar.{lead_text, numerator_text, whole, fraction}
 use Rattle.triplets.proofs.LineBegun.{line_going, lists, LineBegun, at_start, at_opening, at_operation, at_vector, at_closed, at_behind, at_comment, line_text, line_state, VectorBegun, in_one, in_two, in_three, vector_text, closed_text, in_bracket, bracket_more, vector_of, all_of, all_text, closed_more, as_vector, as_vector_text, form_operation, form_vectors, LineGoes, line_goes}
 
 abbrev make_listing : List Motion → List Vector → Listing
@@ -71,9 +72,9 @@ goes_on_to (digits l good d ds short) h = record {
   text = simp append_assoc;
 }
 goes_on_to (divided l good n) h = record {
-  rest = 49 ∷ [];
-  coordinate = record { part = record { lead = l; last = fraction n One; after = []; good = good; new = tt }; first = h; number = tt };
-  text = simp append_assoc;
+  rest = denominator_text one;
+  coordinate = record { part = record { lead = l; last = fraction n one; after = []; good = good; new = tt }; first = h; number = tt };
+  text = simp append_assoc (ap (λ (x : List ℕ). lead_text l ++ (numerator_text n ++ 47 ∷ x)) (sym (append-nil (denominator_text one))));
 }
 goes_on_to (below l good n u) h = record {
   rest = [];

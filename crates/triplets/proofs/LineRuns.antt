@@ -1,5 +1,5 @@
 -- A line of the grammar is read, with what it says.
-use Rattle.std.proofs.Common.{◌≡◌, ℕ, Bool, true, false, List, [], ◌∷◌, ◌++◌, Option, Some, None, Result, Ok, Err, pos, refl, sym, ◌∙◌, ap, subst, inl, inr, ◌⊎◌, append_assoc}
+use Rattle.std.proofs.Common.{◌≡◌, ℕ, Bool, true, false, List, [], ◌∷◌, ◌++◌, Option, Some, None, Result, Ok, Err, pos, refl, sym, ◌∙◌, ap, subst, inl, inr, ◌⊎◌, append_assoc, arith}
 use Rattle.std.specs.Prelude.{◌&&◌}
 use Rattle.std.proofs.lemmas.List.{append-nil}
 use Rattle.motions.specs.declared.motion.Sign.{Sign}
@@ -28,9 +28,9 @@ use Rattle.triplets.specs.LineReading.{opened, in_operation, in_coordinate, next
 use Rattle.triplets.proofs.Partials.{is_plain, fine}
 use Rattle.triplets.proofs.Wholes.{going, found}
 use Rattle.triplets.proofs.LineBounds.{placed}
-use Rattle.triplets.specs.declared.denominator.Denominator.{Denominator}
-use Rattle.triplets.specs.declared.denominator.Denominator.TheVariants.{One, Two, Three, Four, Six, Eight, Twelve, TwentyFour}
-use Rattle.triplets.specs.Denominators.{denominator_text}
+use Rattle.triplets.specs.Denominators.{Denominator, denominator_text}
+use Rattle.triplets.proofs.Divisors.{at_most_unit}
+use Rattle.triplets.proofs.NumberTrees.{numerator_tree}
 use Rattle.triplets.specs.TripletReading.{run, value_at}
 use Rattle.triplets.specs.Grammar.{space, tab, carriage_return, letter, multiple, whole, fraction, term_text, IsLead, IsNew, lead_letters}
 use Rattle.triplets.proofs.Bytes.{mark_digit, mark_sign}
@@ -195,14 +195,9 @@ plain_numerator : (n : Numerator) → AllPlain (numerator_text n)
 plain_numerator n = (ap is_plain (mark_digit n.first), plain_digits n.others)
 
 plain_denominator : (u : Denominator) → AllPlain (denominator_text u)
-plain_denominator One = (refl, tt)
-plain_denominator Two = (refl, tt)
-plain_denominator Three = (refl, tt)
-plain_denominator Four = (refl, tt)
-plain_denominator Six = (refl, tt)
-plain_denominator Eight = (refl, tt)
-plain_denominator Twelve = (refl, (refl, tt))
-plain_denominator TwentyFour = (refl, (refl, tt))
+plain_denominator u =
+    let w = numerator_tree u.number (omega (arith, at_most_unit u.number u.divides)) in
+    subst AllPlain w.text (plain_numerator w.by)
 
 plain_term : (t : Term) → IsNumber t → AllPlain (term_text t)
 plain_term (letter a c) h = absurd h

@@ -1,17 +1,8 @@
 -- The trees of the grammar that write numbers as `write_triplet` does.
-use Rattle.std.proofs.Common.{◌≡◌, ℕ, ◌+◌, ◌/◌, ◌%◌, ◌<◌, ◌≤◌, ◌==◌, Bool, true, List, [], ◌∷◌, ◌++◌, length, get_or, zero-add, inl, inr, if◌then◌else◌, refl, sym, ap, subst, ◌∙◌, arith}
-use Rattle.std.specs.List.{list_any, list_all, range_with_len}
+use Rattle.std.proofs.Common.{◌≡◌, ℕ, ◌+◌, ◌/◌, ◌%◌, ◌<◌, ◌≤◌, [], ◌∷◌, ◌++◌, inl, inr, sym, ap, ◌∙◌, arith}
 use Rattle.std.specs.Fmt.{decimal as decimal_text}
 use Rattle.std.proofs.lemmas.Fmt.{decimal_digit, decimal_step}
-use Rattle.std.specs.Int.{◌∣◌}
-use Rattle.std.proofs.lemmas.Bool.{cases_lt, eq-eqb, eqb-true}
-use Rattle.std.proofs.lemmas.List.FromFn.{length-range_with_len, get_or-range_with_len}
-use Rattle.std.proofs.lemmas.List.Folds.{Any-from_list_any}
-use Rattle.std.proofs.lemmas.List.Sums.{AllPass-from_list_all}
-use Rattle.std.proofs.lemmas.Nat.Gcd.{le_of_dvd, mod-eq-zero_of_dvd}
-use Rattle.triplets.specs.declared.denominator.Denominator.{Denominator}
-use Rattle.triplets.specs.declared.denominator.Denominator.TheVariants.{One, Two, Three, Four, Six, Eight, Twelve, TwentyFour}
-use Rattle.triplets.specs.Denominators.{unit, denominator_value}
+use Rattle.std.proofs.lemmas.Bool.{cases_lt}
 use Rattle.triplets.specs.Grammar.{Digit, digit_value, Numerator, numerator_text, numerator_value}
 
 -- ---- digits
@@ -73,39 +64,3 @@ numerator_tree n h = elim (cases_lt n 10) [
     | inr far ↦ three_digit_number n far (omega arith)
   ]
 ]
-
--- ---- denominators
-
-denominators : List Denominator
-denominators = One ∷ Two ∷ Three ∷ Four ∷ Six ∷ Eight ∷ Twelve ∷ TwentyFour ∷ []
-
--- a denominator that is this number
-pub record Denotes (n : ℕ) : Type 0 where
-  pub by : Denominator
-  pub value : denominator_value by ≡ n
-
--- if it divides the number of parts, some denominator is it
-is_denoted : ℕ → Bool
-is_denoted n = if unit % n == 0 then list_any (λ d. denominator_value d == n) denominators else true
-
-all_denoted : list_all is_denoted (range_with_len 0 (unit + 1)) ≡ true
-unfolding is_denoted denominators
-all_denoted = refl
-
-test_passes : (n : ℕ) → n ≤ unit → is_denoted n ≡ true
-test_passes n h =
-    let numbers : List ℕ = range_with_len 0 (unit + 1) in
-    let within : n < length numbers = omega (arith, length-range_with_len 0 (unit + 1)) in
-    let at : get_or numbers n 0 ≡ n = get_or-range_with_len 0 (unit + 1) n 0 (omega arith) ∙ zero-add n in
-    subst (λ (k : ℕ). is_denoted k ≡ true) at (AllPass-from_list_all is_denoted numbers all_denoted n 0 within)
-
-any_denotes : (n : ℕ) → is_denoted n ≡ true → unit % n ≡ 0 → Denotes n
-unfolding is_denoted
-any_denotes n h e =
-    let some : list_any (λ d. denominator_value d == n) denominators ≡ true =
-    ap (λ b. if b then list_any (λ d. denominator_value d == n) denominators else true) (sym (eq-eqb (unit % n) 0 e)) ∙ h in
-    let found = Any-from_list_any (λ d. denominator_value d == n) denominators some in
-    record { by = found.1; value = eqb-true (denominator_value found.1) n found.4 }
-
-pub denominator_tree : (n : ℕ) → n ∣ unit → Denotes n
-denominator_tree n h = any_denotes n (test_passes n (le_of_dvd (omega arith) h)) (mod-eq-zero_of_dvd n h)

@@ -44,7 +44,7 @@ abbrev pub term_state : Lead → Term → PartReader
 term_state l (letter a c) = behind_state l (letter a c)
 term_state l (multiple d h a c) = behind_state l (multiple d h a c)
 term_state l (whole n) = state l (Digits (1 + length n.others) (numerator_value n))
-term_state l (fraction n d) = state l (Below (numerator_value n) d)
+term_state l (fraction n d) = state l (Below (numerator_value n) d.number)
 
 abbrev pub after_state : Lead → Term → List Blank → PartReader
 after_state l t [] = term_state l t

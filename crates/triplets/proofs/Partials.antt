@@ -1,12 +1,10 @@
 -- What the reader of a part takes is the beginning of what is written in the grammar.
-use Rattle.std.proofs.Common.{◌≡◌, ℕ, suc, ◌+◌, ◌*◌, ◌≤◌, Bool, true, false, cond, List, [], ◌∷◌, ◌++◌, length, Option, Some, None, Result, Ok, Err, refl, sym, ◌∙◌, ap, subst, arith, inl, inr, append_assoc, length-append}
+use Rattle.std.proofs.Common.{◌≡◌, ℕ, suc, ◌+◌, ◌*◌, ◌≤◌, Bool, true, false, cond, List, [], ◌∷◌, ◌++◌, length, Option, Some, None, Result, Ok, Err, refl, sym, ◌∙◌, ap, subst, arith, append_assoc, length-append}
 use Rattle.std.specs.Prelude.{nat_le, nat_lt, ◌==◌, ◌&&◌}
-use Rattle.std.proofs.lemmas.Bool.Decides.{nat_tests, eqb_tells}
+use Rattle.std.proofs.lemmas.Bool.Decides.{nat_tests}
 use Rattle.std.proofs.lemmas.List.{map-append, append-nil}
 use Rattle.triplets.specs.declared.marks.Axis.{Axis}
 use Rattle.motions.specs.declared.motion.Sign.{Sign}
-use Rattle.triplets.specs.declared.denominator.Denominator.{Denominator}
-use Rattle.triplets.specs.declared.denominator.Denominator.TheVariants.{One, Two, Three, Four, Six, Eight, Twelve, TwentyFour}
 use Rattle.triplets.specs.declared.fault.TextKind.{TextKind}
 use Rattle.triplets.specs.declared.fault.TextKind.TheVariants as kinds
 use Rattle.triplets.specs.declared.marks.Mark.{Mark}
@@ -15,11 +13,12 @@ use Rattle.triplets.specs.declared.part.PartReader.{PartReader}
 use Rattle.triplets.specs.declared.part.Spot.TheVariants.{Digits, Divided, Below}
 use Rattle.triplets.specs.Marks.{mark}
 use Rattle.triplets.specs.Rows.{uses}
-use Rattle.triplets.specs.Denominators.{denominator_text, first_digit, further_digit}
+use Rattle.triplets.specs.Denominators.{Denominator, denominator_text}
 use Rattle.triplets.specs.PartReading.{part_step, settled, on_blank, on_sign, on_letter, on_digit, on_digit_at, on_slash, on_new_letter_at, below_or, with_letter, with_spot}
 use Rattle.triplets.specs.Grammar.{Blank, blank_byte, blanks_text, sign_byte, letter_byte, Digit, digit_value, digits_text, decimal, Numerator, numerator_text, numerator_value, letter, multiple, whole, fraction, term_text, Lead, bare, sign, more, lead_text, lead_letters, IsLead, Written, part_text, part_row}
 use Rattle.triplets.specs.Lines.{IsFirst, IsNumber, Coordinate, coordinate_text, coordinate_value}
 use Rattle.triplets.proofs.Bytes.{IsMark, mark_is}
+use Rattle.triplets.proofs.Divisors.{at_least_one, further_tells, first_text, further_text}
 use Rattle.triplets.proofs.PartRuns.{state, lead_state, behind_state, lead_spot}
 
 -- the beginning of a part
@@ -41,7 +40,7 @@ abbrev pub partial_state : Partial → PartReader
 partial_state (lead l good) = lead_state l
 partial_state (digits l good d ds short) = state l (Digits (1 + length ds) (decimal (digit_value d) ds))
 partial_state (divided l good n) = state l (Divided (numerator_value n))
-partial_state (below l good n u) = state l (Below (numerator_value n) u)
+partial_state (below l good n u) = state l (Below (numerator_value n) u.number)
 partial_state (behind w) = behind_state w.lead w.last
 
 -- the beginning of a coordinate
@@ -222,64 +221,29 @@ digit_digits l good d ds short f p e =
       state = ok_is _ p h.1 ∙ digits_state l _ _ _ _ (omega (arith, length_more ds f)) (sym (decimal-append (digit_value d) ds f));
     }
 
-pub below_is : (v : ℕ) (o : Option Denominator) (q p : PartReader) → below_or v o q ≡ fine p → (u : Denominator) × (o ≡ Some u) × (p ≡ with_spot (Below v u) q)
+pub below_is : (v : ℕ) (o : Option ℕ) (q p : PartReader) → below_or v o q ≡ fine p → (u : ℕ) × (o ≡ Some u) × (p ≡ with_spot (Below v u) q)
 below_is v None q p e = err_is _ p e
 below_is v (Some u) q p e = (u, refl, ok_is _ p e)
-
--- the denominator that a test chose is written with this digit
-abbrev Spells : List ℕ → Option Denominator → Type 0
-Spells text None = Unit {0}
-Spells text (Some u) = denominator_text u ≡ text
-
-spells_if : (n k : ℕ) (text : ℕ → List ℕ) (x y : Option Denominator) → Spells (text k) x → Spells (text n) y → Spells (text n) (cond (n == k) x y)
-spells_if n k text x y f g =
-    elim (eqb_tells n k) [
-      | inl h ↦ rw h.0 (rw h.1 f)
-      | inr h ↦ rw h.0 g
-    ]
-
-abbrev one_text : ℕ → List ℕ
-one_text n = (n + 48) ∷ []
-
-first_spells : (n : ℕ) → Spells (one_text n) (first_digit n)
-first_spells n =
-    spells_if n 1 one_text _ _ refl (
-    spells_if n 2 one_text _ _ refl (
-    spells_if n 3 one_text _ _ refl (
-    spells_if n 4 one_text _ _ refl (
-    spells_if n 6 one_text _ _ refl (
-    spells_if n 8 one_text _ _ refl tt)))))
-
-further_spells : (u : Denominator) (n : ℕ) → Spells (denominator_text u ++ one_text n) (further_digit u n)
-further_spells One n = spells_if n 2 (λ k. 49 ∷ one_text k) _ _ refl tt
-further_spells Two n = spells_if n 4 (λ k. 50 ∷ one_text k) _ _ refl tt
-further_spells Three n = tt
-further_spells Four n = tt
-further_spells Six n = tt
-further_spells Eight n = tt
-further_spells Twelve n = tt
-further_spells TwentyFour n = tt
-
-digit_byte : (d : Digit) → digit_value d + 48 ≡ d.byte
-digit_byte d = omega (arith, d.low)
 
 on_digit_grows : (q : Partial) (d : Digit) (p : PartReader) → on_digit (digit_value d) (partial_state q) ≡ fine p → Grows q d.byte p true
 on_digit_grows (lead l good) d p e = digit_lead l good d p e
 on_digit_grows (digits l good f ds short) d p e = digit_digits l good f ds short d p e
 on_digit_grows (divided l good n) d p e =
     let h = below_is _ _ _ p e in
+    let t = further_tells 0 (digit_value d) h.0 h.1 in
     record {
-      to = below l good n h.0;
+      to = below l good n (record { number = h.0; divides = t.1 });
       like = λ z h. h;
-      text = simp append_assoc (ap (λ (x : List ℕ). lead_text l ++ (numerator_text n ++ 47 ∷ x)) (ap (λ b. b ∷ []) (sym (digit_byte d)) ∙ sym (subst (Spells (one_text (digit_value d))) h.1 (first_spells (digit_value d)))));
+      text = simp append_assoc (ap (λ (x : List ℕ). lead_text l ++ (numerator_text n ++ 47 ∷ x)) (first_text d h.0 t.0));
       state = h.2;
     }
 on_digit_grows (below l good n u) d p e =
     let h = below_is _ _ _ p e in
+    let t = further_tells u.number (digit_value d) h.0 h.1 in
     record {
-      to = below l good n h.0;
+      to = below l good n (record { number = h.0; divides = t.1 });
       like = λ z h. h;
-      text = simp append_assoc (ap (λ (x : List ℕ). lead_text l ++ (numerator_text n ++ 47 ∷ x)) (ap (λ b. denominator_text u ++ b ∷ []) (sym (digit_byte d)) ∙ sym (subst (Spells (denominator_text u ++ one_text (digit_value d))) h.1 (further_spells u (digit_value d)))));
+      text = simp append_assoc (ap (λ (x : List ℕ). lead_text l ++ (numerator_text n ++ 47 ∷ x)) (further_text u.number d h.0 (at_least_one u.number u.divides) t.0 t.1));
       state = h.2;
     }
 on_digit_grows (behind w) d p e = err_is _ p e

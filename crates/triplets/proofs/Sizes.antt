@@ -65,7 +65,7 @@ term_small (multiple d low a c) s n r h =
     let high = d.high in
     more_bytes n _ _ (omega arith) (entry_small a (signed s (digit_value d)) n r (omega (arith, signed_size s (digit_value d))) h)
 term_small (whole m) s n r h = more_bytes (n + 1) _ _ (omega arith) (shift_small s (unit * numerator_value m) n r (omega (arith, numerator_small m)) h)
-term_small (fraction m d) s n r h = more_bytes (n + 1) _ _ (omega arith) (shift_small s (parts_over d * numerator_value m) n r (parts_small d (numerator_value m) (numerator_small m)) h)
+term_small (fraction m d) s n r h = more_bytes (n + 1) _ _ (omega arith) (shift_small s (parts_over d.number * numerator_value m) n r (parts_small d.number (numerator_value m) (numerator_small m)) h)
 
 lead_small : (l : Lead) → IsRowSmall (length (lead_text l)) (lead_row l)
 lead_small (bare bs) = zero_small _

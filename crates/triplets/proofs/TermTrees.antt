@@ -1,7 +1,8 @@
 -- The trees of the grammar that write the terms of a part.
-use Rattle.std.proofs.Common.{◌≡◌, ℕ, zero, suc, ◌*◌, ◌/◌, ◌<◌, ◌≤◌, false, List, [], ◌∷◌, ◌++◌, ℤ, pos, negsuc, ◌+ℤ◌, neg_ℤ, nat_abs, refl, sym, ap, subst, ◌∙◌, arith}
+use Rattle.std.proofs.Common.{Bool, cond, inl, inr, lt-ltb, le-ltb, le_antisymm, ◌≡◌, ℕ, zero, suc, ◌*◌, ◌/◌, ◌<◌, ◌≤◌, false, List, [], ◌∷◌, ◌++◌, ℤ, pos, negsuc, ◌+ℤ◌, neg_ℤ, nat_abs, refl, sym, ap, subst, ◌∙◌, arith}
 use Rattle.std.specs.Int.{◌∣◌}
-use Rattle.std.specs.Fmt.{digits, decimal as decimal_text, signed_decimal}
+use Rattle.std.specs.Fmt.{decimal as decimal_text, signed_decimal}
+use Rattle.std.proofs.lemmas.Bool.{cases_lt}
 use Rattle.std.proofs.lemmas.Fmt.{decimal_digit}
 use Rattle.std.proofs.lemmas.List.{append-nil}
 use Rattle.std.proofs.Math.Nat.{dvd-mul_left, mul-div_cancel, mul-div_cancel', pos_of_dvd_of_pos}
@@ -13,16 +14,15 @@ use Rattle.fractions.proofs.Gcd.{IsGcd-gcd}
 use Rattle.triplets.specs.declared.marks.Axis.{Axis}
 use Rattle.motions.specs.declared.motion.Sign.{Sign}
 use Rattle.motions.specs.declared.motion.Sign.TheVariants.{Plus, Minus}
-use Rattle.triplets.specs.declared.denominator.Denominator.{Denominator}
-use Rattle.triplets.specs.declared.denominator.Denominator.TheVariants.{One, Two, Three, Four, Six, Eight, Twelve, TwentyFour}
 use Rattle.triplets.specs.declared.part.Row.{Row}
 use Rattle.triplets.specs.declared.part.Used.{Used}
 use Rattle.triplets.specs.Bytes.{slash}
 use Rattle.triplets.specs.Rows.{signed, with_entry, with_shift, uses, with_used}
-use Rattle.triplets.specs.Denominators.{unit, denominator_value, denominator_text, parts}
-use Rattle.triplets.specs.Grammar.{sign_byte, letter_byte, Numerator, numerator_text, numerator_value, Term, letter, multiple, whole, fraction, term_text, with_term, with_letters, IsNew}
+use Rattle.triplets.specs.Denominators.{unit, parts}
+use Rattle.triplets.specs.Grammar.{sign_byte, letter_byte, numerator_text, numerator_value, Term, letter, multiple, whole, fraction, term_text, with_term, with_letters, IsNew}
 use Rattle.triplets.specs.Writing.{letter_term, number_term}
-use Rattle.triplets.proofs.NumberTrees.{digit, digit-value, numerator_tree, denominator_tree}
+use Rattle.triplets.proofs.Divisors.{at_least_one}
+use Rattle.triplets.proofs.NumberTrees.{digit, digit-value, numerator_tree}
 
 -- the text is a sign and a term, which adds this to a row and to the letters of a part where the letters leave it free
 pub record IsTerm (text : List ℕ) (add : Row → Row) (use_letter : Used → Used) (IsFree : Used → Type 0) : Type 0 where
@@ -82,44 +82,11 @@ div-div g n above h =
     ap (λ k. k / (n / g)) (sym (mul-div_cancel' g h)) ∙ mul-div_cancel g (quotient_positive g n above h)
 
 -- what stands behind the numerator
-below : Denominator → List ℕ
-below One = []
-below d = slash ∷ denominator_text d
+below_more : (d : ℕ) → 1 < d → below_text (pos d) ≡ slash ∷ decimal_text d
+below_more d h = ap (λ (b : Bool). cond b (slash ∷ decimal_text d) []) (lt-ltb 1 d h)
 
-below_is : (d : Denominator) → below_text (pos (denominator_value d)) ≡ below d
-unfolding digits below
-below_is One = refl
-below_is Two = refl
-below_is Three = refl
-below_is Four = refl
-below_is Six = refl
-below_is Eight = refl
-below_is Twelve = refl
-below_is TwentyFour = refl
-
-over : Numerator → Denominator → Term
-over w One = whole w
-over w d = fraction w d
-
-over-text : (w : Numerator) (d : Denominator) → term_text (over w d) ≡ numerator_text w ++ below d
-unfolding over below
-over-text w One = sym (append-nil (numerator_text w))
-over-text w d = refl
-
-over-row : (s : Sign) (w : Numerator) (d : Denominator) (r : Row) → with_term s (over w d) r ≡ with_shift s (parts d * numerator_value w) r
-unfolding over
-over-row s w One r = refl
-over-row s w d r = refl
-
-over-letters : (w : Numerator) (d : Denominator) (u : Used) → with_letters (over w d) u ≡ u
-unfolding over
-over-letters w One u = refl
-over-letters w d u = refl
-
-over-new : (w : Numerator) (d : Denominator) (u : Used) → IsNew (over w d) u
-unfolding over
-over-new w One u = tt
-over-new w d u = tt
+below_one : (d : ℕ) → d ≤ 1 → below_text (pos d) ≡ []
+below_one d h = ap (λ (b : Bool). cond b (slash ∷ decimal_text d) []) (le-ltb 1 d h)
 
 -- n parts as a numerator over a denominator, where g divides both n and the number of parts
 record IsOver (n g : ℕ) : Type 0 where
@@ -132,16 +99,28 @@ record IsOver (n g : ℕ) : Type 0 where
 over_tree : (n g : ℕ) → 0 < n → g ∣ n → g ∣ unit → n / g ≤ 999 → IsOver n g
 over_tree n g above in_n in_unit short =
     let w = numerator_tree (n / g) short in
-    let d = denominator_tree (unit / g) (divides_by_quotient g unit in_unit) in
-    let each : parts d.by ≡ g = ap (λ k. unit / k) d.value ∙ div-div g unit (omega arith) in_unit in
-    let all : parts d.by * numerator_value w.by ≡ n = (λ i. each i * w.value i) ∙ mul-div_cancel' g in_n in
-    record {
-      term = over w.by d.by;
-      text = over-text w.by d.by ∙ (λ i. w.text i ++ (sym (below_is d.by) ∙ ap (λ k. below_text (pos k)) d.value) i);
-      row_is = λ s r. over-row s w.by d.by r ∙ ap (λ k. with_shift s k r) all;
-      letters_are = over-letters w.by d.by;
-      new = over-new w.by d.by;
-    }
+    let d : ℕ = unit / g in
+    let divides : d ∣ unit = divides_by_quotient g unit in_unit in
+    let each : parts d ≡ g = div-div g unit (omega arith) in_unit in
+    let all : parts d * numerator_value w.by ≡ n = (λ i. each i * w.value i) ∙ mul-div_cancel' g in_n in
+    elim (cases_lt 1 d) [
+      | inl more ↦ record {
+        term = fraction w.by (record { number = d; divides = divides });
+        text = λ i. w.text i ++ sym (below_more d more) i;
+        row_is = λ s r. ap (λ k. with_shift s k r) all;
+        letters_are = λ u. refl;
+        new = λ u. tt;
+      }
+      | inr most ↦
+          let one : 1 ≡ d = le_antisymm (at_least_one d divides) most in
+          record {
+            term = whole w.by;
+            text = sym (append-nil (numerator_text w.by)) ∙ (λ i. w.text i ++ sym (below_one d most) i);
+            row_is = λ s r. ap (λ k. with_shift s k r) (ap (λ k. parts k * numerator_value w.by) one ∙ all);
+            letters_are = λ u. refl;
+            new = λ u. tt;
+          }
+    ]
 
 abs-neg : (k : ℕ) → nat_abs (neg_ℤ (pos k)) ≡ k
 abs-neg zero = refl

@@ -1,7 +1,6 @@
 -- A triplet is read with its value, what is read is a triplet, and what is read without a fault goes on to one.
 use Rattle.std.proofs.Common.{◌≡◌, ℕ, List, [], ◌∷◌, ◌++◌, Option, Some, None, Result, Ok, Err, refl, sym, ◌∙◌, ap, subst, arith, append_assoc}
 use Rattle.std.proofs.lemmas.List.{append-nil}
-use Rattle.triplets.specs.declared.denominator.Denominator.TheVariants.{One}
 use Rattle.triplets.specs.declared.fault.TextKind.{TextKind}
 use Rattle.triplets.specs.declared.marks.Mark.{Mark}
 use Rattle.triplets.specs.declared.marks.Mark.TheVariants as marks
@@ -16,11 +15,13 @@ use Rattle.triplets.specs.Marks.{mark}
 use Rattle.triplets.specs.Rows.{zero_row, motion3_with, motion_with}
 use Rattle.triplets.specs.PartReading.{begin, settled, part_step}
 use Rattle.triplets.specs.TripletReading.{start, with_part, in_part, next_part, comma_at, value_at, value, step, advance, run}
-use Rattle.triplets.specs.Grammar.{Digit, Numerator, whole, fraction, bare, Written, part_text, part_row, IsTriplet}
+use Rattle.triplets.specs.Grammar.{Digit, Numerator, numerator_text, whole, fraction, bare, lead_text, Written, part_text, part_row, IsTriplet}
 use Rattle.triplets.specs.Faults.{IsGood, IsPrefixOfGood}
 use Rattle.triplets.proofs.Bytes.{IsMark, mark_is}
 use Rattle.triplets.proofs.PartRuns.{run_part, after_state}
 use Rattle.triplets.proofs.Written.{written_run, settled_after}
+use Rattle.triplets.specs.Denominators.{denominator_text}
+use Rattle.triplets.proofs.Divisors.{one}
 use Rattle.triplets.proofs.Partials.{Partial, lead, digits, divided, below, behind, partial_text, partial_state, fine, grows_by, whole_part}
 
 -- ---- runs
@@ -305,9 +306,9 @@ completes (digits l good d ds short) = record {
   text = simp append_assoc;
 }
 completes (divided l good n) = record {
-  rest = 49 ∷ [];
-  part = record { lead = l; last = fraction n One; after = []; good = good; new = tt };
-  text = simp append_assoc;
+  rest = denominator_text one;
+  part = record { lead = l; last = fraction n one; after = []; good = good; new = tt };
+  text = simp append_assoc (ap (λ (x : List ℕ). lead_text l ++ (numerator_text n ++ 47 ∷ x)) (sym (append-nil (denominator_text one))));
 }
 completes (below l good n u) = record {
   rest = [];

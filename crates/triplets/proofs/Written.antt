@@ -1,11 +1,13 @@
 -- What is written in the grammar is read, with its value.
-use Rattle.std.proofs.Common.{◌≡◌, ℕ, ◌+◌, ◌*◌, ◌<◌, ◌≤◌, Bool, false, cond, List, [], ◌∷◌, ◌++◌, length, Some, Result, Ok, Err, refl, ◌∙◌, ap, arith}
+use Rattle.std.proofs.Common.{zero, suc, ◌/◌, ◌%◌, inl, inr, le_refl, ◌≡◌, ℕ, ◌+◌, ◌*◌, ◌<◌, ◌≤◌, Bool, false, cond, List, [], ◌∷◌, ◌++◌, length, Some, Result, Ok, Err, refl, ◌∙◌, ap, arith}
 use Rattle.std.specs.Prelude.{nat_le, nat_lt, ◌==◌, ◌&&◌}
+use Rattle.std.specs.Fmt.{decimal as decimal_text}
+use Rattle.std.specs.Int.{◌∣◌}
+use Rattle.std.proofs.lemmas.Bool.{cases_lt}
 use Rattle.std.proofs.lemmas.Bool.Decides.{nat_tests}
+use Rattle.std.proofs.lemmas.Fmt.{decimal_digit, decimal_step}
 use Rattle.triplets.specs.declared.marks.Axis.{Axis}
 use Rattle.motions.specs.declared.motion.Sign.{Sign}
-use Rattle.triplets.specs.declared.denominator.Denominator.{Denominator}
-use Rattle.triplets.specs.declared.denominator.Denominator.TheVariants.{One, Two, Three, Four, Six, Eight, Twelve, TwentyFour}
 use Rattle.triplets.specs.declared.fault.TextKind.{TextKind}
 use Rattle.triplets.specs.declared.fault.TextKind.TheVariants as kinds
 use Rattle.triplets.specs.declared.part.Row.{Row}
@@ -13,10 +15,12 @@ use Rattle.triplets.specs.declared.part.Used.{Used}
 use Rattle.triplets.specs.declared.part.PartReader.{PartReader}
 use Rattle.triplets.specs.declared.part.Spot.TheVariants.{Begin, Signed, Digits, Divided, Below, Behind}
 use Rattle.triplets.specs.Rows.{uses}
-use Rattle.triplets.specs.Denominators.{denominator_text}
-use Rattle.triplets.specs.PartReading.{begin, part_step, settled, on_blank, on_sign, on_digit, on_digit_at, on_new_letter_at, with_letter, with_sign, with_spot}
+use Rattle.triplets.specs.Denominators.{unit, denominator_text, further_digit}
+use Rattle.triplets.specs.PartReading.{begin, part_step, settled, on_blank, on_sign, on_digit, on_digit_at, on_new_letter_at, below_or, with_letter, with_sign, with_spot}
 use Rattle.triplets.specs.Grammar.{Blank, space, tab, carriage_return, blanks_text, sign_byte, letter_byte, Digit, digit_value, digits_text, decimal, Numerator, numerator_text, numerator_value, Term, letter, multiple, whole, fraction, term_text, IsNew, Lead, bare, sign, more, lead_text, lead_row, lead_sign, lead_letters, IsLead, Written, part_text}
 use Rattle.triplets.proofs.Bytes.{mark_sign, mark_letter, mark_digit}
+use Rattle.triplets.proofs.Divisors.{at_least_one, at_most_unit, further_is, beginning_divides}
+use Rattle.triplets.proofs.NumberTrees.{digit, digit-value}
 use Rattle.triplets.proofs.PartRuns.{part_advance, run_part, run_then, lead_spot, state, lead_state, behind_state, term_state, after_state}
 
 -- blanks change nothing before a term, and behind one
@@ -82,17 +86,28 @@ numerator_run l n =
     ap (λ (x : Result PartReader TextKind). run_part x (digits_text n.others)) (first_run l n.first)
     ∙ digits_run (lead_row l) (lead_letters l) (lead_sign l) 1 (digit_value n.first) n.others (omega (arith, n.short))
 
-below_run : (r : Row) (u : Used) (s : Sign) (v : ℕ) (d : Denominator) →
-    run_part (Ok (record { row = r; used = u; sign = s; spot = Divided v })) (denominator_text d)
-    ≡ Ok (record { row = r; used = u; sign = s; spot = Below v d })
-below_run r u s v One = refl
-below_run r u s v Two = refl
-below_run r u s v Three = refl
-below_run r u s v Four = refl
-below_run r u s v Six = refl
-below_run r u s v Eight = refl
-below_run r u s v Twelve = refl
-below_run r u s v TwentyFour = refl
+-- a digit of a denominator
+digit_below : (p : PartReader) (v m e n : ℕ) → e < 10 → on_digit e p ≡ below_or v (further_digit m e) p → 10 * m + e ≡ n → n ∣ unit → part_advance (Ok p) (48 + e) ≡ Ok (with_spot (Below v n) p)
+digit_below p v m e n small at is h =
+    digit_run (digit e small) p
+    ∙ (ap (λ k. on_digit k p) (digit-value e small) ∙ (at ∙ ap (λ o. below_or v o p) (further_is m e n is h)))
+
+-- a denominator of at most k, digit by digit
+below_run : (k : ℕ) (r : Row) (u : Used) (s : Sign) (v n : ℕ) → n ≤ k → n ∣ unit →
+    run_part (Ok (record { row = r; used = u; sign = s; spot = Divided v })) (decimal_text n)
+    ≡ Ok (record { row = r; used = u; sign = s; spot = Below v n })
+below_run zero r u s v n most h = absurd (let low = at_least_one n h in omega arith)
+below_run (suc k) r u s v n most h =
+    let start : PartReader = record { row = r; used = u; sign = s; spot = Divided v } in
+    let under : ℕ → PartReader = λ m. record { row = r; used = u; sign = s; spot = Below v m } in
+    elim (cases_lt n 10) [
+      | inl below ↦ ap (λ ds. run_part (Ok start) ds) (decimal_digit n below) ∙ digit_below start v 0 n n below refl (omega arith) h
+      | inr above ↦
+          ap (λ ds. run_part (Ok start) ds) (decimal_step n above (omega (arith, at_most_unit n h)))
+          ∙ run_then (Ok start) (Ok (under (n / 10))) (Ok (under n)) (decimal_text (n / 10)) ((48 + n % 10) ∷ [])
+          (below_run k r u s v (n / 10) (omega arith) (beginning_divides n above h))
+          (digit_below (under (n / 10)) v (n / 10) (n % 10) n (omega arith) refl (omega arith) h)
+    ]
 
 one_digit : (v : ℕ) (x y : Result PartReader TextKind) → 0 < v → cond (1 == 1 && nat_lt 0 v) x y ≡ x
 one_digit v x y h = grind (arith, nat_tests)
@@ -107,7 +122,7 @@ term_run l (whole n) new = numerator_run l n
 term_run l (fraction n d) new =
     run_then (Ok (lead_state l)) (Ok (state l (Digits (1 + length n.others) (numerator_value n)))) (Ok (term_state l (fraction n d))) (numerator_text n) (47 ∷ denominator_text d)
     (numerator_run l n)
-    (below_run (lead_row l) (lead_letters l) (lead_sign l) (numerator_value n) d)
+    (below_run d.number (lead_row l) (lead_letters l) (lead_sign l) (numerator_value n) d.number (le_refl d.number) d.divides)
 
 -- behind a term
 

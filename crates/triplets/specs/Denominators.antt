@@ -1,51 +1,30 @@
--- The denominators that may be written.
-use Rattle.std.specs.Prelude.{ℕ, List, [], ◌∷◌, ◌==◌, if◌then◌else◌, Option, Some, None, ◌/◌, unsigned_abs}
+-- The denominators that may be written: the numbers that divide the parts of a cell edge.
+use Rattle.std.specs.Prelude.{ℕ, ◌+◌, ◌*◌, ◌/◌, ◌%◌, ◌==◌, ◌&&◌, nat_lt, Bool, List, if◌then◌else◌, Option, Some, None, unsigned_abs}
+use Rattle.std.specs.Int.{◌∣◌}
+use Rattle.std.specs.Fmt.{decimal}
 use Rattle.fractions.specs.declared.part.TheConstants.{UNIT}
-use Rattle.triplets.specs.declared.denominator.Denominator.{Denominator}
-use Rattle.triplets.specs.declared.denominator.Denominator.TheVariants.{One, Two, Three, Four, Six, Eight, Twelve, TwentyFour}
-
--- as it is written
-abbrev pub denominator_text : Denominator → List ℕ
-denominator_text One = 49 ∷ []
-denominator_text Two = 50 ∷ []
-denominator_text Three = 51 ∷ []
-denominator_text Four = 52 ∷ []
-denominator_text Six = 54 ∷ []
-denominator_text Eight = 56 ∷ []
-denominator_text Twelve = 49 ∷ 50 ∷ []
-denominator_text TwentyFour = 50 ∷ 52 ∷ []
-
--- what it is
-abbrev pub denominator_value : Denominator → ℕ
-denominator_value One = 1
-denominator_value Two = 2
-denominator_value Three = 3
-denominator_value Four = 4
-denominator_value Six = 6
-denominator_value Eight = 8
-denominator_value Twelve = 12
-denominator_value TwentyFour = 24
 
 -- how many parts a cell edge has
 abbrev pub unit : ℕ
 unit = unsigned_abs UNIT
 
--- how many parts one over it is
-abbrev pub parts : Denominator → ℕ
-parts d = unit / denominator_value d
+-- a denominator: one over it is a whole number of parts
+pub record Denominator : Type 0 where
+  pub number : ℕ
+  pub divides : number ∣ unit
 
--- the one of this one digit
-abbrev pub first_digit : ℕ → Option Denominator
-first_digit d =
-    if d == 1 then Some One else (
-    if d == 2 then Some Two else (
-    if d == 3 then Some Three else (
-    if d == 4 then Some Four else (
-    if d == 6 then Some Six else (
-    if d == 8 then Some Eight else None)))))
+-- as it is written, without leading zeros
+abbrev pub denominator_text : Denominator → List ℕ
+denominator_text d = decimal d.number
 
--- the one with one digit more
-abbrev pub further_digit : Denominator → ℕ → Option Denominator
-further_digit One d = if d == 2 then Some Twelve else None
-further_digit Two d = if d == 4 then Some TwentyFour else None
-further_digit _ d = None
+-- how many parts one over a number is
+abbrev pub parts : ℕ → ℕ
+parts n = unit / n
+
+-- whether a number is a denominator
+abbrev pub is_denominator : ℕ → Bool
+is_denominator n = nat_lt 0 n && unit % n == 0
+
+-- the denominator with one digit more than the number, which is 0 before the first digit
+abbrev pub further_digit : ℕ → ℕ → Option ℕ
+further_digit n d = if is_denominator (10 * n + d) then Some (10 * n + d) else None

@@ -5,12 +5,11 @@ use Rattle.triplets.specs.declared.marks.Axis.{Axis}
 use Rattle.triplets.specs.declared.marks.Axis.TheVariants.{X, Y, Z}
 use Rattle.motions.specs.declared.motion.Sign.{Sign}
 use Rattle.motions.specs.declared.motion.Sign.TheVariants.{Plus, Minus}
-use Rattle.triplets.specs.declared.denominator.Denominator.{Denominator}
 use Rattle.triplets.specs.declared.part.Row.{Row}
 use Rattle.triplets.specs.declared.part.Used.{Used}
 use Rattle.symmetry.specs.Motions.{Motion}
 use Rattle.triplets.specs.Rows.{zero_row, unused, with_entry, with_shift, signed, uses, with_used, motion_with}
-use Rattle.triplets.specs.Denominators.{unit, parts, denominator_text}
+use Rattle.triplets.specs.Denominators.{unit, parts, Denominator, denominator_text}
 
 -- a byte that may stand between the words
 pub data Blank : Type 0 where
@@ -94,7 +93,7 @@ abbrev pub with_term : Sign → Term → Row → Row
 with_term s (letter a c) r = with_entry a (signed s 1) r
 with_term s (multiple d _ a c) r = with_entry a (signed s (digit_value d)) r
 with_term s (whole n) r = with_shift s (unit * numerator_value n) r
-with_term s (fraction n d) r = with_shift s (parts d * numerator_value n) r
+with_term s (fraction n d) r = with_shift s (parts d.number * numerator_value n) r
 
 -- the letters that stand there, with those of the term
 abbrev pub with_letters : Term → Used → Used

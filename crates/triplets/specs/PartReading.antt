@@ -3,7 +3,6 @@ use Rattle.std.specs.Prelude.{ℕ, ◌+◌, ◌*◌, ◌<◌, ◌≤◌, ◌&&�
 use Rattle.triplets.specs.declared.marks.Axis.{Axis}
 use Rattle.motions.specs.declared.motion.Sign.{Sign}
 use Rattle.motions.specs.declared.motion.Sign.TheVariants.{Plus}
-use Rattle.triplets.specs.declared.denominator.Denominator.{Denominator}
 use Rattle.triplets.specs.declared.marks.Mark.{Mark}
 use Rattle.triplets.specs.declared.marks.Mark.TheVariants as marks
 use Rattle.triplets.specs.declared.fault.TextKind.{TextKind}
@@ -12,7 +11,7 @@ use Rattle.triplets.specs.declared.part.PartReader.{PartReader}
 use Rattle.triplets.specs.declared.part.Spot.{Spot}
 use Rattle.triplets.specs.declared.part.Spot.TheVariants.{Begin, Signed, Digits, Divided, Below, Behind}
 use Rattle.triplets.specs.Rows.{zero_row, unused, with_entry, with_shift, signed, uses, with_used, IsRoomy}
-use Rattle.triplets.specs.Denominators.{unit, parts, first_digit, further_digit}
+use Rattle.triplets.specs.Denominators.{unit, parts, further_digit}
 
 -- before the first byte of a part
 abbrev pub begin : PartReader
@@ -90,7 +89,7 @@ abbrev pub on_letter : Axis → PartReader → Result PartReader TextKind
 on_letter a p = if uses a p.used then Err kinds.Repeated else on_new_letter_at a p.spot p
 
 -- a denominator, if it is one
-abbrev pub below_or : ℕ → Option Denominator → PartReader → Result PartReader TextKind
+abbrev pub below_or : ℕ → Option ℕ → PartReader → Result PartReader TextKind
 below_or v None p = Err kinds.Denominator
 below_or v (Some d) p = Ok (with_spot (Below v d) p)
 
@@ -99,7 +98,7 @@ abbrev pub on_digit_at : ℕ → Spot → PartReader → Result PartReader TextK
 on_digit_at d Begin p = Ok (with_spot (Digits 1 d) p)
 on_digit_at d Signed p = Ok (with_spot (Digits 1 d) p)
 on_digit_at d (Digits n v) p = if nat_le 3 n then Err kinds.Coefficient else Ok (with_spot (Digits (n + 1) (10 * v + d)) p)
-on_digit_at d (Divided v) p = below_or v (first_digit d) p
+on_digit_at d (Divided v) p = below_or v (further_digit 0 d) p
 on_digit_at d (Below v u) p = below_or v (further_digit u d) p
 on_digit_at d Behind p = Err kinds.UnknownSign
 
@@ -129,11 +128,11 @@ part_step marks.Open p = Err kinds.UnknownSign
 part_step marks.Close p = Err kinds.UnknownSign
 part_step marks.Other p = Err kinds.UnknownSign
 
--- the numerator so far is below a thousand
+-- the numerator so far is below a thousand, and the denominator at most the parts of a cell edge
 abbrev pub IsSpotSmall : Spot → Type 0
 IsSpotSmall (Digits n v) = (n ≤ 3) × (v < 1000)
 IsSpotSmall (Divided v) = v < 1000
-IsSpotSmall (Below v d) = v < 1000
+IsSpotSmall (Below v d) = (v < 1000) × ((1 ≤ d) × (d ≤ unit))
 IsSpotSmall _ = Unit {0}
 
 -- the next byte leads to no number that is too large

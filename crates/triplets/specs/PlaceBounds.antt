@@ -12,11 +12,11 @@ use Rattle.triplets.specs.Denominators.{unit}
 abbrev pub IsRowWithin : ℕ → Row → Type 0
 IsRowWithin n r = nat_abs r.shift ≤ 1000 * unit * n
 
--- a numerator has one to three digits
+-- a numerator has one to three digits, and a denominator is at most the parts of a cell edge
 abbrev pub IsSpotWithin : Spot → Type 0
 IsSpotWithin (Digits n v) = (1 ≤ n) × ((n ≤ 3) × ((v < 1000) × ((n ≤ 2 → v < 100) × (n ≤ 1 → v < 10))))
 IsSpotWithin (Divided v) = v < 1000
-IsSpotWithin (Below v d) = v < 1000
+IsSpotWithin (Below v d) = (v < 1000) × ((1 ≤ d) × (d ≤ unit))
 IsSpotWithin Begin = Unit {0}
 IsSpotWithin Signed = Unit {0}
 IsSpotWithin Behind = Unit {0}

@@ -68,12 +68,6 @@ frieze_text m =
     row_text (record { x = sign_value m.along; y = pos 0; z = pos 0 }) m.shift ++ codes "," ++
     row_text (record { x = pos 0; y = sign_value m.across; z = pos 0 }) (pos 0)
 
--- the `+` of a term that is not 0, the first of its part or a further one
-abbrev pub plus_text : Bool → ℤ → List ℕ
-plus_text true c = []
-plus_text false (pos n) = codes "+"
-plus_text false (negsuc n) = []
-
 -- a term as it stands in its part, the first or a further one
 abbrev pub placed : Bool → List ℕ → List ℕ
 placed true text = without_leading_plus text

@@ -14,7 +14,7 @@ pub enum TextKind {
     Repeated,
     /// A letter directly behind a number that is no digit from 1 to 9, or a fourth digit of a number.
     Coefficient,
-    /// A digit with which the denominator is not 1, 2, 3, 4, 6, 8, 12 or 24.
+    /// A digit with which the denominator is none that divides [`fractions::UNIT`].
     Denominator,
     /// The text, the line or the vector ends too early.
     MissingPart,

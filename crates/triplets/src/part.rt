@@ -2,7 +2,7 @@
 ghost use Rattle.std.specs.Prelude.{◌≡◌, ◌<◌};
 ghost use Rattle.triplets.specs.Rows.{signed};
 
-use crate::denominator::{Denominator, PARTS};
+use crate::denominator::{PARTS, parts_over, with_digit};
 use crate::fault::TextKind;
 use crate::marks::{Axis, Mark};
 use motions::Sign;
@@ -35,8 +35,8 @@ pub enum Spot {
     Digits { count: u32, value: u32 },
     /// The `/` behind a numerator.
     Divided { value: u32 },
-    /// Digits of a denominator.
-    Below { value: u32, under: Denominator },
+    /// Digits that are a denominator.
+    Below { value: u32, under: u32 },
     /// A whole term, and blanks or nothing.
     Behind,
 }
@@ -162,7 +162,7 @@ impl PartReader {
         match self.spot {
             Spot::Begin | Spot::Signed | Spot::Divided { .. } => None,
             Spot::Digits { value, .. } => Some(self.number(PARTS * value)),
-            Spot::Below { value, under } => Some(self.number(under.parts() * value)),
+            Spot::Below { value, under } => Some(self.number(parts_over(under) * value)),
             Spot::Behind => Some(self),
         }
     }
@@ -231,11 +231,11 @@ impl PartReader {
                     value: 10 * value + digit,
                 }
             }
-            Spot::Divided { value } => match Denominator::of_digit(digit) {
+            Spot::Divided { value } => match with_digit(0, digit) {
                 Some(under) => Spot::Below { value, under },
                 None => return Err(TextKind::Denominator),
             },
-            Spot::Below { value, under } => match under.longer(digit) {
+            Spot::Below { value, under } => match with_digit(under, digit) {
                 Some(under) => Spot::Below { value, under },
                 None => return Err(TextKind::Denominator),
             },

@@ -10,7 +10,7 @@ use Rattle.triplets.specs.PlaceBounds.{IsSpotWithin, IsPlaceWithin}
 IsSpotWithin-prop : (s : Spot) → IsProp (IsSpotWithin s)
 IsSpotWithin-prop (Digits n v) = ×_prop le_prop (×_prop le_prop (×_prop le_prop (×_prop (→_prop le_prop) (→_prop le_prop))))
 IsSpotWithin-prop (Divided v) = le_prop
-IsSpotWithin-prop (Below v d) = le_prop
+IsSpotWithin-prop (Below v d) = ×_prop le_prop (×_prop le_prop le_prop)
 IsSpotWithin-prop Begin = Unit-prop
 IsSpotWithin-prop Signed = Unit-prop
 IsSpotWithin-prop Behind = Unit-prop
