@@ -7,3 +7,4 @@ pub mod Shown
 pub mod Texts
 pub mod TypeNumbers
 pub mod TypeTexts
+pub mod WrittenView

@@ -1,5 +1,5 @@
 -- What is written of the planes of an orientation.
-use Rattle.std.specs.Prelude.{ℕ, ℤ, List, ◌++◌, codes, decimal, flat_map}
+use Rattle.std.specs.Prelude.{ℕ, List, ◌++◌, codes, decimal, flat_map}
 use Rattle.std.specs.Fmt.{signed_decimal}
 use Rattle.fractions.specs.Fractions.{Fractions}
 use Rattle.fractions.specs.RatioText.{ratio_text}
@@ -38,7 +38,7 @@ abbrev pub fractions_text : Fractions → List ℕ
 fractions_text v = ratio_text v.x ++ codes "," ++ ratio_text v.y ++ codes "," ++ ratio_text v.z
 
 -- the lines of the orientation, the period and the vectors of the frame
-abbrev pub frame_text : Report → List ℕ
+unfoldable pub frame_text : Report → List ℕ
 frame_text report =
     codes "plane" ++ indices_text report.row ++ codes "\n" ++
     codes "period " ++ number_text report.period ++ codes "\n" ++

@@ -4,8 +4,8 @@ ghost use Rattle.fractions.specs.FractionOf.{fraction_of};
 ghost use Rattle.motions.specs.Views.{motion_of};
 ghost use Rattle.report.specs.Texts.{at_text};
 
-use crate::lines::push_operations;
-use fractions::{Ratio, write_ratio};
+use crate::lines::write_operations;
+use fractions::Ratio;
 use motions::Motion3;
 use std::alloc::{AllocError, Global};
 
@@ -16,10 +16,8 @@ pub type NoMemory = AllocError;
 pub fn at_text(alloc: Global, s: Ratio, ops: &[Motion3]) -> Result<Vec<u8>, NoMemory>
     ensures { IfOk result (λ text. text.items ≡ at_text (fraction_of s) (map motion_of ops.now)) }
 {
-    let mut text = Vec::from_slice(alloc, b"height ")?;
-    text.extend_from_slice(&write_ratio(alloc, s)?)?;
-    text.extend_from_slice(b"\n")?;
-    push_operations(alloc, &mut text, ops)?;
-    text.extend_from_slice(b"end\n")?;
-    Ok(text)
+    let mut text = format!(in alloc; "height {s}\n")?;
+    write_operations(&mut text, ops)?;
+    text.push_str("end\n")?;
+    Ok(text.into_bytes())
 }

@@ -22,6 +22,7 @@ mod section;
 mod tests;
 mod text;
 mod types;
+mod written;
 
 pub use at::{NoMemory, at_text};
 pub use images::images_text;

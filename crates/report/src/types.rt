@@ -1,21 +1,19 @@
 // The texts of the types.
-ghost use Rattle.std.specs.Prelude.{◌≡◌, ◌++◌, All, IfOk, OnOk, map, flat_map};
+ghost use Rattle.std.specs.Prelude.{◌≡◌, ◌++◌, All, IfOk, OnOk, map, flat_map, string_bytes};
 ghost use Rattle.motions.specs.FriezeMotions.{frieze_of};
 ghost use Rattle.motions.specs.Layers.{HasHalfPart, planar_of};
 ghost use Rattle.report.specs.Texts.{operation_line};
 ghost use Rattle.report.specs.TypeNumbers.{IsTypeNumber};
-ghost use Rattle.report.specs.TypeTexts.{block_of_layer, block_of_rod, centring_line, frieze_line, type_line, IsTypeText};
+ghost use Rattle.report.specs.TypeTexts.{block_of_layer, block_of_rod, centring_line, frieze_line, IsTypeText};
 ghost use Rattle.report.specs.declared.kind.Kind.TheVariants.{Layer, Rod, Frieze};
 
 use crate::at::NoMemory;
 use crate::kind::Kind;
-use crate::lines::push_operation;
-use itoa::Buffer;
+use crate::lines::write_operation;
 use layer_types::layer;
 use line_types::{frieze, rod};
 use motions::{FriezeMotion, LayerMotion, RodMotion};
 use std::alloc::Global;
-use triplets::write_frieze;
 
 /// The text of a type: its kind, number and symbol, for a centred layer type the centring vector, a line `op` for each
 /// operation in the order of the table, and `end`.
@@ -40,12 +38,12 @@ fn layer_text(alloc: Global, n: u8) -> Result<Vec<u8>, NoMemory>
     let Some(layer_type) = layer(n) else {
         unreachable!()
     };
-    let mut text = Vec::new(alloc);
-    push_type(&mut text, b"layer", n, layer_type.symbol)?;
-    push_centring(&mut text, layer_type.centred)?;
-    push_layer_operations(alloc, &mut text, layer_type.ops)?;
-    text.extend_from_slice(b"end\n")?;
-    Ok(text)
+    let symbol = layer_type.symbol;
+    let mut text = format!(in alloc; "layer {n} {symbol}\n")?;
+    write_centring(&mut text, layer_type.centred)?;
+    write_layer_operations(&mut text, layer_type.ops)?;
+    text.push_str("end\n")?;
+    Ok(text.into_bytes())
 }
 
 fn rod_text(alloc: Global, n: u8) -> Result<Vec<u8>, NoMemory>
@@ -55,11 +53,11 @@ fn rod_text(alloc: Global, n: u8) -> Result<Vec<u8>, NoMemory>
     let Some(rod_type) = rod(n) else {
         unreachable!()
     };
-    let mut text = Vec::new(alloc);
-    push_type(&mut text, b"rod", n, rod_type.symbol)?;
-    push_rod_operations(alloc, &mut text, rod_type.ops)?;
-    text.extend_from_slice(b"end\n")?;
-    Ok(text)
+    let symbol = rod_type.symbol;
+    let mut text = format!(in alloc; "rod {n} {symbol}\n")?;
+    write_rod_operations(&mut text, rod_type.ops)?;
+    text.push_str("end\n")?;
+    Ok(text.into_bytes())
 }
 
 fn frieze_text(alloc: Global, n: u8) -> Result<Vec<u8>, NoMemory>
@@ -69,96 +67,67 @@ fn frieze_text(alloc: Global, n: u8) -> Result<Vec<u8>, NoMemory>
     let Some(frieze_type) = frieze(n) else {
         unreachable!()
     };
-    let mut text = Vec::new(alloc);
-    push_type(&mut text, b"frieze", n, frieze_type.symbol)?;
-    push_frieze_operations(alloc, &mut text, frieze_type.ops)?;
-    text.extend_from_slice(b"end\n")?;
-    Ok(text)
-}
-
-// The line of the kind, the number and the symbol.
-fn push_type(text: &mut Vec<u8>, kind: &[u8], number: u8, symbol: &str) -> Result<(), NoMemory>
-    ensures { OnOk result (text.new.items ≡ text.old.items ++ type_line kind.now number symbol.now) }
-{
-    let mut buffer = Buffer::new();
-    text.extend_from_slice(kind)?;
-    text.push(b' ')?;
-    text.extend_from_slice(buffer.format(number).as_bytes())?;
-    text.push(b' ')?;
-    text.extend_from_slice(symbol.as_bytes())?;
-    text.push(b'\n')?;
-    Ok(())
+    let symbol = frieze_type.symbol;
+    let mut text = format!(in alloc; "frieze {n} {symbol}\n")?;
+    write_frieze_operations(&mut text, frieze_type.ops)?;
+    text.push_str("end\n")?;
+    Ok(text.into_bytes())
 }
 
 // The line of the centring vector, at a type that is centred.
-fn push_centring(text: &mut Vec<u8>, centred: bool) -> Result<(), NoMemory>
-    ensures { OnOk result (text.new.items ≡ text.old.items ++ centring_line centred) }
+fn write_centring(text: &mut String, centred: bool) -> Result<(), NoMemory>
+    ensures { OnOk result (string_bytes text.new ≡ string_bytes text.old ++ centring_line centred) }
 {
     if centred {
-        text.extend_from_slice(b"centring 1/2,1/2,0\n")?;
+        text.push_str("centring 1/2,1/2,0\n")?;
     }
     Ok(())
 }
 
 // The lines of operations whose translations are whole numbers of parts.
-fn push_layer_operations(
-    alloc: Global,
-    text: &mut Vec<u8>,
-    ops: &[LayerMotion],
-) -> Result<(), NoMemory>
+fn write_layer_operations(text: &mut String, ops: &[LayerMotion]) -> Result<(), NoMemory>
     requires { All (λ m. ¬ HasHalfPart m) (map planar_of ops.now) }
-    ensures { OnOk result (text.new.items
-        ≡ text.old.items ++ flat_map operation_line (map block_of_layer ops.now)) }
+    ensures { OnOk result (string_bytes text.new
+        ≡ string_bytes text.old ++ flat_map operation_line (map block_of_layer ops.now)) }
 {
     for m in ops {
-        push_layer_operation(alloc, text, m)?;
+        write_layer_operation(text, m)?;
     }
     Ok(())
 }
 
-fn push_layer_operation(alloc: Global, text: &mut Vec<u8>, m: &LayerMotion) -> Result<(), NoMemory>
+fn write_layer_operation(text: &mut String, m: &LayerMotion) -> Result<(), NoMemory>
     requires { ¬ HasHalfPart (planar_of m.now) }
-    ensures { OnOk result (text.new.items
-        ≡ text.old.items ++ operation_line (block_of_layer m.now)) }
+    ensures { OnOk result (string_bytes text.new ≡ string_bytes text.old ++ operation_line (block_of_layer m.now)) }
 {
     let Some(block) = m.triple() else {
         unreachable!()
     };
-    push_operation(alloc, text, &block)
+    write_operation(text, &block)
 }
 
-fn push_rod_operations(alloc: Global, text: &mut Vec<u8>, ops: &[RodMotion]) -> Result<(), NoMemory>
-    ensures { OnOk result (text.new.items
-        ≡ text.old.items ++ flat_map operation_line (map block_of_rod ops.now)) }
+fn write_rod_operations(text: &mut String, ops: &[RodMotion]) -> Result<(), NoMemory>
+    ensures { OnOk result (string_bytes text.new
+        ≡ string_bytes text.old ++ flat_map operation_line (map block_of_rod ops.now)) }
 {
     for m in ops {
-        push_operation(alloc, text, &m.triple())?;
+        write_operation(text, &m.triple())?;
     }
     Ok(())
 }
 
-fn push_frieze_operations(
-    alloc: Global,
-    text: &mut Vec<u8>,
-    ops: &[FriezeMotion],
-) -> Result<(), NoMemory>
-    ensures { OnOk result (text.new.items ≡ text.old.items ++ flat_map frieze_line (map frieze_of ops.now)) }
+fn write_frieze_operations(text: &mut String, ops: &[FriezeMotion]) -> Result<(), NoMemory>
+    ensures { OnOk result (string_bytes text.new ≡ string_bytes text.old ++ flat_map frieze_line (map frieze_of ops.now)) }
 {
     for m in ops {
-        push_frieze_operation(alloc, text, m)?;
+        write_frieze_operation(text, m)?;
     }
     Ok(())
 }
 
-fn push_frieze_operation(
-    alloc: Global,
-    text: &mut Vec<u8>,
-    m: &FriezeMotion,
-) -> Result<(), NoMemory>
-    ensures { OnOk result (text.new.items ≡ text.old.items ++ frieze_line (frieze_of m.now)) }
+fn write_frieze_operation(text: &mut String, m: &FriezeMotion) -> Result<(), NoMemory>
+    ensures { OnOk result (string_bytes text.new ≡ string_bytes text.old ++ frieze_line (frieze_of m.now)) }
 {
-    text.extend_from_slice(b"op ")?;
-    text.extend_from_slice(&write_frieze(alloc, m)?)?;
-    text.extend_from_slice(b"\n")?;
-    Ok(())
+    let parts = triplets::Frieze(m);
+    write!(text, "op {parts}\n")
 }

@@ -1,4 +1,5 @@
 use Rattle.std.proofs.Common.{[], ◌∙◌, arith}
+use Rattle.std.specs.Prelude.{string_bytes}
 use Rattle.motions.specs.Views.{vector_of}
 use Rattle.report.specs.Texts.{image_line}
 use Rattle.report.proofs.TextLines.{one_line_more}
@@ -6,5 +7,5 @@ use Rattle.report.proofs.images.images_text.Goals as goal
 
 pub loop-image-preserved : goal.loop-image-preserved
 loop-image-preserved c =
-    c.in_ok-push_image.ensures
-    ∙ one_line_more image_line vector_of [] c.loop-image.text.items c.args.images.now c.loop-image.image-index _ (omega arith) c.loop-image.invariant
+    c.in_ok-write_image.ensures
+    ∙ one_line_more image_line vector_of [] (string_bytes c.loop-image.text) c.args.images.now c.loop-image.image-index _ (omega arith) c.loop-image.invariant

@@ -1,14 +1,15 @@
 use Rattle.std.proofs.Common.{◌++◌}
-use Rattle.std.specs.Prelude.{codes}
+use Rattle.std.specs.Prelude.{codes, string_bytes}
 use Rattle.motions.specs.Views.{parts, row_of}
 use Rattle.triplets.specs.Writing.{number_text}
-use Rattle.report.specs.Texts.{indices_text, vector_text}
+use Rattle.report.specs.Texts.{frame_text, indices_text, vector_text}
 use Rattle.report.proofs.TextLines.{three_pieces_more}
-use Rattle.report.proofs.text.push_frame.Goals as goal
+use Rattle.report.proofs.text.write_frame.Goals as goal
 
 pub returns : goal.returns
+unfolding frame_text
 returns c =
-    let t = c.args.text.now.items in
+    let t = string_bytes c.args.text.now in
     let frame = c.args.report.now.frame in
     let plane = codes "plane" ++ indices_text (row_of frame.plane) ++ codes "\n" in
     let period = plane ++ codes "period " ++ number_text frame.period.0 ++ codes "\n" in
@@ -19,8 +20,8 @@ returns c =
     (three_pieces_more t b (codes "tau ") _ (codes "\n")
     (three_pieces_more t a (codes "b ") _ (codes "\n")
     (three_pieces_more t period (codes "a ") _ (codes "\n")
-    (three_pieces_more t plane (codes "period ") _ (codes "\n") c.in_ok-push_plane.ensures c.in_ok-push_period.ensures)
-    c.in_ok-push_vector_line.ensures)
-    c.in_ok-push_vector_line-2.ensures)
-    c.in_ok-push_vector_line-3.ensures)
-    c.in_ok-push_mean.ensures
+    (three_pieces_more t plane (codes "period ") _ (codes "\n") c.in_ok-write_plane.ensures c.in_ok-write_period.ensures)
+    c.in_ok-write_vector.ensures)
+    c.in_ok-write_vector-2.ensures)
+    c.in_ok-write_vector-3.ensures)
+    c.in_ok-write_mean.ensures

@@ -1,9 +1,0 @@
-use Rattle.std.proofs.Common.{◌≡◌, ◌++◌, map, take}
-use Rattle.std.specs.Prelude.{flat_map}
-use Rattle.report.specs.Texts.{operation_line}
-use Rattle.report.specs.TypeTexts.{block_of_layer}
-use Rattle.report.proofs.types.push_layer_operations.Given as goal
-
-abbrev pub invariant-loop-m : goal.invariant-loop-m
-invariant-loop-m l =
-    l.text.items ≡ l.initial.text.items ++ flat_map operation_line (map block_of_layer (take l.m-index l.ops))
