@@ -21,8 +21,8 @@ use Rattle.symmetry.proofs.Signs.{row_sign, sign-square, sign_is}
 use Rattle.symmetry.proofs.VectorLaws.{vector_path, dot-multiple, dot-origin, dot-plus, multiple-dot, multiple-multiple, multiple-one}
 use Rattle.motions.specs.Layers.{planar_of}
 use Rattle.motions.specs.declared.layer.LayerMotion.{LayerMotion}
-use Rattle.motions.specs.Rationals.{InSection, RationalMotion, SameRationals, rational_of}
-use Rattle.plane_lattice.specs.Sections.{AreSeenAs, DifferByWhole, InGeneralSection, InSectionAt, IsSeenAs, IsSeenFrom, height_in_steps, in_cell, point_at}
+use Rattle.motions.specs.Rationals.{DifferByWhole, InSection, RationalMotion, SameRationals, rational_of}
+use Rattle.plane_lattice.specs.Sections.{AreSeenAs, InGeneralSection, InSectionAt, IsSeenAs, IsSeenFrom, height_in_steps, in_cell, point_at}
 use Rattle.plane_lattice.proofs.SeenPoints.{IsSamePoint, seen_along, seen_same_point}
 use Rattle.plane_lattice.proofs.SectionSets.{matrix_once, section_by_list, section_once, shift_once, side_once}
 

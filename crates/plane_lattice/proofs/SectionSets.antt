@@ -22,11 +22,11 @@ use Rattle.motions.specs.declared.motion.Sign.TheVariants.{Plus, Minus}
 use Rattle.motions.specs.Layers.{planar_of}
 use Rattle.motions.specs.PlaneMatrices.{Pair}
 use Rattle.motions.specs.PlaneViews.{matrix2_of, pair_of}
-use Rattle.motions.specs.Rationals.{InSection, IsWhole, RationalMotion, SameRationals, in_edges, rational_minus, rational_of}
+use Rattle.motions.specs.Rationals.{DifferByWhole, InSection, IsWhole, RationalMotion, SameRationals, in_edges, rational_minus, rational_of}
 use Rattle.motions.specs.Signs.{sign_value}
 use Rattle.plane_lattice.specs.Coordinates.{scaled, volume}
 use Rattle.plane_lattice.specs.Laws.QuotientLaws.{combination-plus}
-use Rattle.plane_lattice.specs.Sections.{AreSeenAs, DifferByWhole, IsSeenAs, IsSeenFrom, flat}
+use Rattle.plane_lattice.specs.Sections.{AreSeenAs, IsSeenAs, IsSeenFrom, flat}
 use Rattle.plane_lattice.proofs.Cramer.{multiple_cancel}
 use Rattle.plane_lattice.proofs.FrameTestFacts.{volume_positive}
 use Rattle.plane_lattice.proofs.SectionFacts.{flat-combination}

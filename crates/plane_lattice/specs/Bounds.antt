@@ -22,7 +22,7 @@ largest_combined = 3 * (largest_scaled * largest_entry)
 
 -- an entry of the image of such a vector under a matrix whose entries are at most 500 in size
 abbrev pub largest_turned : ℕ
-largest_turned = 500 * largest_entry + 500 * largest_entry + 500 * largest_entry
+largest_turned = 1500 * largest_entry
 
 -- an entry of the sum of such images, one for each operation of a group
 abbrev pub largest_total : ℕ

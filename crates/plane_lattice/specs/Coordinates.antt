@@ -4,7 +4,7 @@ use Rattle.std.specs.Int.{int_div_euclid, w64}
 use Rattle.fractions.specs.declared.part.Part.{Part}
 use Rattle.fractions.specs.declared.part.TheConstants.{UNIT}
 use Rattle.motions.specs.Views.{parts}
-use Rattle.symmetry.specs.Vectors.{Vector, dot, cross}
+use Rattle.symmetry.specs.Vectors.{Vector, Matrix, dot, cross}
 use Rattle.symmetry.specs.Frames.{Basis, combination}
 
 -- three arrays of parts as three vectors
@@ -14,6 +14,10 @@ vectors a b tau = record { a = parts a; b = parts b; tau = parts tau }
 -- the volume of the cell that the three vectors span
 abbrev pub volume : Basis → ℤ
 volume f = dot (cross f.a f.b) f.tau
+
+-- the dual basis times the volume: three cross products as rows
+abbrev pub dual_rows : Basis → Matrix
+dual_rows f = record { first = cross f.b f.tau; second = cross f.tau f.a; third = cross f.a f.b }
 
 -- the coordinates of a vector, times the volume (Cramer's rule)
 abbrev pub scaled : Basis → Vector → Vector

@@ -1,4 +1,4 @@
-// Coordinates of vectors in a basis, by Cramer's rule.
+// The arithmetic of coordinates in a basis: products in 128 bits, and what is left of a vector.
 ghost use Rattle.std.specs.Prelude.{◌≡◌, ℤ, ◌+ℤ◌, ◌-ℤ◌, ◌*◌, ◌*ℤ◌, ◌^◌, ◌≤ℤ◌, pos, ◌↔◌, FitsSigned, IsTrue, MatchOption};
 ghost use Rattle.std.specs.Int.{int_div_euclid, int_rem_euclid, w64};
 ghost use Rattle.fractions.specs.declared.part.TheConstants.{UNIT};
@@ -13,27 +13,6 @@ ghost use Rattle.plane_lattice.specs.Coordinates.{floors, IsCombination, IsPlane
 
 use fractions::{Part, UNIT};
 use motions::Basis;
-
-/// The volume of the cell that the basis spans: positive where the basis is right-handed.
-pub(crate) fn volume(basis: &Basis) -> i128
-    ensures is { result ≡ volume (basis_of basis.now) }
-    ensures small { IsWithin largest_scaled result }
-{
-    row_by_column(&cross(&basis.a, &basis.b), &basis.tau)
-}
-
-/// The coordinates of a vector in the basis, times the volume. Each entry is at most 2^52 parts in size.
-pub(crate) fn scaled(basis: &Basis, v: &[Part; 3]) -> [i128; 3]
-    requires { IsVectorWithin (2 ^ 52) (parts v.now) }
-    ensures is { vector_of result ≡ scaled (basis_of basis.now) (parts v.now) }
-    ensures small { IsVectorWithin largest_scaled (vector_of result) }
-{
-    [
-        row_by_column(&cross(&basis.b, &basis.tau), v),
-        row_by_column(&cross(&basis.tau, &basis.a), v),
-        row_by_column(&cross(&basis.a, &basis.b), v),
-    ]
-}
 
 /// A row times a column.
 #[tactic(auto, unfolding(symmetry::specs::Vectors::dot))]
@@ -81,36 +60,6 @@ fn minor(a: Part, b: Part, c: Part, d: Part) -> i64
     ensures small { IsWithin largest_cross result }
 {
     a.0 * d.0 - b.0 * c.0
-}
-
-/// The coordinates of a vector in the basis, where these are whole numbers. None comes exactly where they are not.
-pub(crate) fn coordinates(basis: &Basis, v: &[Part; 3]) -> Option<[i128; 3]>
-    requires vector { IsVectorWithin (2 ^ 52) (parts v.now) }
-    requires volume { pos 1 ≤ℤ volume (basis_of basis.now) }
-    ensures { MatchOption result (¬ IsCombination (basis_of basis.now) (parts v.now))
-        (λ c. combination (basis_of basis.now) (vector_of c) ≡ parts v.now) }
-{
-    let volume = volume(basis);
-    let [x, y, z] = scaled(basis, v);
-    Some([
-        whole_quotient(x, volume)?,
-        whole_quotient(y, volume)?,
-        whole_quotient(z, volume)?,
-    ])
-}
-
-/// The quotient of two numbers, where it is a whole number. None comes exactly where it is not.
-fn whole_quotient(x: i128, d: i128) -> Option<i128>
-    requires x { IsWithin largest_scaled x }
-    requires d { IsWithin largest_scaled d }
-    requires positive { pos 1 ≤ℤ d }
-    ensures { MatchOption result ((q : ℤ) → ¬ (d *ℤ q ≡ x)) (λ q. d *ℤ q ≡ x) }
-{
-    if x.rem_euclid(d) == 0 {
-        Some(x.div_euclid(d))
-    } else {
-        None
-    }
 }
 
 /// The quotient of two numbers, rounded down.
@@ -191,16 +140,4 @@ pub(crate) fn edge_coordinate(x: i128, d: i128) -> i64
     ensures { d *ℤ result ≡ x *ℤ UNIT }
 {
     (x * UNIT as i128).div_euclid(d) as i64
-}
-
-/// Whether a vector is a whole combination of a and b.
-pub(crate) fn is_in_plane(basis: &Basis, v: &[Part; 3]) -> bool
-    requires vector { IsVectorWithin (2 ^ 52) (parts v.now) }
-    requires volume { pos 1 ≤ℤ volume (basis_of basis.now) }
-    ensures { IsTrue result ↔ IsPlaneCombination (basis_of basis.now) (parts v.now) }
-{
-    match coordinates(basis, v) {
-        Some(c) => c[2] == 0,
-        None => false,
-    }
 }

@@ -7,7 +7,8 @@ ghost use Rattle.motions.specs.Views.{parts, row_of};
 ghost use Rattle.plane_lattice.specs.Bounds.{largest_entry};
 ghost use Rattle.plane_lattice.specs.Coordinates.{HoldsEdges, vectors, volume};
 
-use crate::coordinates::{edge_coordinate, scaled, volume};
+use crate::coordinates::edge_coordinate;
+use crate::dual_basis::DualBasis;
 use fractions::{Part, Ratio};
 use motions::{Basis, Miller};
 
@@ -57,6 +58,13 @@ impl Frame {
         }
     }
 
+    /// Their dual basis.
+    pub fn dual(&self) -> DualBasis
+        ensures { basis_of result.basis ≡ basis_of_frame self.now }
+    {
+        DualBasis::make(self.basis())
+    }
+
     /// The numbers x, y and z of parts for which x a + y b + z tau is the vector, counted in parts of these too.
     ///
     /// Each entry of the vector is at most 2^52 in size, and each of the three numbers fits an `i64`.
@@ -65,13 +73,12 @@ impl Frame {
         requires fits { (c : Vector) → combination (basis_of_frame self.now) c ≡ multiple UNIT (parts v) → FitsWord c }
         ensures { combination (basis_of_frame self.now) (vector_of result) ≡ multiple UNIT (parts v) }
     {
-        let basis = self.basis();
-        let volume = volume(&basis);
-        let [x, y, z] = scaled(&basis, &v);
+        let dual = self.dual();
+        let [x, y, z] = dual.scaled(&v);
         [
-            edge_coordinate(x, volume),
-            edge_coordinate(y, volume),
-            edge_coordinate(z, volume),
+            edge_coordinate(x, dual.volume),
+            edge_coordinate(y, dual.volume),
+            edge_coordinate(z, dual.volume),
         ]
     }
 }

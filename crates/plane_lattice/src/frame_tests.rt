@@ -9,26 +9,27 @@ ghost use Rattle.plane_lattice.specs.Bounds.{largest_entry, largest_period};
 ghost use Rattle.plane_lattice.specs.Coordinates.{HoldsEdges, IsCombination, volume};
 ghost use Rattle.plane_lattice.specs.FrameTests.{IsOriented};
 
-use crate::coordinates::{coordinates, row_by_column, volume};
+use crate::coordinates::row_by_column;
+use crate::dual_basis::DualBasis;
 use fractions::{Part, UNIT};
-use motions::{Basis, Miller};
+use motions::Miller;
 
 /// Whether a and b lie in the planes, tau points above them, and a and b are right-handed seen from there.
-pub(crate) fn is_oriented(plane: &Miller, basis: &Basis) -> bool
-    ensures { IsTrue result ↔ IsOriented (row_of plane.now) (basis_of basis.now) }
+pub(crate) fn is_oriented(plane: &Miller, dual: &DualBasis) -> bool
+    ensures { IsTrue result ↔ IsOriented (row_of plane.now) (basis_of dual.now.basis) }
 {
-    if level(plane, &basis.a) != 0 || level(plane, &basis.b) != 0 {
+    if height_of(plane, &dual.basis.a) != 0 || height_of(plane, &dual.basis.b) != 0 {
         return false;
     }
-    if level(plane, &basis.tau) <= 0 {
+    if height_of(plane, &dual.basis.tau) <= 0 {
         return false;
     }
     // The cross product of a and b is c (hkl), and the volume is c (hkl).tau.
-    volume(basis) > 0
+    dual.volume > 0
 }
 
 /// The number (hkl).v of a vector.
-pub(crate) fn level(plane: &Miller, v: &[Part; 3]) -> i128
+pub(crate) fn height_of(plane: &Miller, v: &[Part; 3]) -> i128
     requires { IsVectorWithin largest_entry (parts v.now) }
     ensures is { result ≡ dot (row_of plane.now) (parts v.now) }
     ensures small { IsWithin largest_period result }
@@ -38,27 +39,27 @@ pub(crate) fn level(plane: &Miller, v: &[Part; 3]) -> i128
 }
 
 /// Whether each cell edge is a whole combination of the basis.
-pub(crate) fn holds_edges(basis: &Basis) -> bool
-    requires { pos 1 ≤ℤ volume (basis_of basis.now) }
-    ensures { IsTrue result ↔ HoldsEdges (basis_of basis.now) }
+pub(crate) fn holds_edges(dual: &DualBasis) -> bool
+    requires { pos 1 ≤ℤ volume (basis_of dual.now.basis) }
+    ensures { IsTrue result ↔ HoldsEdges (basis_of dual.now.basis) }
 {
-    if !is_combination(basis, &[Part(UNIT), Part(0), Part(0)]) {
+    if !is_combination(dual, &[Part(UNIT), Part(0), Part(0)]) {
         return false;
     }
-    if !is_combination(basis, &[Part(0), Part(UNIT), Part(0)]) {
+    if !is_combination(dual, &[Part(0), Part(UNIT), Part(0)]) {
         return false;
     }
-    is_combination(basis, &[Part(0), Part(0), Part(UNIT)])
+    is_combination(dual, &[Part(0), Part(0), Part(UNIT)])
 }
 
 /// Whether each of the vectors is a whole combination of the basis.
-pub(crate) fn holds_all(basis: &Basis, vectors: &[[Part; 3]]) -> bool
-    requires volume { pos 1 ≤ℤ volume (basis_of basis.now) }
+pub(crate) fn holds_all(dual: &DualBasis, vectors: &[[Part; 3]]) -> bool
+    requires volume { pos 1 ≤ℤ volume (basis_of dual.now.basis) }
     requires vectors { All (λ v. IsVectorWithin (2 ^ 52) (parts v)) vectors.now }
-    ensures { IsTrue result ↔ All (λ v. IsCombination (basis_of basis.now) (parts v)) vectors.now }
+    ensures { IsTrue result ↔ All (λ v. IsCombination (basis_of dual.now.basis) (parts v)) vectors.now }
 {
     for v in vectors {
-        if !is_combination(basis, v) {
+        if !is_combination(dual, v) {
             return false;
         }
     }
@@ -66,10 +67,10 @@ pub(crate) fn holds_all(basis: &Basis, vectors: &[[Part; 3]]) -> bool
 }
 
 /// Whether a vector is a whole combination of the basis.
-fn is_combination(basis: &Basis, v: &[Part; 3]) -> bool
-    requires volume { pos 1 ≤ℤ volume (basis_of basis.now) }
+fn is_combination(dual: &DualBasis, v: &[Part; 3]) -> bool
+    requires volume { pos 1 ≤ℤ volume (basis_of dual.now.basis) }
     requires vector { IsVectorWithin (2 ^ 52) (parts v.now) }
-    ensures { IsTrue result ↔ IsCombination (basis_of basis.now) (parts v.now) }
+    ensures { IsTrue result ↔ IsCombination (basis_of dual.now.basis) (parts v.now) }
 {
-    coordinates(basis, v).is_some()
+    dual.coordinates(v).is_some()
 }

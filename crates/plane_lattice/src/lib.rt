@@ -2,12 +2,14 @@
 // next of the same kind.
 //
 // Promises to the crates above: `Frame::make` gives exactly the frames of a group and an orientation that are not
-// skewed, with the period and the vector c', and else names what is wrong; `coords` gives coordinates in a frame;
-// motions are taken modulo the plane lattice, and `home` brings each to the one at home; `section` tells what a motion
-// does to a plane, as a motion of a layer, exactly where it maps the plane to itself.
+// skewed, with the period and the vector c', and else names what is wrong; `coords` gives coordinates in a frame, and
+// `DualBasis` those in any three vectors; motions are taken modulo the plane lattice, and `home` brings each to the one
+// at home; `section` tells what a motion does to a plane, as a motion of a layer, exactly where it maps the plane to
+// itself.
 #![tactic(auto)]
 
 mod coordinates;
+mod dual_basis;
 mod frame;
 mod frame_tests;
 mod images;
@@ -20,6 +22,7 @@ mod space;
 #[cfg(test)]
 mod tests;
 
+pub use dual_basis::DualBasis;
 pub use frame::Frame;
 pub use laws::{
     general_section_by_list, mean_is_above, one_general_section, section_by_list,

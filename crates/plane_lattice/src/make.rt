@@ -8,8 +8,9 @@ ghost use Rattle.motions.specs.Views.{row_of};
 ghost use Rattle.closure.specs.Groups.{group_listing};
 ghost use Rattle.plane_lattice.specs.Coordinates.{IsCombination, volume};
 
+use crate::dual_basis::DualBasis;
 use crate::frame::Frame;
-use crate::frame_tests::{holds_all, holds_edges, is_oriented, level};
+use crate::frame_tests::{holds_all, holds_edges, height_of, is_oriented};
 use crate::means::mean;
 use crate::skews::is_skewed;
 use closure::Group;
@@ -31,14 +32,15 @@ impl Frame {
         ensures ok { IfOk result (IsFrameOf group.now plane basis) }
         ensures faults { (fault : FrameFault) → (result ≡ Err fault) ↔ IsFrameFault group.now plane basis fault }
     {
-        if !is_frame(group, &plane, &basis) {
+        let dual = DualBasis::make(basis);
+        if !is_frame(group, &plane, &dual) {
             return Err(FrameFault::NotFrame);
         }
-        if is_skewed_frame(group, &plane, &basis) {
+        if is_skewed_frame(group, &plane, &dual) {
             return Err(FrameFault::Skewed);
         }
         let Basis { a, b, tau } = basis;
-        let period = Part(level(&plane, &tau) as i64);
+        let period = Part(height_of(&plane, &tau) as i64);
         let c = mean(group.ops(), &plane, &tau);
         Ok(Frame {
             plane,
@@ -52,44 +54,44 @@ impl Frame {
 }
 
 /// Whether the basis is a frame of the group and the orientation.
-fn is_frame(group: &Group, plane: &Miller, basis: &Basis) -> bool
-    ensures { IsTrue result ↔ IsFrame (group_listing group.now) (row_of plane.now) (basis_of basis.now) }
+fn is_frame(group: &Group, plane: &Miller, dual: &DualBasis) -> bool
+    ensures { IsTrue result ↔ IsFrame (group_listing group.now) (row_of plane.now) (basis_of dual.now.basis) }
 {
-    if !has_vectors(group, basis) {
+    if !has_vectors(group, dual) {
         return false;
     }
-    if !is_oriented(plane, basis) {
+    if !is_oriented(plane, dual) {
         return false;
     }
-    spans_lattice(group, basis)
+    spans_lattice(group, dual)
 }
 
 /// Whether a, b and tau are in the lattice.
-fn has_vectors(group: &Group, basis: &Basis) -> bool
+fn has_vectors(group: &Group, dual: &DualBasis) -> bool
     ensures { IsTrue result
-        ↔ (IsInLattice (group_listing group.now) (basis_of basis.now).a
-        × IsInLattice (group_listing group.now) (basis_of basis.now).b
-        × IsInLattice (group_listing group.now) (basis_of basis.now).tau) }
+        ↔ (IsInLattice (group_listing group.now) (basis_of dual.now.basis).a
+        × IsInLattice (group_listing group.now) (basis_of dual.now.basis).b
+        × IsInLattice (group_listing group.now) (basis_of dual.now.basis).tau) }
 {
-    group.has(basis.a) && group.has(basis.b) && group.has(basis.tau)
+    group.has(dual.basis.a) && group.has(dual.basis.b) && group.has(dual.basis.tau)
 }
 
 /// Whether each vector of the lattice is a whole combination of the basis.
-fn spans_lattice(group: &Group, basis: &Basis) -> bool
-    requires { pos 1 ≤ℤ volume (basis_of basis.now) }
+fn spans_lattice(group: &Group, dual: &DualBasis) -> bool
+    requires { pos 1 ≤ℤ volume (basis_of dual.now.basis) }
     ensures { IsTrue result
-        ↔ ((v : Vector) → IsInLattice (group_listing group.now) v → IsCombination (basis_of basis.now) v) }
+        ↔ ((v : Vector) → IsInLattice (group_listing group.now) v → IsCombination (basis_of dual.now.basis) v) }
 {
-    if !holds_edges(basis) {
+    if !holds_edges(dual) {
         return false;
     }
-    holds_all(basis, group.lattice().residues())
+    holds_all(dual, group.lattice().residues())
 }
 
 /// Whether an operation that keeps the orientation has a matrix entry above 500 in size, written in the basis.
-fn is_skewed_frame(group: &Group, plane: &Miller, basis: &Basis) -> bool
-    requires { pos 1 ≤ℤ volume (basis_of basis.now) }
-    ensures { IsTrue result ↔ IsSkewed (group_listing group.now) (row_of plane.now) (basis_of basis.now) }
+fn is_skewed_frame(group: &Group, plane: &Miller, dual: &DualBasis) -> bool
+    requires { pos 1 ≤ℤ volume (basis_of dual.now.basis) }
+    ensures { IsTrue result ↔ IsSkewed (group_listing group.now) (row_of plane.now) (basis_of dual.now.basis) }
 {
-    is_skewed(group.ops(), plane, basis)
+    is_skewed(group.ops(), plane, dual)
 }

@@ -13,12 +13,12 @@ ghost use Rattle.plane_lattice.specs.Bounds.{largest_entry, largest_turned};
 ghost use Rattle.plane_lattice.specs.Coordinates.{IsPlaneCombination, volume};
 ghost use Rattle.plane_lattice.specs.Sections.{columns, drift, flat};
 
-use crate::coordinates::coordinates;
+use crate::dual_basis::DualBasis;
 use crate::frame::Frame;
 use crate::images::image;
 use closure::Group;
 use fractions::{Part, UNIT};
-use motions::{Basis, LayerMotion, Motion3, side};
+use motions::{LayerMotion, Motion3, side};
 
 impl Frame {
     ghost use Rattle.std.specs.Prelude.{IfSome, List};
@@ -61,10 +61,10 @@ impl Frame {
         ensures near { IfSome result (λ n. IsPairWithin largest_drift (planar_of n).shift) }
     {
         let e = side(m, &self.plane)?;
-        let basis = self.basis();
-        let first = coordinates_in_plane(&basis, &image(m, &basis.a))?;
-        let second = coordinates_in_plane(&basis, &image(m, &basis.b))?;
-        let t = coordinates_in_plane(&basis, &drift(m, &basis.tau, steps))?;
+        let dual = self.dual();
+        let first = coordinates_in_plane(&dual, &image(m, &dual.basis.a))?;
+        let second = coordinates_in_plane(&dual, &image(m, &dual.basis.b))?;
+        let t = coordinates_in_plane(&dual, &drift(m, &dual.basis.tau, steps))?;
         Some(LayerMotion {
             a: matrix_of_columns(&first, &second),
             e,
@@ -74,14 +74,14 @@ impl Frame {
 }
 
 /// The coordinates of a vector in a and b. None comes exactly where it is no whole combination of these.
-fn coordinates_in_plane(basis: &Basis, v: &[Part; 3]) -> Option<[i64; 2]>
+fn coordinates_in_plane(dual: &DualBasis, v: &[Part; 3]) -> Option<[i64; 2]>
     requires vector { IsVectorWithin (2 ^ 52) (parts v.now) }
-    requires volume { pos 1 ≤ℤ volume (basis_of basis.now) }
-    requires near { (c : Pair) → combination (basis_of basis.now) (flat c) ≡ parts v.now → IsPairWithin (2 ^ 40) c }
-    ensures { MatchOption result (¬ IsPlaneCombination (basis_of basis.now) (parts v.now))
-        (λ c. combination (basis_of basis.now) (flat (pair_of c)) ≡ parts v.now) }
+    requires volume { pos 1 ≤ℤ volume (basis_of dual.now.basis) }
+    requires near { (c : Pair) → combination (basis_of dual.now.basis) (flat c) ≡ parts v.now → IsPairWithin (2 ^ 40) c }
+    ensures { MatchOption result (¬ IsPlaneCombination (basis_of dual.now.basis) (parts v.now))
+        (λ c. combination (basis_of dual.now.basis) (flat (pair_of c)) ≡ parts v.now) }
 {
-    match coordinates(basis, v) {
+    match dual.coordinates(v) {
         Some(c) => {
             if c[2] == 0 {
                 Some([c[0] as i64, c[1] as i64])

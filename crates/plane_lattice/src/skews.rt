@@ -10,23 +10,20 @@ ghost use Rattle.plane_lattice.specs.Bounds.{largest_entry};
 ghost use Rattle.plane_lattice.specs.Coordinates.{volume};
 ghost use Rattle.plane_lattice.specs.Skews.{IsFar, Skews};
 
-use crate::coordinates::coordinates;
+use crate::dual_basis::DualBasis;
 use crate::images::image;
 use fractions::Part;
-use motions::{Basis, Miller, Motion3, side};
-
-/// How large a matrix entry of a scanning operation may be, written in the basis.
-const MAX_COEFFICIENT: u128 = 500;
+use motions::{MAX_COEFFICIENT, Miller, Motion3, side};
 
 /// Whether an operation that keeps the orientation has a matrix entry above 500 in size, written in the basis.
-pub(crate) fn is_skewed(ops: &[Motion3], plane: &Miller, basis: &Basis) -> bool
+pub(crate) fn is_skewed(ops: &[Motion3], plane: &Miller, dual: &DualBasis) -> bool
     requires operations { All IsSmall (map motion_of ops.now) }
-    requires volume { pos 1 ≤ℤ volume (basis_of basis.now) }
+    requires volume { pos 1 ≤ℤ volume (basis_of dual.now.basis) }
     ensures { IsTrue result
-        ↔ ((m : Motion) × Contains (map motion_of ops.now) m × Skews (row_of plane.now) (basis_of basis.now) m) }
+        ↔ ((m : Motion) × Contains (map motion_of ops.now) m × Skews (row_of plane.now) (basis_of dual.now.basis) m) }
 {
     for m in ops {
-        if skews(m, plane, basis) {
+        if skews(m, plane, dual) {
             return true;
         }
     }
@@ -34,34 +31,36 @@ pub(crate) fn is_skewed(ops: &[Motion3], plane: &Miller, basis: &Basis) -> bool
 }
 
 /// Whether the operation keeps the orientation and has such a matrix entry.
-fn skews(m: &Motion3, plane: &Miller, basis: &Basis) -> bool
+fn skews(m: &Motion3, plane: &Miller, dual: &DualBasis) -> bool
     requires motion { IsSmall (motion_of m.now) }
-    requires volume { pos 1 ≤ℤ volume (basis_of basis.now) }
-    ensures { IsTrue result ↔ Skews (row_of plane.now) (basis_of basis.now) (motion_of m.now) }
+    requires volume { pos 1 ≤ℤ volume (basis_of dual.now.basis) }
+    ensures { IsTrue result ↔ Skews (row_of plane.now) (basis_of dual.now.basis) (motion_of m.now) }
 {
-    side(m, plane).is_some() && turns_far(m, basis)
+    side(m, plane).is_some() && turns_far(m, dual)
 }
 
 /// Whether the operation takes a, b or tau to a combination with a coefficient above 500 in size.
-fn turns_far(m: &Motion3, basis: &Basis) -> bool
+fn turns_far(m: &Motion3, dual: &DualBasis) -> bool
     requires motion { IsSmall (motion_of m.now) }
-    requires volume { pos 1 ≤ℤ volume (basis_of basis.now) }
+    requires volume { pos 1 ≤ℤ volume (basis_of dual.now.basis) }
     ensures { IsTrue result
-        ↔ (IsFar (basis_of basis.now) (image (motion_of m.now).matrix (basis_of basis.now).a)
-        ⊎ (IsFar (basis_of basis.now) (image (motion_of m.now).matrix (basis_of basis.now).b)
-        ⊎ IsFar (basis_of basis.now) (image (motion_of m.now).matrix (basis_of basis.now).tau))) }
+        ↔ (IsFar (basis_of dual.now.basis) (image (motion_of m.now).matrix (basis_of dual.now.basis).a)
+        ⊎ (IsFar (basis_of dual.now.basis) (image (motion_of m.now).matrix (basis_of dual.now.basis).b)
+        ⊎ IsFar (basis_of dual.now.basis) (image (motion_of m.now).matrix (basis_of dual.now.basis).tau))) }
 {
-    is_far(basis, m, &basis.a) || is_far(basis, m, &basis.b) || is_far(basis, m, &basis.tau)
+    is_far(dual, m, &dual.basis.a)
+        || is_far(dual, m, &dual.basis.b)
+        || is_far(dual, m, &dual.basis.tau)
 }
 
 /// Whether the image of a vector is a combination with a coefficient above 500 in size.
-fn is_far(basis: &Basis, m: &Motion3, v: &[Part; 3]) -> bool
+fn is_far(dual: &DualBasis, m: &Motion3, v: &[Part; 3]) -> bool
     requires motion { IsSmall (motion_of m.now) }
     requires vector { IsVectorWithin largest_entry (parts v.now) }
-    requires volume { pos 1 ≤ℤ volume (basis_of basis.now) }
-    ensures { IsTrue result ↔ IsFar (basis_of basis.now) (image (motion_of m.now).matrix (parts v.now)) }
+    requires volume { pos 1 ≤ℤ volume (basis_of dual.now.basis) }
+    ensures { IsTrue result ↔ IsFar (basis_of dual.now.basis) (image (motion_of m.now).matrix (parts v.now)) }
 {
-    match coordinates(basis, &image(m, v)) {
+    match dual.coordinates(&image(m, v)) {
         Some(c) => !are_within(&c),
         None => false,
     }

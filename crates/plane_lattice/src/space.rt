@@ -10,10 +10,11 @@ ghost use Rattle.plane_lattice.specs.FrameView.{basis_of_frame};
 ghost use Rattle.plane_lattice.specs.PlaneLattice.{IsPlaneShift, home_of_motion};
 ghost use Rattle.plane_lattice.specs.Laws.QuotientLaws.{plane_by_meaning, plane_shifts, plane_home_is_same, plane_homes};
 
-use crate::coordinates::{is_in_plane, scaled, volume, whole_part, without};
+use crate::coordinates::{whole_part, without};
+use crate::dual_basis::DualBasis;
 use crate::frame::Frame;
-use crate::images::{image, is_translation};
-use motions::{Basis, Motion3};
+use crate::images::image;
+use motions::Motion3;
 use quotient::Quotient;
 
 impl Quotient for Frame {
@@ -29,7 +30,7 @@ impl Quotient for Frame {
 
     /// Whether the motion is the translation by a whole combination of a and b.
     fn is_shift(&self, m: &Motion3) -> bool {
-        is_translation(m) && is_in_plane(&self.basis(), &m.t)
+        m.is_translation() && self.dual().is_in_plane(&m.t)
     }
 
     /// The motion at home that differs from this one by a whole combination of a and b: its translation has coordinates
@@ -43,18 +44,17 @@ impl Quotient for Frame {
         ensures level { dot (row_of self.now.plane) (motion_of result).shift ≡ dot (row_of self.now.plane) (motion_of m.now).shift }
         ensures small { IsVectorWithin (2 ^ 44) (motion_of result).shift }
     {
-        let basis = self.basis();
-        let volume = volume(&basis);
-        let whole = whole_part(&scaled(&basis, &m.t), volume);
+        let dual = self.dual();
+        let whole = whole_part(&dual.scaled(&m.t), dual.volume);
         Motion3 {
             w: m.w,
-            t: without(&m.t, &basis, &whole),
+            t: without(&m.t, &dual.basis, &whole),
         }
     }
 
     /// Whether the matrix takes each whole combination of a and b to such a combination.
     fn keeps(&self, m: &Motion3) -> bool {
-        keeps_plane(&self.basis(), m)
+        keeps_plane(&self.dual(), m)
     }
 
     ghost by_meaning = { λ q m n. plane_by_meaning (basis_of_frame q) m n };
@@ -67,12 +67,12 @@ impl Quotient for Frame {
 }
 
 /// Whether the matrix of the motion takes a and b to whole combinations of a and b.
-fn keeps_plane(basis: &Basis, m: &Motion3) -> bool
+fn keeps_plane(dual: &DualBasis, m: &Motion3) -> bool
     requires motion { IsSmall (motion_of m.now) }
-    requires volume { pos 1 ≤ℤ volume (basis_of basis.now) }
+    requires volume { pos 1 ≤ℤ volume (basis_of dual.now.basis) }
     ensures { IsTrue result
-        ↔ (IsPlaneCombination (basis_of basis.now) (image (motion_of m.now).matrix (basis_of basis.now).a)
-        × IsPlaneCombination (basis_of basis.now) (image (motion_of m.now).matrix (basis_of basis.now).b)) }
+        ↔ (IsPlaneCombination (basis_of dual.now.basis) (image (motion_of m.now).matrix (basis_of dual.now.basis).a)
+        × IsPlaneCombination (basis_of dual.now.basis) (image (motion_of m.now).matrix (basis_of dual.now.basis).b)) }
 {
-    is_in_plane(basis, &image(m, &basis.a)) && is_in_plane(basis, &image(m, &basis.b))
+    dual.is_in_plane(&image(m, &dual.basis.a)) && dual.is_in_plane(&image(m, &dual.basis.b))
 }

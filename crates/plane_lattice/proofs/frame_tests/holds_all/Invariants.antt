@@ -6,4 +6,4 @@ use Rattle.plane_lattice.specs.Coordinates.{IsCombination}
 use Rattle.plane_lattice.proofs.frame_tests.holds_all.Given as goal
 
 abbrev pub invariant-loop-v : goal.invariant-loop-v
-invariant-loop-v l = (k : ℕ) (d : List Part) → k < l.v-index → IsCombination (basis_of l.basis) (parts (get_or l.vectors k d))
+invariant-loop-v l = (k : ℕ) (d : List Part) → k < l.v-index → IsCombination (basis_of l.dual.basis) (parts (get_or l.vectors k d))

@@ -7,6 +7,6 @@ use Rattle.plane_lattice.proofs.frame_tests.is_combination.Goals as goal
 
 pub returns : goal.returns
 returns c =
-    let f = basis_of c.args.basis.now in
+    let f = basis_of c.args.dual.now.basis in
     let v = parts c.args.v.now in
     some_tells (IsCombination f v) _ c.coordinates.result c.is_some.result c.is_some.ensures c.coordinates.ensures (λ x e. (vector_of x, e))

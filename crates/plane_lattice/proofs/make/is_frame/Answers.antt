@@ -12,21 +12,21 @@ pub returns-then-not-has_vectors : goal.returns-then-not-has_vectors
 returns-then-not-has_vectors c = (
   λ t. absurd (cc t),
   λ k.
-      let t = frame_passes_tests (group_listing c.args.group.now) (row_of c.args.plane.now) (basis_of c.args.basis.now) k in
+      let t = frame_passes_tests (group_listing c.args.group.now) (row_of c.args.plane.now) (basis_of c.args.dual.now.basis) k in
       absurd (cc (c.if-not-has_vectors.true, c.has_vectors.ensures.1 (t.a_in, t.b_in, t.tau_in))),
 )
 
 pub spans_lattice-requires : goal.spans_lattice-requires
 spans_lattice-requires c =
     let o = c.is_oriented.ensures.0 c.if-not-is_oriented.false in
-    let h = volume_positive (row_of c.args.plane.now) (basis_of c.args.basis.now) o.right_handed o.tau_above in omega (arith, ints)
+    let h = volume_positive (row_of c.args.plane.now) (basis_of c.args.dual.now.basis) o.right_handed o.tau_above in omega (arith, ints)
 
 pub returns : goal.returns
 returns c =
     let g = group_listing c.args.group.now in
     let h = c.has_vectors.ensures.0 c.if-not-has_vectors.false in
     let o = c.is_oriented.ensures.0 c.if-not-is_oriented.false in (
-      λ t. tests_make_frame g (row_of c.args.plane.now) (basis_of c.args.basis.now) (record {
+      λ t. tests_make_frame g (row_of c.args.plane.now) (basis_of c.args.dual.now.basis) (record {
         a_in = h.0;
         b_in = h.1;
         tau_in = h.2;

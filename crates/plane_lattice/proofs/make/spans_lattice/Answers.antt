@@ -11,13 +11,13 @@ use Rattle.plane_lattice.proofs.make.spans_lattice.Goals as goal
 pub returns-then-not-holds_edges : goal.returns-then-not-holds_edges
 returns-then-not-holds_edges c = (
   λ t. absurd (cc t),
-  λ spans. absurd (cc (c.if-not-holds_edges.true, c.holds_edges.ensures.1 (edges_held (group_listing c.args.group.now) (basis_of c.args.basis.now) spans))),
+  λ spans. absurd (cc (c.if-not-holds_edges.true, c.holds_edges.ensures.1 (edges_held (group_listing c.args.group.now) (basis_of c.args.dual.now.basis) spans))),
 )
 
 pub returns : goal.returns
 returns c =
     let g = group_listing c.args.group.now in
-    let f = basis_of c.args.basis.now in
+    let f = basis_of c.args.dual.now.basis in
     let rs = c.residues.result.now in
     let edges = c.holds_edges.ensures.0 c.if-not-holds_edges.false in (
       λ t v h. spanned f rs edges (c.holds_all.ensures.0 t) v (subst (λ vs. Contains vs (residue v)) (sym c.residues.ensures.residues) ((c.lattice.ensures.same v).1 h)),

@@ -15,11 +15,11 @@ skews-requires-clause-motion c = all_at motion_of IsSmall c.args.ops.now c.requi
 pub loop-m-preserved : goal.loop-m-preserved
 loop-m-preserved c k d =
     let ops = c.args.ops.now in
-    below_more (λ (k : ℕ). ¬ Skews (row_of c.args.plane.now) (basis_of c.args.basis.now) (motion_of (get_or ops k d))) c.loop-m.m-index (λ k. c.loop-m.invariant k d)
+    below_more (λ (k : ℕ). ¬ Skews (row_of c.args.plane.now) (basis_of c.args.dual.now.basis) (motion_of (get_or ops k d))) c.loop-m.m-index (λ k. c.loop-m.invariant k d)
     (λ s. absurd (cc (
       c.if-skews.false,
-      c.skews.ensures.1 (subst (λ (m : Motion3). Skews (row_of c.args.plane.now) (basis_of c.args.basis.now) (motion_of m)) (get_or_default ops c.loop-m.m-index d _ c.loop-m-test.true) s),
+      c.skews.ensures.1 (subst (λ (m : Motion3). Skews (row_of c.args.plane.now) (basis_of c.args.dual.now.basis) (motion_of m)) (get_or_default ops c.loop-m.m-index d _ c.loop-m-test.true) s),
     ))) k
 
 pub returns : goal.returns
-returns c = (λ t. absurd (cc t), λ (m, is, s). absurd (none_skews (row_of c.args.plane.now) (basis_of c.args.basis.now) c.args.ops.now (λ k d h. c.loop-m.invariant k d (omega arith)) m is s))
+returns c = (λ t. absurd (cc t), λ (m, is, s). absurd (none_skews (row_of c.args.plane.now) (basis_of c.args.dual.now.basis) c.args.ops.now (λ k d h. c.loop-m.invariant k d (omega arith)) m is s))

@@ -6,7 +6,7 @@ use Rattle.plane_lattice.proofs.space.keeps_plane.Goals as goal
 
 pub returns-then-is_in_plane : goal.returns-then-is_in_plane
 returns-then-is_in_plane c =
-    let P = IsPlaneCombination (basis_of c.args.basis.now) in (
+    let P = IsPlaneCombination (basis_of c.args.dual.now.basis) in (
       λ t. (
         subst P c.image.ensures.is (c.is_in_plane.ensures.0 c.if-is_in_plane.true),
         subst P c.image-then-is_in_plane.ensures.is (c.is_in_plane-then-is_in_plane.ensures.0 t),
@@ -16,5 +16,5 @@ returns-then-is_in_plane c =
 
 pub returns-else-is_in_plane : goal.returns-else-is_in_plane
 returns-else-is_in_plane c =
-    let P = IsPlaneCombination (basis_of c.args.basis.now) in
+    let P = IsPlaneCombination (basis_of c.args.dual.now.basis) in
     (λ t. absurd (cc (t, c.if-is_in_plane.false)), λ (a, b). c.is_in_plane.ensures.1 (subst P (sym c.image.ensures.is) a))

@@ -48,50 +48,50 @@ at_product k p q h = (λ i. sym q i *ℤ k) ∙ h ∙ (λ i. p i *ℤ UNIT)
 pub edge_coordinate-requires-clause-whole : goal.edge_coordinate-requires-clause-whole
 edge_coordinate-requires-clause-whole c =
     let q = c.args.self.now in
-    let a = arrived (basis_of_frame q) (basis_of c.basis-basis.result) (parts c.args.v) c.basis-basis.ensures c.volume-volume.result (vector_of c.scaled.result)
-    c.volume-volume.ensures.small c.volume-volume.ensures.is c.scaled.ensures.small c.scaled.ensures.is in
+    let a = arrived (basis_of_frame q) (basis_of c.dual-dual.result.basis) (parts c.args.v) c.dual-dual.ensures c.dual-dual.result.volume (vector_of c.scaled.result)
+    c.dual-dual.result.volume_small c.dual-dual.result.volume_is c.scaled.ensures.small c.scaled.ensures.is in
     at_rem a.x a.by (edge_x (basis_of_frame q) q.right_handed (parts c.args.v) q.holds_edges)
 
 pub edge_coordinate-requires-clause-fits : goal.edge_coordinate-requires-clause-fits
 edge_coordinate-requires-clause-fits c =
     let q = c.args.self.now in
-    let a = arrived (basis_of_frame q) (basis_of c.basis-basis.result) (parts c.args.v) c.basis-basis.ensures c.volume-volume.result (vector_of c.scaled.result)
-    c.volume-volume.ensures.small c.volume-volume.ensures.is c.scaled.ensures.small c.scaled.ensures.is in
+    let a = arrived (basis_of_frame q) (basis_of c.dual-dual.result.basis) (parts c.args.v) c.dual-dual.ensures c.dual-dual.result.volume (vector_of c.scaled.result)
+    c.dual-dual.result.volume_small c.dual-dual.result.volume_is c.scaled.ensures.small c.scaled.ensures.is in
     at_quotient a.x a.by (c.requires.fits _ (edge_quotients (basis_of_frame q) q.right_handed (parts c.args.v) q.holds_edges)).x
 
 pub edge_coordinate-requires-2-clause-whole : goal.edge_coordinate-requires-2-clause-whole
 edge_coordinate-requires-2-clause-whole c =
     let q = c.args.self.now in
-    let a = arrived (basis_of_frame q) (basis_of c.basis-basis.result) (parts c.args.v) c.basis-basis.ensures c.volume-volume.result (vector_of c.scaled.result)
-    c.volume-volume.ensures.small c.volume-volume.ensures.is c.scaled.ensures.small c.scaled.ensures.is in
+    let a = arrived (basis_of_frame q) (basis_of c.dual-dual.result.basis) (parts c.args.v) c.dual-dual.ensures c.dual-dual.result.volume (vector_of c.scaled.result)
+    c.dual-dual.result.volume_small c.dual-dual.result.volume_is c.scaled.ensures.small c.scaled.ensures.is in
     at_rem a.y a.by (edge_y (basis_of_frame q) q.right_handed (parts c.args.v) q.holds_edges)
 
 pub edge_coordinate-requires-2-clause-fits : goal.edge_coordinate-requires-2-clause-fits
 edge_coordinate-requires-2-clause-fits c =
     let q = c.args.self.now in
-    let a = arrived (basis_of_frame q) (basis_of c.basis-basis.result) (parts c.args.v) c.basis-basis.ensures c.volume-volume.result (vector_of c.scaled.result)
-    c.volume-volume.ensures.small c.volume-volume.ensures.is c.scaled.ensures.small c.scaled.ensures.is in
+    let a = arrived (basis_of_frame q) (basis_of c.dual-dual.result.basis) (parts c.args.v) c.dual-dual.ensures c.dual-dual.result.volume (vector_of c.scaled.result)
+    c.dual-dual.result.volume_small c.dual-dual.result.volume_is c.scaled.ensures.small c.scaled.ensures.is in
     at_quotient a.y a.by (c.requires.fits _ (edge_quotients (basis_of_frame q) q.right_handed (parts c.args.v) q.holds_edges)).y
 
 pub edge_coordinate-requires-3-clause-whole : goal.edge_coordinate-requires-3-clause-whole
 edge_coordinate-requires-3-clause-whole c =
     let q = c.args.self.now in
-    let a = arrived (basis_of_frame q) (basis_of c.basis-basis.result) (parts c.args.v) c.basis-basis.ensures c.volume-volume.result (vector_of c.scaled.result)
-    c.volume-volume.ensures.small c.volume-volume.ensures.is c.scaled.ensures.small c.scaled.ensures.is in
+    let a = arrived (basis_of_frame q) (basis_of c.dual-dual.result.basis) (parts c.args.v) c.dual-dual.ensures c.dual-dual.result.volume (vector_of c.scaled.result)
+    c.dual-dual.result.volume_small c.dual-dual.result.volume_is c.scaled.ensures.small c.scaled.ensures.is in
     at_rem a.z a.by (edge_z (basis_of_frame q) q.right_handed (parts c.args.v) q.holds_edges)
 
 pub edge_coordinate-requires-3-clause-fits : goal.edge_coordinate-requires-3-clause-fits
 edge_coordinate-requires-3-clause-fits c =
     let q = c.args.self.now in
-    let a = arrived (basis_of_frame q) (basis_of c.basis-basis.result) (parts c.args.v) c.basis-basis.ensures c.volume-volume.result (vector_of c.scaled.result)
-    c.volume-volume.ensures.small c.volume-volume.ensures.is c.scaled.ensures.small c.scaled.ensures.is in
+    let a = arrived (basis_of_frame q) (basis_of c.dual-dual.result.basis) (parts c.args.v) c.dual-dual.ensures c.dual-dual.result.volume (vector_of c.scaled.result)
+    c.dual-dual.result.volume_small c.dual-dual.result.volume_is c.scaled.ensures.small c.scaled.ensures.is in
     at_quotient a.z a.by (c.requires.fits _ (edge_quotients (basis_of_frame q) q.right_handed (parts c.args.v) q.holds_edges)).z
 
 pub returns : goal.returns
 returns c =
     let q = c.args.self.now in
-    let a = arrived (basis_of_frame q) (basis_of c.basis-basis.result) (parts c.args.v) c.basis-basis.ensures c.volume-volume.result (vector_of c.scaled.result)
-    c.volume-volume.ensures.small c.volume-volume.ensures.is c.scaled.ensures.small c.scaled.ensures.is in
+    let a = arrived (basis_of_frame q) (basis_of c.dual-dual.result.basis) (parts c.args.v) c.dual-dual.ensures c.dual-dual.result.volume (vector_of c.scaled.result)
+    c.dual-dual.result.volume_small c.dual-dual.result.volume_is c.scaled.ensures.small c.scaled.ensures.is in
     let x : FitsSigned w64 c.edge_coordinate.result = search rules in
     let y : FitsSigned w64 c.edge_coordinate-2.result = search rules in
     let z : FitsSigned w64 c.edge_coordinate-3.result = search rules in

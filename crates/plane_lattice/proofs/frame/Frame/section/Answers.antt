@@ -57,7 +57,7 @@ coordinates_in_plane-requires-clause-near c p e =
     let m = motion_of c.args.m.now in
     IsPairWithin-more
     (near_500 (turned_near g r f m (made_not_skewed c.args.group.now q c.requires.made) c.requires.member (c.in_ok-e.ensures.keeps.0 refl) (flat p)
-    (inl (meant f _ c.basis-basis.ensures (λ b. image m.matrix b.a) _ c.image.ensures.is p e))))
+    (inl (meant f _ c.dual-dual.ensures (λ b. image m.matrix b.a) _ c.image.ensures.is p e))))
     (lit≤ tt)
 
 pub coordinates_in_plane-requires-2-clause-near : goal.coordinates_in_plane-requires-2-clause-near
@@ -69,7 +69,7 @@ coordinates_in_plane-requires-2-clause-near c p e =
     let m = motion_of c.args.m.now in
     IsPairWithin-more
     (near_500 (turned_near g r f m (made_not_skewed c.args.group.now q c.requires.made) c.requires.member (c.in_ok-e.ensures.keeps.0 refl) (flat p)
-    (inr (inl (meant f _ c.basis-basis.ensures (λ b. image m.matrix b.b) _ c.image-2.ensures.is p e)))))
+    (inr (inl (meant f _ c.dual-dual.ensures (λ b. image m.matrix b.b) _ c.image-2.ensures.is p e)))))
     (lit≤ tt)
 
 pub coordinates_in_plane-requires-3-clause-near : goal.coordinates_in_plane-requires-3-clause-near
@@ -82,7 +82,7 @@ coordinates_in_plane-requires-3-clause-near c p e =
     IsPairWithin-more
     (drift_near g r f m (own_group c.args.group.now) (made_frame c.args.group.now q c.requires.made) (made_not_skewed c.args.group.now q c.requires.made)
     c.requires.member (c.in_ok-e.ensures.keeps.0 refl) c.requires.at_home c.args.steps c.requires.from c.requires.below p
-    (meant f _ c.basis-basis.ensures (λ b. drift m b.tau c.args.steps) _ (at_steps m _ _ c.args.steps c.requires.from c.requires.below c.drift.ensures.is) p e))
+    (meant f _ c.dual-dual.ensures (λ b. drift m b.tau c.args.steps) _ (at_steps m _ _ c.args.steps c.requires.from c.requires.below c.drift.ensures.is) p e))
     (lit≤ tt)
 
 pub returns-in_err-first-clause-exact : goal.returns-in_err-first-clause-exact
@@ -93,7 +93,7 @@ returns-in_err-first-clause-exact c =
     let f = basis_of_frame q in
     let m = motion_of c.args.m.now in
     rw c.from_residual-in_err-first.ensures
-    (λ keeps. meant_not f _ c.basis-basis.ensures (λ b. image m.matrix b.a) _ c.image.ensures.is c.in_err-first.ensures
+    (λ keeps. meant_not f _ c.dual-dual.ensures (λ b. image m.matrix b.a) _ c.image.ensures.is c.in_err-first.ensures
     (turned_a g r f (own_group c.args.group.now) q.plane.coprime (made_frame c.args.group.now q c.requires.made) m c.requires.member c.in_ok-e.e
     ((c.in_ok-e.ensures.sign c.in_ok-e.e).0 refl)))
 
@@ -105,7 +105,7 @@ returns-in_err-second-clause-exact c =
     let f = basis_of_frame q in
     let m = motion_of c.args.m.now in
     rw c.from_residual-in_err-second.ensures
-    (λ keeps. meant_not f _ c.basis-basis.ensures (λ b. image m.matrix b.b) _ c.image-2.ensures.is c.in_err-second.ensures
+    (λ keeps. meant_not f _ c.dual-dual.ensures (λ b. image m.matrix b.b) _ c.image-2.ensures.is c.in_err-second.ensures
     (turned_b g r f (own_group c.args.group.now) q.plane.coprime (made_frame c.args.group.now q c.requires.made) m c.requires.member c.in_ok-e.e
     ((c.in_ok-e.ensures.sign c.in_ok-e.e).0 refl)))
 
@@ -117,7 +117,7 @@ returns-in_err-t-clause-exact c =
     let f = basis_of_frame q in
     let m = motion_of c.args.m.now in
     rw c.from_residual-in_err-t.ensures
-    (λ keeps. meant_not f _ c.basis-basis.ensures (λ b. drift m b.tau c.args.steps) _ (at_steps m _ _ c.args.steps c.requires.from c.requires.below c.drift.ensures.is) c.in_err-t.ensures
+    (λ keeps. meant_not f _ c.dual-dual.ensures (λ b. drift m b.tau c.args.steps) _ (at_steps m _ _ c.args.steps c.requires.from c.requires.below c.drift.ensures.is) c.in_err-t.ensures
     ((keeps_by_drift g r f (own_group c.args.group.now) q.plane.coprime (made_frame c.args.group.now q c.requires.made) m c.requires.member c.in_ok-e.e
     ((c.in_ok-e.ensures.sign c.in_ok-e.e).0 refl) c.args.steps).0 keeps))
 
@@ -131,7 +131,7 @@ returns-clause-exact c =
     let p = pair_of c.in_ok-t.t in
     (keeps_by_drift g r f (own_group c.args.group.now) q.plane.coprime (made_frame c.args.group.now q c.requires.made) m c.requires.member c.in_ok-e.e
     ((c.in_ok-e.ensures.sign c.in_ok-e.e).0 refl) c.args.steps).1
-    (flat p, meant f _ c.basis-basis.ensures (λ b. drift m b.tau c.args.steps) _ (at_steps m _ _ c.args.steps c.requires.from c.requires.below c.drift.ensures.is) p c.in_ok-t.ensures, refl)
+    (flat p, meant f _ c.dual-dual.ensures (λ b. drift m b.tau c.args.steps) _ (at_steps m _ _ c.args.steps c.requires.from c.requires.below c.drift.ensures.is) p c.in_ok-t.ensures, refl)
 
 pub returns-clause-seen : goal.returns-clause-seen
 returns-clause-seen c ms scanning =
@@ -145,9 +145,9 @@ returns-clause-seen c ms scanning =
     let p = pair_of c.in_ok-t.t in
     let d = dot r (parts q.tau) in
     let mean = mean_of r (parts q.tau) ms in
-    let a = meant f _ c.basis-basis.ensures (λ b. image m.matrix b.a) _ c.image.ensures.is first c.in_ok-first.ensures in
-    let b = meant f _ c.basis-basis.ensures (λ b. image m.matrix b.b) _ c.image-2.ensures.is second c.in_ok-second.ensures in
-    let t = meant f _ c.basis-basis.ensures (λ b. drift m b.tau c.args.steps) _ (at_steps m _ _ c.args.steps c.requires.from c.requires.below c.drift.ensures.is) p c.in_ok-t.ensures in
+    let a = meant f _ c.dual-dual.ensures (λ b. image m.matrix b.a) _ c.image.ensures.is first c.in_ok-first.ensures in
+    let b = meant f _ c.dual-dual.ensures (λ b. image m.matrix b.b) _ c.image-2.ensures.is second c.in_ok-second.ensures in
+    let t = meant f _ c.dual-dual.ensures (λ b. drift m b.tau c.args.steps) _ (at_steps m _ _ c.args.steps c.requires.from c.requires.below c.drift.ensures.is) p c.in_ok-t.ensures in
     let third = mean_is_kept g r ms (own_group c.args.group.now) q.plane.coprime scanning (parts q.tau) m c.requires.member (c.in_ok-e.ensures.keeps.0 refl) in
     subst (λ w. IsSeenAs f mean (point_at d (height_in_steps d c.args.steps) (in_cell (parts q.tau))) m (record { matrix = w; side = c.in_ok-e.e; shift = in_edges p }))
     (sym c.matrix_of_columns.ensures)
@@ -163,7 +163,7 @@ returns-clause-near c =
     let p = pair_of c.in_ok-t.t in
     drift_near g r f m (own_group c.args.group.now) (made_frame c.args.group.now q c.requires.made) (made_not_skewed c.args.group.now q c.requires.made)
     c.requires.member (c.in_ok-e.ensures.keeps.0 refl) c.requires.at_home c.args.steps c.requires.from c.requires.below p
-    (meant f _ c.basis-basis.ensures (λ b. drift m b.tau c.args.steps) _ (at_steps m _ _ c.args.steps c.requires.from c.requires.below c.drift.ensures.is) p c.in_ok-t.ensures)
+    (meant f _ c.dual-dual.ensures (λ b. drift m b.tau c.args.steps) _ (at_steps m _ _ c.args.steps c.requires.from c.requires.below c.drift.ensures.is) p c.in_ok-t.ensures)
 
 pub returns-clause-small : goal.returns-clause-small
 returns-clause-small c =
@@ -179,11 +179,11 @@ returns-clause-small c =
     let frame = made_frame c.args.group.now q c.requires.made in
     let not_skewed = made_not_skewed c.args.group.now q c.requires.made in
     let a = turned_near g r f m not_skewed c.requires.member keeps (flat first)
-    (inl (meant f _ c.basis-basis.ensures (λ b. image m.matrix b.a) _ c.image.ensures.is first c.in_ok-first.ensures)) in
+    (inl (meant f _ c.dual-dual.ensures (λ b. image m.matrix b.a) _ c.image.ensures.is first c.in_ok-first.ensures)) in
     let b = turned_near g r f m not_skewed c.requires.member keeps (flat second)
-    (inr (inl (meant f _ c.basis-basis.ensures (λ b. image m.matrix b.b) _ c.image-2.ensures.is second c.in_ok-second.ensures))) in
+    (inr (inl (meant f _ c.dual-dual.ensures (λ b. image m.matrix b.b) _ c.image-2.ensures.is second c.in_ok-second.ensures))) in
     let t = drift_near g r f m (own_group c.args.group.now) frame not_skewed c.requires.member keeps c.requires.at_home c.args.steps c.requires.from c.requires.below p
-    (meant f _ c.basis-basis.ensures (λ b. drift m b.tau c.args.steps) _ (at_steps m _ _ c.args.steps c.requires.from c.requires.below c.drift.ensures.is) p c.in_ok-t.ensures) in
+    (meant f _ c.dual-dual.ensures (λ b. drift m b.tau c.args.steps) _ (at_steps m _ _ c.args.steps c.requires.from c.requires.below c.drift.ensures.is) p c.in_ok-t.ensures) in
     record {
       matrix = subst (IsMatrix2Within 500) (sym c.matrix_of_columns.ensures)
           (record { first = record { x = a.x; y = b.x }; second = record { x = a.y; y = b.y } });

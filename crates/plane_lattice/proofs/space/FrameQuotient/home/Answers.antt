@@ -34,8 +34,8 @@ without-requires-clause-rest c =
     let q = c.args.self.now in
     let v = parts c.args.m.now.t in
     subst (IsVectorWithin largest_home)
-    (sym (without_whole (basis_of_frame q) (basis_of c.basis-basis.result) v c.volume-volume.result (vector_of c.scaled.result) (vector_of c.whole_part-whole.result)
-    c.basis-basis.ensures c.volume-volume.ensures.small c.volume-volume.ensures.is c.scaled.ensures.is c.whole_part-whole.ensures.is))
+    (sym (without_whole (basis_of_frame q) (basis_of c.dual-dual.result.basis) v c.dual-dual.result.volume (vector_of c.scaled.result) (vector_of c.whole_part-whole.result)
+    c.dual-dual.ensures c.dual-dual.result.volume_small c.dual-dual.result.volume_is c.scaled.ensures.is c.whole_part-whole.ensures.is))
     (within q v c.requires)
 
 pub returns : goal.returns
@@ -44,8 +44,8 @@ returns c =
     let f = basis_of_frame q in
     let m = motion_of c.args.m.now in
     let shift : parts c.without.result ≡ home_shift f m.shift = c.without.ensures
-    ∙ without_whole f (basis_of c.basis-basis.result) m.shift c.volume-volume.result (vector_of c.scaled.result) (vector_of c.whole_part-whole.result)
-    c.basis-basis.ensures c.volume-volume.ensures.small c.volume-volume.ensures.is c.scaled.ensures.is c.whole_part-whole.ensures.is in
+    ∙ without_whole f (basis_of c.dual-dual.result.basis) m.shift c.dual-dual.result.volume (vector_of c.scaled.result) (vector_of c.whole_part-whole.result)
+    c.dual-dual.ensures c.dual-dual.result.volume_small c.dual-dual.result.volume_is c.scaled.ensures.is c.whole_part-whole.ensures.is in
     let motion : motion_of (record { w = c.args.m.now.w; t = c.without.result }) ≡ home_motion f m = motion_path refl shift in
     let small : IsVectorWithin (2 ^ 44) (home_shift f m.shift) = IsVectorWithin-more (within q m.shift c.requires) (lit≤ tt) in
     record {

@@ -13,5 +13,5 @@ returns c =
     let m = motion_of c.args.m.now in
     let keeps = plane_keeps (basis_of_frame c.args.self.now) m in
     let tests = subst (λ (f : Basis). IsTrue c.keeps_plane.result ↔ (IsPlaneCombination f (image m.matrix f.a) × IsPlaneCombination f (image m.matrix f.b)))
-    c.basis.ensures c.keeps_plane.ensures in
+    c.dual.ensures c.keeps_plane.ensures in
     (λ t. keeps.0 (tests.0 t), λ k. tests.1 (keeps.1 k))

@@ -9,7 +9,7 @@ use Rattle.motions.specs.declared.index.TheConstants.{INDEX}
 use Rattle.plane_lattice.specs.Bounds.{largest_period, largest_scaled}
 use Rattle.plane_lattice.proofs.Sizes.{dot_within}
 use Rattle.plane_lattice.proofs.Wide.{wide, wide_is}
-use Rattle.plane_lattice.proofs.frame_tests.level.Goals as goal
+use Rattle.plane_lattice.proofs.frame_tests.height_of.Goals as goal
 
 pub returns : goal.returns
 returns c =
