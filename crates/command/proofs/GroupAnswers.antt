@@ -65,7 +65,7 @@ module _ (g h : Listing) (alike : AreAlike g h) (r : Vector) where
 
 -- ---- the frame
 
-pub frame_here : (group : Group) (plane : Miller) (basis : BasisOfCode) (frame : Frame) → IsFrameOf group plane basis frame
+pub frame_here : (group : Group) (plane : Miller) (basis : BasisOfCode) (frame : Frame) → IsFrameOf (group_listing group) plane basis frame
     → IsFrameHere group (row_of plane) (basis_of basis) frame
 frame_here group plane basis frame is = record {
   row_is = ap row_of is.plane;
@@ -173,7 +173,7 @@ images_obstacle row group orbit_faults.NoMemory h = tt
 
 -- ---- no frame
 
-pub frame_obstacle : (group : Group) (plane : Miller) (basis : BasisOfCode) (fault : FrameFault) → IsFrameFault group plane basis fault
+pub frame_obstacle : (group : Group) (plane : Miller) (basis : BasisOfCode) (fault : FrameFault) → IsFrameFault (group_listing group) (row_of plane) (basis_of basis) fault
     → IsFrameObstacle group (row_of plane) (basis_of basis) (obstacles.Refused (refusal_of_frame fault))
 frame_obstacle group plane basis frames.NotFrame h = (frames.NotFrame, h, refl)
 frame_obstacle group plane basis frames.Skewed h = (frames.Skewed, h, refl)

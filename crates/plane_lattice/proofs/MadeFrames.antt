@@ -18,7 +18,7 @@ module _ (group : Group) (frame : Frame) (made : IsMadeFor group frame) where
   abbrev basis : Basis
   basis = made.1
 
-  abbrev of : IsFrameOf group plane basis frame
+  abbrev of : IsFrameOf (group_listing group) plane basis frame
   of = made.2
 
   same_basis : basis_of basis ≡ basis_of_frame frame

@@ -1,7 +1,6 @@
 -- How large the numbers become that coordinates in a basis are made of.
 use Rattle.std.specs.Prelude.{ℕ, ◌+◌, ◌*◌, ◌^◌, unsigned_abs}
 use Rattle.fractions.specs.declared.part.TheConstants.{UNIT}
-use Rattle.closure.specs.declared.limits.TheConstants.{MAX_OPERATIONS}
 use Rattle.motions.specs.declared.index.TheConstants.{INDEX}
 
 -- an entry of a vector of a basis
@@ -26,7 +25,7 @@ largest_turned = 1500 * largest_entry
 
 -- an entry of the sum of such images, one for each operation of a group
 abbrev pub largest_total : ℕ
-largest_total = MAX_OPERATIONS * largest_turned
+largest_total = 192 * largest_turned
 
 -- (hkl).tau
 abbrev pub largest_period : ℕ

@@ -1,15 +1,21 @@
 -- Coordinates of vectors in three others, and the vectors that are whole combinations of these.
-use Rattle.std.specs.Prelude.{◌≡◌, ℤ, pos, List, FitsSigned}
+use Rattle.std.specs.Prelude.{◌≡◌, ℤ, pos, List, [], ◌∷◌, FitsSigned}
 use Rattle.std.specs.Int.{int_div_euclid, w64}
 use Rattle.fractions.specs.declared.part.Part.{Part}
 use Rattle.fractions.specs.declared.part.TheConstants.{UNIT}
 use Rattle.motions.specs.Views.{parts}
 use Rattle.symmetry.specs.Vectors.{Vector, Matrix, dot, cross}
+use Rattle.symmetry.specs.Groups.{Listing}
 use Rattle.symmetry.specs.Frames.{Basis, combination}
+use Rattle.closure.specs.Fineness.{centrings_alone}
 
 -- three arrays of parts as three vectors
 abbrev pub vectors : List Part → List Part → List Part → Basis
 vectors a b tau = record { a = parts a; b = parts b; tau = parts tau }
+
+-- what three vectors list: no operations, and these as centring vectors
+abbrev pub listing_of_basis : Basis → Listing
+listing_of_basis f = centrings_alone (f.a ∷ f.b ∷ f.tau ∷ [])
 
 -- the volume of the cell that the three vectors span
 abbrev pub volume : Basis → ℤ

@@ -4,8 +4,9 @@ ghost use Rattle.fractions.specs.declared.part.TheConstants.{UNIT};
 ghost use Rattle.symmetry.specs.Sizes.{IsVectorWithin};
 ghost use Rattle.symmetry.specs.Vectors.{dot};
 ghost use Rattle.motions.specs.Views.{parts, row_of};
+ghost use Rattle.closure.specs.Fineness.{IsTooFine};
 ghost use Rattle.plane_lattice.specs.Bounds.{largest_entry};
-ghost use Rattle.plane_lattice.specs.Coordinates.{HoldsEdges, vectors, volume};
+ghost use Rattle.plane_lattice.specs.Coordinates.{HoldsEdges, listing_of_basis, vectors, volume};
 
 use crate::coordinates::edge_coordinate;
 use crate::dual_basis::DualBasis;
@@ -13,7 +14,8 @@ use fractions::{Part, Ratio};
 use motions::{Basis, Miller};
 
 /// A frame of an orientation of planes: the vectors a and b span the planes, and tau leads from one to the next of
-/// the same kind. Together they are a right-handed basis of the translation lattice.
+/// the same kind. Together they are a right-handed basis of the translation lattice, which has at most 64 residues modulo
+/// the cell edges.
 ///
 /// `period` is (hkl).tau, the distance of planes of the same kind. `c` is the vector c', the mean of e W tau over the
 /// scanning operations, whose direction each of these keeps but for its sign. Vectors and the period are counted in
@@ -35,6 +37,7 @@ pub struct Frame {
     pub ghost above: { pos 1 ≤ℤ period.0 },
     pub ghost right_handed: { pos 1 ≤ℤ volume (vectors a b tau) },
     pub ghost holds_edges: { ∥ HoldsEdges (vectors a b tau) ∥₁ },
+    pub ghost fine: { ∥ ¬ IsTooFine (listing_of_basis (vectors a b tau)) ∥₁ },
 }
 
 impl Frame {

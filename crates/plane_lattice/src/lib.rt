@@ -25,6 +25,6 @@ mod tests;
 pub use dual_basis::DualBasis;
 pub use frame::Frame;
 pub use laws::{
-    general_section_by_list, mean_is_above, one_general_section, section_by_list,
+    general_section_by_list, mean_is_above, one_frame_fault, one_general_section, section_by_list,
     section_of_height, seen_once, special_in_steps,
 };

@@ -10,7 +10,7 @@ ghost use Rattle.plane_lattice.specs.Coordinates.{IsCombination, volume};
 
 use crate::dual_basis::DualBasis;
 use crate::frame::Frame;
-use crate::frame_tests::{holds_all, holds_edges, height_of, is_oriented};
+use crate::frame_tests::{height_of, holds_all, holds_edges, is_oriented};
 use crate::means::mean;
 use crate::skews::is_skewed;
 use closure::Group;
@@ -19,7 +19,9 @@ use motions::{Basis, FrameFault, Miller};
 
 impl Frame {
     ghost use Rattle.std.specs.Prelude.{◌≡◌, ◌↔◌, IfOk};
+    ghost use Rattle.symmetry.specs.Groups.{Listing};
     ghost use Rattle.motions.specs.declared.frame_fault.FrameFault.{FrameFault};
+    ghost use Rattle.closure.specs.Groups.{IsGroupOf};
     ghost use Rattle.plane_lattice.specs.FrameOf.{IsFrameFault, IsFrameOf};
 
     /// The frame of a group and an orientation with the vectors a, b and tau.
@@ -29,8 +31,12 @@ impl Frame {
     /// product of a and b is no positive multiple of (hkl). Else [`Skewed`](FrameFault::Skewed) comes exactly where an
     /// operation that keeps the orientation has a matrix entry above 500 in size, written in the basis.
     pub fn make(group: &Group, plane: Miller, basis: Basis) -> Result<Frame, FrameFault>
-        ensures ok { IfOk result (IsFrameOf group.now plane basis) }
-        ensures faults { (fault : FrameFault) → (result ≡ Err fault) ↔ IsFrameFault group.now plane basis fault }
+        ensures ok { IfOk result (IsFrameOf (group_listing group.now) plane basis) }
+        ensures faults { (fault : FrameFault)
+            → (result ≡ Err fault) ↔ IsFrameFault (group_listing group.now) (row_of plane) (basis_of basis) fault }
+        ensures made { (g : Listing) → IsGroupOf g group.now → IfOk result (IsFrameOf g plane basis) }
+        ensures refused { (g : Listing) → IsGroupOf g group.now → (fault : FrameFault)
+            → (result ≡ Err fault) ↔ IsFrameFault g (row_of plane) (basis_of basis) fault }
     {
         let dual = DualBasis::make(basis);
         if !is_frame(group, &plane, &dual) {

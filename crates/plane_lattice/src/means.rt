@@ -8,7 +8,6 @@ ghost use Rattle.symmetry.specs.Sizes.{IsSmall, IsVectorWithin};
 ghost use Rattle.symmetry.specs.Vectors.{image, minus, multiple, plus};
 ghost use Rattle.motions.specs.Views.{motion_of, parts, row_of};
 ghost use Rattle.fractions.specs.declared.part.TheConstants.{UNIT};
-ghost use Rattle.closure.specs.declared.limits.TheConstants.{MAX_OPERATIONS};
 ghost use Rattle.plane_lattice.specs.Bounds.{largest_entry, largest_total, largest_turned};
 ghost use Rattle.plane_lattice.specs.Scanning.{keeps_orientation, IsPointOf, scanning_ops};
 
@@ -19,7 +18,7 @@ use motions::{Miller, Motion3, Sign, side};
 /// The mean of the vectors e W tau over the scanning operations, of which there is one at least.
 pub(crate) fn mean(ops: &[Motion3], plane: &Miller, tau: &[Part; 3]) -> [Ratio; 3]
     requires operations { All IsSmall (map motion_of ops.now) }
-    requires few { length ops.now ≤ MAX_OPERATIONS }
+    requires few { length ops.now ≤ 192 }
     requires some { 0 < length (scanning_ops (row_of plane.now) (map motion_of ops.now)) }
     requires tau { IsVectorWithin largest_entry (parts tau.now) }
     ensures { IsPointOf (mean_of (row_of plane.now) (parts tau.now) (scanning_ops (row_of plane.now) (map motion_of ops.now))) result }
@@ -37,7 +36,7 @@ pub(crate) fn mean(ops: &[Motion3], plane: &Miller, tau: &[Part; 3]) -> [Ratio; 
 fn part_of(part: Part, count: usize) -> Ratio
     requires part { IsWithin largest_total part.0 }
     requires some { 0 < count }
-    requires few { count ≤ MAX_OPERATIONS }
+    requires few { count ≤ 192 }
     ensures { SameFraction (fraction_of result) (record { num = part.0; den = UNIT *ℤ pos count }) }
 {
     match Ratio::make(part.0 as i128, UNIT as i128 * count as i128) {
@@ -49,7 +48,7 @@ fn part_of(part: Part, count: usize) -> Ratio
 /// The sum of the vectors e W tau over the scanning operations.
 fn total_up(ops: &[Motion3], plane: &Miller, tau: &[Part; 3]) -> [Part; 3]
     requires operations { All IsSmall (map motion_of ops.now) }
-    requires few { length ops.now ≤ MAX_OPERATIONS }
+    requires few { length ops.now ≤ 192 }
     requires tau { IsVectorWithin largest_entry (parts tau.now) }
     ensures is { parts result ≡ total_up (row_of plane.now) (parts tau.now) (scanning_ops (row_of plane.now) (map motion_of ops.now)) }
     ensures small { IsVectorWithin largest_total (parts result) }

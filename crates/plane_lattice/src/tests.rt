@@ -1,9 +1,8 @@
 // Worked cases, by hand.
-ghost use Rattle.std.specs.Prelude.{◌^◌, All, unsigned_abs};
+ghost use Rattle.std.specs.Prelude.{◌^◌, All};
 ghost use Rattle.symmetry.specs.Sizes.{IsVectorWithin};
 ghost use Rattle.motions.specs.ListedSizes.{IsSmallWithin};
 ghost use Rattle.motions.specs.Views.{motion_of, parts};
-ghost use Rattle.closure.specs.declared.limits.TheConstants.{MAX_ENTRY};
 
 use crate::frame::Frame;
 use closure::{Group, GroupError};
@@ -62,7 +61,7 @@ const GLIDE: Motion3 = Motion3 {
 };
 
 fn group_of(alloc: Global, ops: &[Motion3], centrings: &[[Part; 3]]) -> Result<Group, GroupError>
-    requires ops { All (λ m. IsSmallWithin (unsigned_abs MAX_ENTRY) (motion_of m)) ops.now }
+    requires ops { All (λ m. IsSmallWithin 50 (motion_of m)) ops.now }
     requires centrings { All (λ v. IsVectorWithin (2 ^ 40) (parts v)) centrings.now }
 {
     let ops = Vec::from_slice(alloc, ops)?;

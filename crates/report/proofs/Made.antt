@@ -13,7 +13,7 @@ use Rattle.closure.specs.Groups.{IsGroupOf, group_listing}
 use Rattle.plane_lattice.specs.declared.frame.Frame.{Frame}
 use Rattle.plane_lattice.specs.FrameOf.{IsFrameOf, IsMadeFor}
 use Rattle.plane_lattice.specs.FrameView.{basis_of_frame}
-use Rattle.plane_lattice.specs.Scanning.{scanning_ops, IsPointOf}
+use Rattle.plane_lattice.specs.Scanning.{IsPointOf}
 use Rattle.scanning.specs.declared.scan.Scan.{Scan}
 use Rattle.scanning.specs.HeightView.{heights_of_specials}
 use Rattle.scanning.specs.ScanView.{scan_of, IsScanOf}
@@ -30,17 +30,16 @@ heights_of_blocks : (blocks : List HeightBlock) → heights_of (map special_of_b
 heights_of_blocks [] = refl
 heights_of_blocks (block ∷ blocks) = ap (λ heights. block.height ∷ heights) (heights_of_blocks blocks)
 
-module _ (group : Group) (frame : Frame) (basis : Basis) (of : IsFrameOf group frame.plane basis frame) where
+module _ (group : Group) (frame : Frame) (basis : Basis) (of : IsFrameOf (group_listing group) frame.plane basis frame) where
   -- the vector c' of the frame is the mean over the scanning operations
   mean_of_frame : IsMean (group_listing group) (row_of frame.plane) (parts frame.tau) (fractions_of frame.c)
   mean_of_frame =
       let r = row_of frame.plane in
-      let ops = scanning_ops r (group_listing group).ops in
-      let mean = subst (λ tau. IsPointOf (mean_of r (parts tau) ops) frame.c) (sym of.tau) of.mean in
+      let mean = subst (λ tau. IsPointOf (mean_of r (parts tau) of.scanning) frame.c) (sym of.tau) of.mean in
       record {
-        scanning = ops;
-        are_scanning = of.scanning;
-        is = point_in_lowest_terms (mean_of r (parts frame.tau) ops) frame.c mean;
+        scanning = of.scanning;
+        are_scanning = of.are_scanning;
+        is = point_in_lowest_terms (mean_of r (parts frame.tau) of.scanning) frame.c mean;
       }
 
   pub report_made : (scan : Scan) (numbers : List ℕ) (planes : ℕ) (report : Report) → Shows scan numbers planes report → scan.frame ≡ frame
@@ -97,7 +96,7 @@ pub report_of_scan : (group : Group) (frame : Frame) → IsMadeFor group frame �
     → (report : Report) → Shows scan numbers planes report → IsReportOf (group_listing group) frame report
 report_of_scan group frame (plane, basis, of) scan is numbers planes are_numbers is_count report shown =
     let g = group_listing group in
-    report_made group frame basis (subst (λ p. IsFrameOf group p basis frame) (sym of.plane) of) scan numbers planes report shown is.frame_is is.is
+    report_made group frame basis (subst (λ p. IsFrameOf g p basis frame) (sym of.plane) of) scan numbers planes report shown is.frame_is is.is
     (subst (λ (f : Frame). AreOrbitNumbers g (row_of f.plane) (heights_of_specials scan.special.items) numbers) is.frame_is are_numbers)
     (subst (λ (f : Frame). IsPlaneCount g (row_of f.plane) f.period.0 planes) is.frame_is
     (subst (λ d. IsPlaneCount g (row_of scan.frame.plane) d planes) scan.frame.tau_gives is_count))

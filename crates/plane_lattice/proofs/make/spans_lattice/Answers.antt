@@ -5,7 +5,7 @@ use Rattle.motions.specs.BasisView.{basis_of}
 use Rattle.closure.specs.Groups.{group_listing}
 use Rattle.closure.specs.Lattices.{residues_of}
 use Rattle.closure.specs.Residues.{residue}
-use Rattle.plane_lattice.proofs.LatticeTests.{spanned, edges_held, residues_held}
+use Rattle.plane_lattice.proofs.LatticeTests.{spanned, edges_held, residue_within, residues_held}
 use Rattle.plane_lattice.proofs.make.spans_lattice.Goals as goal
 
 pub returns-then-not-holds_edges : goal.returns-then-not-holds_edges
@@ -13,6 +13,9 @@ returns-then-not-holds_edges c = (
   λ t. absurd (cc t),
   λ spans. absurd (cc (c.if-not-holds_edges.true, c.holds_edges.ensures.1 (edges_held (group_listing c.args.group.now) (basis_of c.args.dual.now.basis) spans))),
 )
+
+pub holds_all-requires-clause-vectors : goal.holds_all-requires-clause-vectors
+holds_all-requires-clause-vectors c k d h = residue_within _ (c.residues.ensures.reduced k d h)
 
 pub returns : goal.returns
 returns c =

@@ -1,42 +1,50 @@
 -- A frame that is not skewed is given, with its period and its mean.
-use Rattle.std.proofs.Common.{◌≡◌, ◌↔◌, ◌≤ℤ◌, ◌<ℤ◌, Bool, IsTrue, ◌<◌, ℤ, pos, List, length, ◌∙◌, ap, sym, subst, refl, arith, lit<}
+use Rattle.std.proofs.Common.{◌≡◌, ◌↔◌, ◌≤ℤ◌, Bool, IsTrue, ◌<◌, ℤ, pos, List, length, ◌∙◌, ap, sym, subst, refl, arith, lit<}
+use Rattle.std.specs.Prelude.{Err}
 use Rattle.std.proofs.lemmas.Int.{ints}
 use Rattle.integers.specs.Size.{IsWithin}
 use Rattle.integers.proofs.Coded.{again, again_is}
 use Rattle.symmetry.specs.Frames.{Basis, IsFrame, IsPeriod, IsSkewed, mean_of}
+use Rattle.symmetry.specs.Groups.{Listing}
 use Rattle.symmetry.specs.Motions.{Motion}
-use Rattle.symmetry.specs.Vectors.{Vector, cross, dot, multiple}
+use Rattle.symmetry.specs.Vectors.{Vector, dot}
 use Rattle.symmetry.proofs.FrameLaws.{frame_period}
 use Rattle.motions.specs.BasisView.{basis_of}
 use Rattle.motions.specs.Views.{row_of}
 use Rattle.motions.specs.declared.basis.Basis.{Basis as BasisOfCode}
 use Rattle.motions.specs.declared.frame_fault.FrameFault.TheVariants.{NotFrame, Skewed}
+use Rattle.closure.proofs.OwnLattice.{own_fine}
 use Rattle.closure.specs.Groups.{group_listing}
 use Rattle.plane_lattice.specs.Bounds.{largest_period}
 use Rattle.plane_lattice.specs.Coordinates.{volume}
 use Rattle.plane_lattice.specs.Scanning.{scanning_ops, IsPointOf}
-use Rattle.plane_lattice.proofs.FrameTestFacts.{volume_positive}
-use Rattle.plane_lattice.proofs.LatticeTests.{edges_held}
+use Rattle.plane_lattice.proofs.FrameListings.{frame_alike, good_frame, no_frame, refused_alike, skewed_frame}
+use Rattle.plane_lattice.proofs.FrameTestFacts.{frame_passes_tests, volume_positive}
+use Rattle.plane_lattice.proofs.LatticeTests.{edges_held, fine_as}
 use Rattle.plane_lattice.proofs.ScanningFacts.{scanning_ops_are, some_scanning}
 use Rattle.plane_lattice.proofs.Wide.{wide, wide_is}
 use Rattle.plane_lattice.proofs.frame.Frame.make.Goals as goal
 
-positive_volume : (r : Vector) (f : Basis) → ((c : ℤ) × (pos 0 <ℤ c) × (cross f.a f.b ≡ multiple c r)) → pos 0 <ℤ dot r f.tau → pos 1 ≤ℤ volume f
-positive_volume r f right above = let h = volume_positive r f right above in omega (arith, ints)
-
 -- what is told of the vectors of the dual basis is told of these
-told : (P : Basis → Type 0) (b : Bool) (basis kept : BasisOfCode) → kept ≡ basis → (IsTrue b ↔ P (basis_of kept)) → (IsTrue b ↔ P (basis_of basis))
-told P b basis kept same tells = subst (λ (x : BasisOfCode). IsTrue b ↔ P (basis_of x)) same tells
+told : {b : Bool} {basis kept : BasisOfCode} (P : Basis → Type 0) → kept ≡ basis → (IsTrue b ↔ P (basis_of kept)) → (IsTrue b ↔ P (basis_of basis))
+told {b} P same tells = subst (λ (x : BasisOfCode). IsTrue b ↔ P (basis_of x)) same tells
 
 -- (hkl).tau as it is kept
 period_is : (z d : ℤ) → IsWithin largest_period z → z ≡ d → again (wide z) ≡ d
 period_is z d small is = ap again (wide_is largest_period z (lit< tt) small) ∙ again_is z largest_period small (lit< tt) ∙ is
 
+module _ (g : Listing) (r : Vector) (f : Basis) (frame : IsFrame g r f) where
+  frame_volume : pos 1 ≤ℤ volume f
+  frame_volume = let h = volume_positive r f frame.right_handed frame.tau_above in omega (arith, ints)
+
+  frame_above : pos 1 ≤ℤ dot r f.tau
+  frame_above = omega (arith, ints, frame.tau_above)
+
 pub is_skewed_frame-requires : goal.is_skewed_frame-requires
 is_skewed_frame-requires c =
-    let frame = (told (IsFrame (group_listing c.args.group.now) (row_of c.args.plane)) c.is_frame.result c.args.basis c.make-dual.result.basis c.make-dual.ensures c.is_frame.ensures).0 c.if-not-is_frame.false in
+    let frame = (told (IsFrame (group_listing c.args.group.now) (row_of c.args.plane)) c.make-dual.ensures c.is_frame.ensures).0 c.if-not-is_frame.false in
     subst (λ (x : BasisOfCode). pos 1 ≤ℤ volume (basis_of x)) (sym c.make-dual.ensures)
-    (positive_volume (row_of c.args.plane) (basis_of c.args.basis) frame.right_handed frame.tau_above)
+    (frame_volume (group_listing c.args.group.now) (row_of c.args.plane) (basis_of c.args.basis) frame)
 
 pub mean-c-requires-clause-operations : goal.mean-c-requires-clause-operations
 mean-c-requires-clause-operations c k d h = (c.ops.ensures.small k d h).small
@@ -48,11 +56,12 @@ mean-c-requires-clause-some c =
 
 pub invariant_of-result : goal.invariant_of-result
 invariant_of-result c =
-    let frame = (told (IsFrame (group_listing c.args.group.now) (row_of c.args.plane)) c.is_frame.result c.args.basis c.make-dual.result.basis c.make-dual.ensures c.is_frame.ensures).0 c.if-not-is_frame.false in
+    let frame = (told (IsFrame (group_listing c.args.group.now) (row_of c.args.plane)) c.make-dual.ensures c.is_frame.ensures).0 c.if-not-is_frame.false in
+    let g = group_listing c.args.group.now in
     let r = row_of c.args.plane in
     let f = basis_of c.args.basis in
     let period = period_is c.height_of.result (dot r f.tau) c.height_of.ensures.small c.height_of.ensures.is in
-    let above : pos 1 ≤ℤ dot r f.tau = omega (arith, ints, frame.tau_above) in
+    let tests = frame_passes_tests g r f frame in
     record {
       a_in_range = c.args.basis.a_in_range;
       b_in_range = c.args.basis.b_in_range;
@@ -60,14 +69,37 @@ invariant_of-result c =
       a_in_plane = frame.a_in_plane;
       b_in_plane = frame.b_in_plane;
       tau_gives = sym period;
-      above = subst (λ d. pos 1 ≤ℤ d) (sym period) above;
-      right_handed = positive_volume r f frame.right_handed frame.tau_above;
-      holds_edges = ∣ edges_held (group_listing c.args.group.now) f frame.spans ∣₁;
+      above = subst (λ d. pos 1 ≤ℤ d) (sym period) (frame_above g r f frame);
+      right_handed = frame_volume g r f frame;
+      holds_edges = ∣ edges_held g f frame.spans ∣₁;
+      fine = ∣ fine_as g f tests.a_in tests.b_in tests.tau_in (own_fine c.args.group.now) ∣₁;
     }
+
+-- ---- no frame, a skewed one, and a frame, by the group's own listing and by any other
+
+pub returns-then-not-is_frame-clause-faults : goal.returns-then-not-is_frame-clause-faults
+returns-then-not-is_frame-clause-faults c =
+    let g = group_listing c.args.group.now in
+    no_frame g (row_of c.args.plane) (basis_of c.args.basis) (λ frame. absurd (cc (c.if-not-is_frame.true, (told (IsFrame (group_listing c.args.group.now) (row_of c.args.plane)) c.make-dual.ensures c.is_frame.ensures).1 frame)))
+
+pub returns-then-not-is_frame-clause-refused : goal.returns-then-not-is_frame-clause-refused
+returns-then-not-is_frame-clause-refused c g of fault =
+    refused_alike g (group_listing c.args.group.now) of.alike (row_of c.args.plane) (basis_of c.args.basis) (Err NotFrame) fault
+    (returns-then-not-is_frame-clause-faults c fault)
+
+pub returns-then-is_skewed_frame-clause-faults : goal.returns-then-is_skewed_frame-clause-faults
+returns-then-is_skewed_frame-clause-faults c =
+    let frame = (told (IsFrame (group_listing c.args.group.now) (row_of c.args.plane)) c.make-dual.ensures c.is_frame.ensures).0 c.if-not-is_frame.false in
+    skewed_frame (group_listing c.args.group.now) (row_of c.args.plane) (basis_of c.args.basis) frame ((told (IsSkewed (group_listing c.args.group.now) (row_of c.args.plane)) c.make-dual.ensures c.is_skewed_frame.ensures).0 c.if-is_skewed_frame.true)
+
+pub returns-then-is_skewed_frame-clause-refused : goal.returns-then-is_skewed_frame-clause-refused
+returns-then-is_skewed_frame-clause-refused c g of fault =
+    refused_alike g (group_listing c.args.group.now) of.alike (row_of c.args.plane) (basis_of c.args.basis) (Err Skewed) fault
+    (returns-then-is_skewed_frame-clause-faults c fault)
 
 pub returns-clause-ok : goal.returns-clause-ok
 returns-clause-ok c =
-    let frame = (told (IsFrame (group_listing c.args.group.now) (row_of c.args.plane)) c.is_frame.result c.args.basis c.make-dual.result.basis c.make-dual.ensures c.is_frame.ensures).0 c.if-not-is_frame.false in
+    let frame = (told (IsFrame (group_listing c.args.group.now) (row_of c.args.plane)) c.make-dual.ensures c.is_frame.ensures).0 c.if-not-is_frame.false in
     let g = group_listing c.args.group.now in
     let r = row_of c.args.plane in
     let f = basis_of c.args.basis in
@@ -77,12 +109,23 @@ returns-clause-ok c =
       b = refl;
       tau = refl;
       is_frame = frame;
-      not_skewed = λ s. cc (c.if-is_skewed_frame.false, (told (IsSkewed (group_listing c.args.group.now) (row_of c.args.plane)) c.is_skewed_frame.result c.args.basis c.make-dual.result.basis c.make-dual.ensures c.is_skewed_frame.ensures).1 s);
+      not_skewed = λ s. cc (c.if-is_skewed_frame.false, (told (IsSkewed (group_listing c.args.group.now) (row_of c.args.plane)) c.make-dual.ensures c.is_skewed_frame.ensures).1 s);
       period = subst (IsPeriod g r) (sym (period_is c.height_of.result (dot r f.tau) c.height_of.ensures.small c.height_of.ensures.is)) (frame_period g r f frame);
-      scanning = scanning_ops_are g r c.ops.ensures.apart;
+      scanning = scanning_ops r g.ops;
+      are_scanning = scanning_ops_are g r c.ops.ensures.apart;
       mean = subst (λ (ms : List Motion). IsPointOf (mean_of r f.tau (scanning_ops r ms)) c.mean-c.result) c.ops.ensures.ops c.mean-c.ensures;
     }
 
+pub returns-clause-made : goal.returns-clause-made
+returns-clause-made c g of =
+    frame_alike g (group_listing c.args.group.now) of.alike c.args.plane c.args.basis _ (returns-clause-ok c)
+
 pub returns-clause-faults : goal.returns-clause-faults
-returns-clause-faults c NotFrame = (λ e. absurd (cc e), λ none. absurd (none ((told (IsFrame (group_listing c.args.group.now) (row_of c.args.plane)) c.is_frame.result c.args.basis c.make-dual.result.basis c.make-dual.ensures c.is_frame.ensures).0 c.if-not-is_frame.false)))
-returns-clause-faults c Skewed = (λ e. absurd (cc e), λ (_, s). absurd (cc (c.if-is_skewed_frame.false, (told (IsSkewed (group_listing c.args.group.now) (row_of c.args.plane)) c.is_skewed_frame.result c.args.basis c.make-dual.result.basis c.make-dual.ensures c.is_skewed_frame.ensures).1 s)))
+returns-clause-faults c =
+    let frame = (told (IsFrame (group_listing c.args.group.now) (row_of c.args.plane)) c.make-dual.ensures c.is_frame.ensures).0 c.if-not-is_frame.false in
+    good_frame (group_listing c.args.group.now) (row_of c.args.plane) (basis_of c.args.basis) _ frame (λ s. absurd (cc (c.if-is_skewed_frame.false, (told (IsSkewed (group_listing c.args.group.now) (row_of c.args.plane)) c.make-dual.ensures c.is_skewed_frame.ensures).1 s)))
+
+pub returns-clause-refused : goal.returns-clause-refused
+returns-clause-refused c g of fault =
+    refused_alike g (group_listing c.args.group.now) of.alike (row_of c.args.plane) (basis_of c.args.basis) _ fault
+    (returns-clause-faults c fault)
