@@ -8,13 +8,15 @@ use Rattle.motions.specs.declared.frame_fault.FrameFault.TheVariants as frames
 use Rattle.closure.specs.declared.group_error.GroupError.{GroupError}
 use Rattle.closure.specs.declared.group_error.GroupError.TheVariants as groups
 use Rattle.closure.specs.GroupErrors.{IsGroupError}
+use Rattle.plane_lattice.specs.FrameOf.{IsFrameFault}
+use Rattle.plane_lattice.proofs.FrameListings.{one_frame_fault}
 use Rattle.closure.proofs.OneError.{one_group_error, no_group_and_error}
 use Rattle.triplets.proofs.OneFault.{one_listing, one_fault, no_listing_and_fault}
 use Rattle.command.specs.declared.refusal.Refusal.{Refusal}
 use Rattle.command.specs.declared.obstacle.Obstacle.TheVariants as obstacles
 use Rattle.command.specs.Obstacles.{obstacle_of_group, refusal_of_frame}
 use Rattle.command.specs.Questions.{Question, at_height, all_heights, image_rows}
-use Rattle.command.specs.FairFrames.{FrameFails, IsFairFrame, RefusesFrame}
+use Rattle.command.specs.FairFrames.{IsFairFrame, RefusesFrame}
 use Rattle.command.specs.Inputs.{Cause, too_long, of_text, of_group, IsCause, IsShort, ListsGroup, obstacle_of}
 use Rattle.command.specs.Answers.{Answers, AnswersInput, IsFair, IsFairInput, RefusesInput, RefusesQuestion}
 
@@ -48,16 +50,10 @@ no_group_and_cause input r g (of_group error) short lists (short', (l, text, is)
 -- ---- why a group has no answer
 
 module _ (g : Listing) (row : Vector) (basis : Basis) where
-  one_frame_fault : (f f' : FrameFault) → FrameFails g row basis f → FrameFails g row basis f' → f ≡ f'
-  one_frame_fault frames.NotFrame frames.NotFrame p q = refl
-  one_frame_fault frames.NotFrame frames.Skewed p q = absurd (p q.0)
-  one_frame_fault frames.Skewed frames.NotFrame p q = absurd (q p.0)
-  one_frame_fault frames.Skewed frames.Skewed p q = refl
-
   one_frame_refusal : (r r' : Refusal) → RefusesFrame g row basis r → RefusesFrame g row basis r' → r ≡ r'
-  one_frame_refusal r r' p q = p.2 ∙ ap refusal_of_frame (one_frame_fault p.0 q.0 p.1 q.1) ∙ sym q.2
+  one_frame_refusal r r' p q = p.2 ∙ ap refusal_of_frame (one_frame_fault g row basis p.0 q.0 p.1 q.1) ∙ sym q.2
 
-  frame_holds : (f : FrameFault) → IsFairFrame g row basis → FrameFails g row basis f → ⊥
+  frame_holds : (f : FrameFault) → IsFairFrame g row basis → IsFrameFault g row basis f → ⊥
   frame_holds frames.NotFrame fair p = p fair.is_frame
   frame_holds frames.Skewed fair p = fair.not_skewed p.1
 

@@ -1,27 +1,18 @@
 -- What the steps of a run make, and what keeps them from it.
 use Rattle.std.specs.Prelude.{◌≡◌, ◌≢◌, ◌⊎◌, ℕ, List, Option, Some, Result, Ok, Err}
-use Rattle.symmetry.specs.Vectors.{Vector}
 use Rattle.symmetry.specs.Groups.{Listing}
-use Rattle.symmetry.specs.Frames.{Basis}
-use Rattle.motions.specs.Views.{row_of}
-use Rattle.motions.specs.declared.frame_fault.FrameFault.{FrameFault}
 use Rattle.devices.specs.Calls.{Rose}
 use Rattle.closure.specs.declared.group.Group.{Group}
-use Rattle.plane_lattice.specs.declared.frame.Frame.{Frame}
-use Rattle.plane_lattice.specs.FrameView.{basis_of_frame}
-use Rattle.plane_lattice.specs.FrameOf.{IsMadeFor}
 use Rattle.command.specs.declared.obstacle.Obstacle.{Obstacle}
 use Rattle.command.specs.declared.obstacle.Obstacle.TheVariants as obstacles
 use Rattle.command.specs.declared.outcome.Outcome.{Outcome}
 use Rattle.command.specs.declared.outcome.Outcome.TheVariants as outcomes
 use Rattle.command.specs.declared.refusal.Refusal.{Refusal}
 use Rattle.command.specs.declared.refusal.Refusal.TheVariants.{TooLong}
-use Rattle.command.specs.Obstacles.{refusal_of_frame}
 use Rattle.command.specs.Questions.{Asked, Question}
 use Rattle.command.specs.Requests.{IsRequest}
 use Rattle.command.specs.Inputs.{IsRefusedInput}
-use Rattle.closure.specs.Groups.{group_listing, IsGroupOf}
-use Rattle.command.specs.FairFrames.{FrameFails}
+use Rattle.closure.specs.Groups.{IsGroupOf}
 use Rattle.command.specs.Answers.{IsInput, IsOutput, RefusesQuestion}
 use Rattle.command.specs.Runs.{IsCause}
 
@@ -48,17 +39,6 @@ IsReadWhole (Err obstacles.ReadFault) = ⊥
 IsReadWhole (Err obstacles.NoMemory) = ⊥
 
 -- ---- the answer of a group
-
--- the frame of the orientation with the vectors, which is one of the group and not skewed
-pub record IsFrameHere (group : Group) (row : Vector) (basis : Basis) (frame : Frame) : Type 0 where
-  pub row_is : row_of frame.plane ≡ row
-  pub basis_is : basis_of_frame frame ≡ basis
-  pub made : IsMadeFor group frame
-
--- what keeps the group from the frame
-abbrev pub IsFrameObstacle : Group → Vector → Basis → Obstacle → Type 0
-IsFrameObstacle group row basis obstacle =
-    (fault : FrameFault) × FrameFails (group_listing group) row basis fault × (obstacle ≡ obstacles.Refused (refusal_of_frame fault))
 
 -- what keeps the group from an answer, as each listing of it tells
 abbrev pub IsGroupsObstacle : Group → Question → Obstacle → Type 0

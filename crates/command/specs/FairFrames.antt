@@ -4,7 +4,7 @@ use Rattle.symmetry.specs.Vectors.{Vector}
 use Rattle.symmetry.specs.Groups.{Listing}
 use Rattle.symmetry.specs.Frames.{Basis, IsFrame, IsSkewed}
 use Rattle.motions.specs.declared.frame_fault.FrameFault.{FrameFault}
-use Rattle.motions.specs.declared.frame_fault.FrameFault.TheVariants as frames
+use Rattle.plane_lattice.specs.FrameOf.{IsFrameFault}
 use Rattle.command.specs.declared.refusal.Refusal.{Refusal}
 use Rattle.command.specs.Obstacles.{refusal_of_frame}
 
@@ -13,11 +13,6 @@ pub record IsFairFrame (g : Listing) (row : Vector) (basis : Basis) : Type 0 whe
   pub is_frame : IsFrame g row basis
   pub not_skewed : ¬ IsSkewed g row basis
 
--- what is wrong with the vectors of a frame: they are none, or one that is skewed
-abbrev pub FrameFails : Listing → Vector → Basis → FrameFault → Type 0
-FrameFails g row basis frames.NotFrame = ¬ IsFrame g row basis
-FrameFails g row basis frames.Skewed = IsFrame g row basis × IsSkewed g row basis
-
 -- why the vectors are refused
 abbrev pub RefusesFrame : Listing → Vector → Basis → Refusal → Type 0
-RefusesFrame g row basis refusal = (fault : FrameFault) × FrameFails g row basis fault × (refusal ≡ refusal_of_frame fault)
+RefusesFrame g row basis refusal = (fault : FrameFault) × IsFrameFault g row basis fault × (refusal ≡ refusal_of_frame fault)

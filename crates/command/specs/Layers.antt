@@ -1,13 +1,10 @@
 -- `layers`: the report of all heights of an orientation.
 use Rattle.std.specs.Prelude.{◌≡◌, ℕ, List, ◌∷◌, Option, None, Result, option_and_then, option_map}
-use Rattle.symmetry.specs.Vectors.{Vector, dot}
-use Rattle.symmetry.specs.Motions.{Motion}
-use Rattle.symmetry.specs.Planes.{Height, IsHeight}
-use Rattle.symmetry.specs.Groups.{Listing, InStabiliser}
+use Rattle.symmetry.specs.Vectors.{Vector}
+use Rattle.symmetry.specs.Groups.{Listing}
 use Rattle.symmetry.specs.Frames.{Basis}
-use Rattle.symmetry.specs.Lists.{ListsInPlane}
-use Rattle.symmetry.specs.Scans.{GivesAt, IsInOneClass}
-use Rattle.report.specs.Reports.{IsReport, Report, scan_of_report}
+use Rattle.report.specs.Consequences.{ReportSays}
+use Rattle.report.specs.Reports.{IsReport, Report}
 use Rattle.report.specs.Texts.{report_text}
 use Rattle.command.specs.declared.refusal.Refusal.{Refusal}
 use Rattle.command.specs.Words.{FrameWords, frame_words, row_words}
@@ -24,14 +21,10 @@ abbrev pub layers_words : List (List ℕ) → Option (Result Asked Refusal)
 layers_words (h ∷ k ∷ l ∷ others) = option_and_then (λ row. option_map (layers_asked row) (frame_words others)) (row_words h k l)
 layers_words _ = None
 
--- the text is that of the report. Every height is in one of its classes; and what it gives as the operations at a height
--- are, once each modulo the translations of the plane, exactly the members of the group that map the plane to itself
+-- the text is that of the report, with what this says of every height
 pub record IsReportAnswer (g : Listing) (row : Vector) (basis : Basis) (text : List ℕ) : Type 0 where
   pub frame : IsFairFrame g row basis
   pub report : Report
   pub is_report : IsReport g row basis report
+  pub says : ReportSays g row basis report
   pub is_text : text ≡ report_text report
-  pub classes : (s : Height) → IsHeight s → IsInOneClass g row (dot row basis.tau) (scan_of_report report).special s
-  pub given : (s : Height) → IsHeight s → (ops : List Motion) × GivesAt g row basis (scan_of_report report) s ops
-  pub exactly : (s : Height) (ops : List Motion) → IsHeight s → GivesAt g row basis (scan_of_report report) s ops
-      → ListsInPlane g row (InStabiliser g row s) ops

@@ -12,7 +12,6 @@ ghost use Rattle.command.specs.Limits.{IsHeightInRange};
 ghost use Rattle.command.specs.Questions.{at_height, IsAskedInRange, result_map};
 ghost use Rattle.command.specs.Views.{asked_of, frame_of, index_row};
 
-use crate::frame::make_frame;
 use crate::limits::{PlaneWords, Planes, within_limits};
 use crate::obstacle::Obstacle;
 use crate::refusal::Refusal;
@@ -21,13 +20,15 @@ use crate::words::{FrameWord, IndexWords, read_frame, read_indices, read_whole_r
 use closure::Group;
 use fractions::Ratio;
 use motions::{Basis, Miller};
+use plane_lattice::Frame;
 use report::at_text;
 use scanning::Scan;
 use std::alloc::Global;
 
 /// What the words behind `at` ask for, or the first limit that they pass: `h k l s`, and a frame behind it.
 pub fn read_at(arguments: &[String]) -> Option<Result<Request, Refusal>>
-    ensures is { option_map (λ read. result_map asked_of read) result ≡ at_words (map string_bytes arguments.now) }
+    ensures is { option_map (λ read. result_map asked_of read) result
+        ≡ at_words (map string_bytes arguments.now) }
     ensures range { IfSome result (λ read. IfOk read (λ request. IsAskedInRange (asked_of request))) }
 {
     match arguments {
@@ -43,7 +44,8 @@ pub fn read_at(arguments: &[String]) -> Option<Result<Request, Refusal>>
 
 /// The request of a height, if the words are within the limits.
 fn height_request(row: IndexWords, s: Ratio, frame: Option<FrameWord>) -> Result<Request, Refusal>
-    ensures is { result_map asked_of result ≡ at_asked (index_row row) (fraction_of s) (option_map frame_of frame) }
+    ensures is { result_map asked_of result
+        ≡ at_asked (index_row row) (fraction_of s) (option_map frame_of frame) }
     ensures range { IfOk result (λ request. IsAskedInRange (asked_of request)) }
 {
     let Planes { plane, basis } = within_limits(PlaneWords {
@@ -68,7 +70,7 @@ pub fn height_text(
     ensures obstacle { IfErr result
         (IsGroupsObstacle group.now (at_height (row_of plane) (basis_of basis) (fraction_of s))) }
 {
-    let frame = make_frame(group, plane, basis)?;
+    let frame = Frame::make(group, plane, basis)?;
     let scan = Scan::make(alloc, group, &frame)?;
     let operations = scan.ops_at(alloc, s)?;
     Ok(at_text(alloc, s, &operations)?)

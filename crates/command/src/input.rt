@@ -14,8 +14,10 @@ use triplets::{MOST_BYTES, read_group};
 
 /// Reads a source to its end: the group that it lists.
 pub fn group_of<S: Source>(alloc: Global, source: &mut S) -> Result<Group, Obstacle>
-    ensures group { IfOk result (λ group. (input : List ℕ) → S.left source.old ≡ Some input → IsGroupOfInput input group) }
-    ensures obstacle { IfErr result (IsSourceObstacle (S.left source.old) (S.faults source.old) (S.faults source.new)) }
+    ensures group { IfOk result (λ group. (input : List ℕ) →
+        S.left source.old ≡ Some input → IsGroupOfInput input group) }
+    ensures obstacle { IfErr result
+        (IsSourceObstacle (S.left source.old) (S.faults source.old) (S.faults source.new)) }
     ensures unfailed { OnOk result (S.faults source.new ≡ S.faults source.old) }
     ensures steady { S.NeverFails source.old → result ≢ Err Obstacle.ReadFault }
     ensures whole { IsReadWhole result → IsAtEnd (S.left source.new) }

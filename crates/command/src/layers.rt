@@ -10,7 +10,6 @@ ghost use Rattle.command.specs.Layers.{layers_asked, layers_words};
 ghost use Rattle.command.specs.Questions.{all_heights, IsAskedInRange, result_map};
 ghost use Rattle.command.specs.Views.{asked_of, frame_of, index_row};
 
-use crate::frame::make_frame;
 use crate::limits::{PlaneWords, Planes, within_limits};
 use crate::obstacle::Obstacle;
 use crate::refusal::Refusal;
@@ -18,6 +17,7 @@ use crate::request::{Question, Request};
 use crate::words::{FrameWord, IndexWords, read_frame, read_indices};
 use closure::Group;
 use motions::{Basis, Miller};
+use plane_lattice::Frame;
 use report::Report;
 use std::alloc::Global;
 
@@ -60,7 +60,7 @@ pub fn heights_text(
         Answers g (all_heights (row_of plane) (basis_of basis)) text.items) }
     ensures obstacle { IfErr result (IsGroupsObstacle group.now (all_heights (row_of plane) (basis_of basis))) }
 {
-    let frame = make_frame(group, plane, basis)?;
+    let frame = Frame::make(group, plane, basis)?;
     let report = Report::make(alloc, group, &frame)?;
     Ok(report.text(alloc)?)
 }

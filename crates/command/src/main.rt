@@ -4,7 +4,6 @@
 #![tactic(auto)]
 
 mod at;
-mod frame;
 mod images;
 mod input;
 mod laws;
@@ -39,6 +38,7 @@ fn main(rt: HostRuntime) -> ExitCode {
     let Ok(words) = words else {
         return ExitCode::from(Outcome::NoMemory.code());
     };
+    // These devices tell nothing of their bytes: that standard input and output pass them on is trusted.
     let mut source = RealSource::make(rt.stdin());
     let mut out = RealSink::make(rt.stdout());
     let mut complaints = RealSink::make(rt.stderr());
