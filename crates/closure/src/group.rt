@@ -1,13 +1,10 @@
 // A space group: operations, each once modulo the translation lattice.
 ghost use Rattle.std.specs.Prelude.{◌≡◌, ◌≤◌, ◌↔◌, All, IfErr, IfOk, IsTrue, length, map, vec_len};
 ghost use Rattle.quotient.specs.Lists.{AreFirst};
-ghost use Rattle.symmetry.specs.Groups.{IsGroup, IsInLattice, IsMember, SameModulo};
-ghost use Rattle.symmetry.specs.Lists.{ComesBefore};
-ghost use Rattle.symmetry.specs.Motions.{Motion as MotionOfSpace};
-ghost use Rattle.symmetry.specs.Vectors.{Vector};
+ghost use Rattle.symmetry.specs.Groups.{IsGroup, IsInLattice, SameModulo};
 ghost use Rattle.motions.specs.ListedSizes.{IsListedSmall};
 ghost use Rattle.motions.specs.Views.{listing_of, motion_of, parts};
-ghost use Rattle.closure.specs.Lattices.{InLattice, IsLatticeOf};
+ghost use Rattle.closure.specs.Lattices.{IsLatticeOf};
 ghost use Rattle.closure.specs.Operations.{listing_with, AreApart, HasSmallEntries, HoldsTranslations};
 
 use crate::group_error::GroupError;
@@ -53,17 +50,6 @@ impl Group {
         requires { IsListedSmall 50 listed }
         ensures limits { IfOk result (λ _. IsWithinLimits (listing_of listed)) }
         ensures made { IfOk result (IsGroupOf (listing_of listed)) }
-        ensures group { IfOk result (λ _. IsGroup (listing_of listed)) }
-        ensures lattice { IfOk result (λ group. IsLatticeOf (listing_of listed) (lattice_of group)) }
-        ensures vectors { IfOk result (λ group. (v : Vector)
-            → IsInLattice (listing_of listed) v ↔ IsInLattice (group_listing group) v) }
-        ensures ops { IfOk result (λ group.
-            AreFirst (SameModulo (listing_of listed)) (listing_of listed).ops (group_listing group).ops) }
-        ensures members { IfOk result (λ group. (m : MotionOfSpace)
-            → IsMember (listing_of listed) m ↔ IsMember (group_listing group) m) }
-        ensures order { IfOk result (λ group. (m n : MotionOfSpace)
-            → ComesBefore (SameModulo (listing_of listed)) (listing_of listed).ops m n
-            ↔ ComesBefore (SameModulo (listing_of listed)) (group_listing group).ops m n) }
         ensures accepted { IsWithinLimits (listing_of listed) → IsGroup (listing_of listed)
             → IfErr result (λ error. error ≡ NoMemory) }
         ensures refused { IfErr result (IsGroupError (listing_of listed)) }

@@ -31,9 +31,6 @@ impl Frame {
     /// product of a and b is no positive multiple of (hkl). Else [`Skewed`](FrameFault::Skewed) comes exactly where an
     /// operation that keeps the orientation has a matrix entry above 500 in size, written in the basis.
     pub fn make(group: &Group, plane: Miller, basis: Basis) -> Result<Frame, FrameFault>
-        ensures ok { IfOk result (IsFrameOf (group_listing group.now) plane basis) }
-        ensures faults { (fault : FrameFault)
-            → (result ≡ Err fault) ↔ IsFrameFault (group_listing group.now) (row_of plane) (basis_of basis) fault }
         ensures made { (g : Listing) → IsGroupOf g group.now → IfOk result (IsFrameOf g plane basis) }
         ensures refused { (g : Listing) → IsGroupOf g group.now → (fault : FrameFault)
             → (result ≡ Err fault) ↔ IsFrameFault g (row_of plane) (basis_of basis) fault }

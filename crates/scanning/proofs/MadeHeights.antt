@@ -10,7 +10,7 @@ use Rattle.fractions.specs.declared.part.TheConstants.{UNIT}
 use Rattle.fractions.proofs.Multiples.{rem-multiple}
 use Rattle.integers.proofs.Solver.{Expr.{var, num, ◌⊗◌}, given, linear}
 use Rattle.symmetry.specs.Motions.{Motion}
-use Rattle.symmetry.specs.Planes.{Height as HeightOfPlane, IsHeight}
+use Rattle.symmetry.specs.Planes.{Height as HeightOfPlane}
 use Rattle.symmetry.specs.Scans.{IsInPeriod, IsLower, SpecialHeight}
 use Rattle.closure.specs.Laws.ListLaws.{AllPairs-map}
 use Rattle.plane_lattice.specs.declared.frame.Frame.{Frame}

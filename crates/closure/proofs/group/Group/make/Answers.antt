@@ -7,7 +7,7 @@ use Rattle.symmetry.specs.Sizes.{IsSmall}
 use Rattle.motions.specs.declared.motion.Motion3.{Motion3}
 use Rattle.motions.specs.Views.{motion_of, listing_of}
 use Rattle.closure.specs.GroupErrors.{IsWithinLimits}
-use Rattle.closure.proofs.GroupMade.{lattice_refused, lattice_accepted, kept_apart, kept_translations, accepted_group, kept_is_group, refused_fault, refused_group, kept_vectors, kept_members, kept_order, kept_alike, moves_little_after}
+use Rattle.closure.proofs.GroupMade.{lattice_refused, lattice_accepted, kept_apart, kept_translations, accepted_group, kept_is_group, refused_fault, refused_group, kept_alike, moves_little_after}
 use Rattle.closure.specs.Operations.{HasSmallEntries}
 use Rattle.closure.proofs.group.Group.make.Goals as goal
 
@@ -77,22 +77,3 @@ returns-clause-made c =
       alike = kept_alike (listing_of c.args.listed) lattice.lattice lattice.ensures.lattice ops.ops.items ops.ensures.first;
       firsts = ops.ensures.first;
     }
-
-pub returns-clause-group : goal.returns-clause-group
-returns-clause-group c =
-    let lattice = c.in_ok-lattice in
-    let ops = c.in_ok-ops in
-    accepted_group (listing_of c.args.listed) lattice.lattice lattice.ensures.lattice ops.ops.items ops.ensures.first c.deref-2.result.now c.deref-2.ensures.value
-    (c.in_ok-check_group_by_homes.ensures.accepted.0 refl)
-
-pub returns-clause-vectors : goal.returns-clause-vectors
-returns-clause-vectors c =
-    kept_vectors (listing_of c.args.listed) c.in_ok-lattice.lattice c.in_ok-lattice.ensures.lattice c.in_ok-ops.ops.items c.in_ok-ops.ensures.first
-
-pub returns-clause-members : goal.returns-clause-members
-returns-clause-members c =
-    kept_members (listing_of c.args.listed) c.in_ok-lattice.lattice c.in_ok-lattice.ensures.lattice c.in_ok-ops.ops.items c.in_ok-ops.ensures.first
-
-pub returns-clause-order : goal.returns-clause-order
-returns-clause-order c =
-    kept_order (listing_of c.args.listed) c.in_ok-lattice.lattice c.in_ok-lattice.ensures.lattice c.in_ok-ops.ops.items c.in_ok-ops.ensures.first

@@ -75,57 +75,49 @@ invariant_of-result c =
       fine = ∣ fine_as g f tests.a_in tests.b_in tests.tau_in (own_fine c.args.group.now) ∣₁;
     }
 
--- ---- no frame, a skewed one, and a frame, by the group's own listing and by any other
-
-pub returns-then-not-is_frame-clause-faults : goal.returns-then-not-is_frame-clause-faults
-returns-then-not-is_frame-clause-faults c =
-    let g = group_listing c.args.group.now in
-    no_frame g (row_of c.args.plane) (basis_of c.args.basis) (λ frame. absurd (cc (c.if-not-is_frame.true, (told (IsFrame (group_listing c.args.group.now) (row_of c.args.plane)) c.make-dual.ensures c.is_frame.ensures).1 frame)))
+-- ---- no frame, a skewed one, and a frame, by the group's own listing and from there by any other
 
 pub returns-then-not-is_frame-clause-refused : goal.returns-then-not-is_frame-clause-refused
 returns-then-not-is_frame-clause-refused c g of fault =
-    refused_alike g (group_listing c.args.group.now) of.alike (row_of c.args.plane) (basis_of c.args.basis) (Err NotFrame) fault
-    (returns-then-not-is_frame-clause-faults c fault)
-
-pub returns-then-is_skewed_frame-clause-faults : goal.returns-then-is_skewed_frame-clause-faults
-returns-then-is_skewed_frame-clause-faults c =
-    let frame = (told (IsFrame (group_listing c.args.group.now) (row_of c.args.plane)) c.make-dual.ensures c.is_frame.ensures).0 c.if-not-is_frame.false in
-    skewed_frame (group_listing c.args.group.now) (row_of c.args.plane) (basis_of c.args.basis) frame ((told (IsSkewed (group_listing c.args.group.now) (row_of c.args.plane)) c.make-dual.ensures c.is_skewed_frame.ensures).0 c.if-is_skewed_frame.true)
+    let h = group_listing c.args.group.now in
+    let r = row_of c.args.plane in
+    let tells = told (IsFrame h r) c.make-dual.ensures c.is_frame.ensures in
+    refused_alike g h of.alike r (basis_of c.args.basis) (Err NotFrame) fault
+    (no_frame h r (basis_of c.args.basis) (λ frame. absurd (cc (c.if-not-is_frame.true, tells.1 frame))) fault)
 
 pub returns-then-is_skewed_frame-clause-refused : goal.returns-then-is_skewed_frame-clause-refused
 returns-then-is_skewed_frame-clause-refused c g of fault =
-    refused_alike g (group_listing c.args.group.now) of.alike (row_of c.args.plane) (basis_of c.args.basis) (Err Skewed) fault
-    (returns-then-is_skewed_frame-clause-faults c fault)
+    let h = group_listing c.args.group.now in
+    let r = row_of c.args.plane in
+    let frame = (told (IsFrame h r) c.make-dual.ensures c.is_frame.ensures).0 c.if-not-is_frame.false in
+    let skewed = (told (IsSkewed h r) c.make-dual.ensures c.is_skewed_frame.ensures).0 c.if-is_skewed_frame.true in
+    refused_alike g h of.alike r (basis_of c.args.basis) (Err Skewed) fault (skewed_frame h r (basis_of c.args.basis) frame skewed fault)
 
-pub returns-clause-ok : goal.returns-clause-ok
-returns-clause-ok c =
-    let frame = (told (IsFrame (group_listing c.args.group.now) (row_of c.args.plane)) c.make-dual.ensures c.is_frame.ensures).0 c.if-not-is_frame.false in
-    let g = group_listing c.args.group.now in
+pub returns-clause-refused : goal.returns-clause-refused
+returns-clause-refused c g of fault =
+    let h = group_listing c.args.group.now in
+    let r = row_of c.args.plane in
+    let frame = (told (IsFrame h r) c.make-dual.ensures c.is_frame.ensures).0 c.if-not-is_frame.false in
+    let tells = told (IsSkewed h r) c.make-dual.ensures c.is_skewed_frame.ensures in
+    refused_alike g h of.alike r (basis_of c.args.basis) _ fault
+    (good_frame h r (basis_of c.args.basis) _ frame (λ s. absurd (cc (c.if-is_skewed_frame.false, tells.1 s))) fault)
+
+pub returns-clause-made : goal.returns-clause-made
+returns-clause-made c g of =
+    let h = group_listing c.args.group.now in
     let r = row_of c.args.plane in
     let f = basis_of c.args.basis in
-    record {
+    let frame = (told (IsFrame h r) c.make-dual.ensures c.is_frame.ensures).0 c.if-not-is_frame.false in
+    let tells = told (IsSkewed h r) c.make-dual.ensures c.is_skewed_frame.ensures in
+    frame_alike g h of.alike c.args.plane c.args.basis _ (record {
       plane = refl;
       a = refl;
       b = refl;
       tau = refl;
       is_frame = frame;
-      not_skewed = λ s. cc (c.if-is_skewed_frame.false, (told (IsSkewed (group_listing c.args.group.now) (row_of c.args.plane)) c.make-dual.ensures c.is_skewed_frame.ensures).1 s);
-      period = subst (IsPeriod g r) (sym (period_is c.height_of.result (dot r f.tau) c.height_of.ensures.small c.height_of.ensures.is)) (frame_period g r f frame);
-      scanning = scanning_ops r g.ops;
-      are_scanning = scanning_ops_are g r c.ops.ensures.apart;
+      not_skewed = λ s. cc (c.if-is_skewed_frame.false, tells.1 s);
+      period = subst (IsPeriod h r) (sym (period_is c.height_of.result (dot r f.tau) c.height_of.ensures.small c.height_of.ensures.is)) (frame_period h r f frame);
+      scanning = scanning_ops r h.ops;
+      are_scanning = scanning_ops_are h r c.ops.ensures.apart;
       mean = subst (λ (ms : List Motion). IsPointOf (mean_of r f.tau (scanning_ops r ms)) c.mean-c.result) c.ops.ensures.ops c.mean-c.ensures;
-    }
-
-pub returns-clause-made : goal.returns-clause-made
-returns-clause-made c g of =
-    frame_alike g (group_listing c.args.group.now) of.alike c.args.plane c.args.basis _ (returns-clause-ok c)
-
-pub returns-clause-faults : goal.returns-clause-faults
-returns-clause-faults c =
-    let frame = (told (IsFrame (group_listing c.args.group.now) (row_of c.args.plane)) c.make-dual.ensures c.is_frame.ensures).0 c.if-not-is_frame.false in
-    good_frame (group_listing c.args.group.now) (row_of c.args.plane) (basis_of c.args.basis) _ frame (λ s. absurd (cc (c.if-is_skewed_frame.false, (told (IsSkewed (group_listing c.args.group.now) (row_of c.args.plane)) c.make-dual.ensures c.is_skewed_frame.ensures).1 s)))
-
-pub returns-clause-refused : goal.returns-clause-refused
-returns-clause-refused c g of fault =
-    refused_alike g (group_listing c.args.group.now) of.alike (row_of c.args.plane) (basis_of c.args.basis) _ fault
-    (returns-clause-faults c fault)
+    })
