@@ -2,6 +2,12 @@ pub mod AlikeReports
 pub mod Blocks
 pub mod Made
 pub mod Means
+pub mod NamedSizes
 pub mod NumberedHeights
+pub mod SameSets
 pub mod Says
+pub mod ScanSections
+pub mod SeenLists
+pub mod SmallSizes
+pub mod StepNumbers
 pub mod TextLines

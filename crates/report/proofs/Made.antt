@@ -1,5 +1,8 @@
 -- The report of a scan and of the orbits of its heights is the report of the group.
-use Rattle.std.proofs.Common.{◌≡◌, ℕ, List, [], ◌∷◌, map, refl, sym, ap, subst, ◌∙◌}
+use Rattle.std.proofs.Common.{◌≡◌, ℕ, List, [], ◌∷◌, Option, map, refl, sym, ap, subst, ◌∙◌}
+use Rattle.std.specs.Prelude.{All, option_map}
+use Rattle.std.specs.List.{AllZip}
+use Rattle.fractions.specs.FractionOf.{fraction_of}
 use Rattle.symmetry.specs.Frames.{IsFrame, IsPeriod, mean_of}
 use Rattle.symmetry.specs.Groups.{Listing}
 use Rattle.symmetry.specs.Vectors.{Vector, dot}
@@ -14,6 +17,8 @@ use Rattle.plane_lattice.specs.declared.frame.Frame.{Frame}
 use Rattle.plane_lattice.specs.FrameOf.{IsFrameOf, IsMadeFor}
 use Rattle.plane_lattice.specs.FrameView.{basis_of_frame}
 use Rattle.plane_lattice.specs.Scanning.{IsPointOf}
+use Rattle.recognition.specs.declared.found.Found.{Found}
+use Rattle.recognition.specs.Search.{change_of}
 use Rattle.scanning.specs.declared.scan.Scan.{Scan}
 use Rattle.scanning.specs.HeightView.{heights_of_specials}
 use Rattle.scanning.specs.ScanView.{scan_of, IsScanOf}
@@ -21,8 +26,11 @@ use Rattle.report.specs.declared.report.Report.{Report}
 use Rattle.fractions.specs.Fractions.{fractions_of}
 use Rattle.report.specs.Reports.{HeightBlock, block_heights, special_of_block, IsMean}
 use Rattle.report.specs.ReportView.{report_of, IsReportOf}
+use Rattle.report.specs.FoundChanges.{IsGeneralType, IsTypeAt}
+use Rattle.report.specs.SectionView.{block_of}
 use Rattle.report.specs.Shown.{Shows}
 use Rattle.report.proofs.AlikeReports.{alike_reports}
+use Rattle.report.proofs.NumberedHeights.{types_of_numbered}
 use Rattle.report.proofs.Means.{point_in_lowest_terms}
 
 -- the heights of the blocks are those of the scan that they show
@@ -42,12 +50,15 @@ module _ (group : Group) (frame : Frame) (basis : Basis) (of : IsFrameOf (group_
         is = point_in_lowest_terms (mean_of r (parts frame.tau) of.scanning) frame.c mean;
       }
 
-  pub report_made : (scan : Scan) (numbers : List ℕ) (planes : ℕ) (report : Report) → Shows scan numbers planes report → scan.frame ≡ frame
+  pub report_made : (scan : Scan) (numbers : List ℕ) (planes : ℕ) (general : Option Found) (types : List (Option Found)) (report : Report)
+      → Shows scan numbers planes general types report → scan.frame ≡ frame
       → IsScan (group_listing group) (row_of frame.plane) (basis_of_frame frame) (scan_of scan)
       → AreOrbitNumbers (group_listing group) (row_of frame.plane) (heights_of_specials scan.special.items) numbers
       → IsPlaneCount (group_listing group) (row_of frame.plane) frame.period.0 planes
+      → IsGeneralType (group_listing group) (row_of frame.plane) (basis_of_frame frame) (option_map change_of general)
+      → AllZip (λ h o. IsTypeAt (group_listing group) (row_of frame.plane) (basis_of_frame frame) (fraction_of h.s) (option_map change_of o)) scan.special.items types
       → IsReportOf (group_listing group) frame report
-  report_made scan numbers planes report shown same is_scan are_numbers is_count = record {
+  report_made scan numbers planes general types report shown same is_scan are_numbers is_count is_general are_types = record {
     frame_is = same_frame;
     is = record {
       row = ap (λ (f : Frame). row_of f.plane) same_frame;
@@ -59,6 +70,9 @@ module _ (group : Group) (frame : Frame) (basis : Basis) (of : IsFrameOf (group_
           (subst (λ heights. AreOrbitNumbers g r heights numbers) (sym same_heights) are_numbers);
       planes = subst (IsPlaneCount g r report.frame.period.0) (sym shown.same_planes)
           (subst (λ d. IsPlaneCount g r d planes) (sym same_period) is_count);
+      general_type = subst (λ o. IsGeneralType g r (basis_of_frame frame) (option_map change_of o)) (sym shown.same_general) is_general;
+      types = subst (λ hs. All (λ (block : HeightBlock). IsTypeAt g r (basis_of_frame frame) block.height block.section.found) (map block_of hs)) (sym shown.same_heights)
+          (types_of_numbered (IsTypeAt g r (basis_of_frame frame)) scan.special.items numbers types are_types);
     };
   }
     where
@@ -93,13 +107,17 @@ pub report_of_scan : (group : Group) (frame : Frame) → IsMadeFor group frame �
     → (numbers : List ℕ) (planes : ℕ)
     → AreOrbitNumbers (group_listing group) (row_of scan.frame.plane) (heights_of_specials scan.special.items) numbers
     → IsPlaneCount (group_listing group) (row_of scan.frame.plane) (dot (row_of scan.frame.plane) (parts scan.frame.tau)) planes
-    → (report : Report) → Shows scan numbers planes report → IsReportOf (group_listing group) frame report
-report_of_scan group frame (plane, basis, of) scan is numbers planes are_numbers is_count report shown =
+    → (general : Option Found) (types : List (Option Found))
+    → IsGeneralType (group_listing group) (row_of frame.plane) (basis_of_frame frame) (option_map change_of general)
+    → AllZip (λ h o. IsTypeAt (group_listing group) (row_of frame.plane) (basis_of_frame frame) (fraction_of h.s) (option_map change_of o)) scan.special.items types
+    → (report : Report) → Shows scan numbers planes general types report → IsReportOf (group_listing group) frame report
+report_of_scan group frame (plane, basis, of) scan is numbers planes are_numbers is_count general types is_general are_types report shown =
     let g = group_listing group in
-    report_made group frame basis (subst (λ p. IsFrameOf g p basis frame) (sym of.plane) of) scan numbers planes report shown is.frame_is is.is
+    report_made group frame basis (subst (λ p. IsFrameOf g p basis frame) (sym of.plane) of) scan numbers planes general types report shown is.frame_is is.is
     (subst (λ (f : Frame). AreOrbitNumbers g (row_of f.plane) (heights_of_specials scan.special.items) numbers) is.frame_is are_numbers)
     (subst (λ (f : Frame). IsPlaneCount g (row_of f.plane) f.period.0 planes) is.frame_is
     (subst (λ d. IsPlaneCount g (row_of scan.frame.plane) d planes) scan.frame.tau_gives is_count))
+    is_general are_types
 
 -- and of each list of the group
 pub report_of_each : (group : Group) (frame : Frame) (g : Listing) → IsGroupOf g group → (report : Report) → IsReportOf (group_listing group) frame report

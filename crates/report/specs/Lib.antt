@@ -1,10 +1,14 @@
 pub mod Consequences
+pub mod FoundChanges
 pub mod Numbered
 pub mod ReportView
 pub mod Reports
+pub mod SectionTypes
 pub mod SectionView
 pub mod Shown
+pub mod SmallHeights
 pub mod Texts
 pub mod TypeNumbers
 pub mod TypeTexts
+pub mod TypeVectors
 pub mod WrittenView

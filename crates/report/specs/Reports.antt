@@ -1,5 +1,5 @@
 -- The report of a group, an orientation and a frame.
-use Rattle.std.specs.Prelude.{◌≡◌, ℕ, ℤ, List, map}
+use Rattle.std.specs.Prelude.{◌≡◌, ℕ, ℤ, List, Option, All, map}
 use Rattle.fractions.specs.Fractions.{Fractions}
 use Rattle.fractions.specs.LowestTerms.{IsLowestForm}
 use Rattle.symmetry.specs.Vectors.{Vector}
@@ -10,10 +10,13 @@ use Rattle.symmetry.specs.Frames.{Basis, IsPeriod, mean_of}
 use Rattle.symmetry.specs.Lists.{AreScanning}
 use Rattle.symmetry.specs.Scans.{IsScan, Scan, SpecialHeight}
 use Rattle.symmetry.specs.Orbits.{AreOrbitNumbers, IsPlaneCount}
+use Rattle.recognition.specs.Order.{Change}
+use Rattle.report.specs.FoundChanges.{IsGeneralType, IsTypeAt}
 
--- what is shown of a class of heights: the operations
+-- what is shown of a class of heights: the operations, and the change of their section onto a layer type
 pub record Section : Type 0 where
   pub ops : List Motion
+  pub found : Option Change
 
 -- a special height, the number of its orbit, and its section
 pub record HeightBlock : Type 0 where
@@ -69,3 +72,5 @@ pub record IsReport (g : Listing) (r : Vector) (f : Basis) (report : Report) : T
   pub scan : IsScan g r f (scan_of_report report)
   pub orbits : AreOrbitNumbers g r (block_heights report.heights) (block_orbits report.heights)
   pub planes : IsPlaneCount g r report.period report.planes
+  pub general_type : IsGeneralType g r f report.general.found
+  pub types : All (λ (block : HeightBlock). IsTypeAt g r f block.height block.section.found) report.heights

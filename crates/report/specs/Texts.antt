@@ -1,13 +1,17 @@
 -- What is written of the planes of an orientation.
-use Rattle.std.specs.Prelude.{ℕ, List, ◌++◌, codes, decimal, flat_map}
+use Rattle.std.specs.Prelude.{ℕ, List, [], ◌++◌, Option, Some, None, codes, decimal, flat_map}
 use Rattle.std.specs.Fmt.{signed_decimal}
 use Rattle.fractions.specs.Fractions.{Fractions}
 use Rattle.fractions.specs.RatioText.{ratio_text}
 use Rattle.symmetry.specs.Vectors.{Vector}
 use Rattle.symmetry.specs.Motions.{Motion}
+use Rattle.symmetry.specs.Frames.{Basis}
 use Rattle.symmetry.specs.Planes.{Height}
 use Rattle.triplets.specs.Writing.{number_text, triplet_text}
-use Rattle.report.specs.Reports.{HeightBlock, Report, Section}
+use Rattle.layer_types.specs.Rows.{layer_row}
+use Rattle.recognition.specs.Order.{Change}
+use Rattle.report.specs.Reports.{HeightBlock, Report}
+use Rattle.report.specs.TypeVectors.{first_vector, lowest_point, origin_at_height, origin_in_plane, second_vector, third_vector}
 
 -- the line of an operation
 abbrev pub operation_line : Motion → List ℕ
@@ -47,19 +51,48 @@ frame_text report =
     codes "tau " ++ vector_text report.basis.tau ++ codes "\n" ++
     codes "c " ++ fractions_text report.mean ++ codes "\n"
 
--- the lines of a section
-abbrev pub section_text : Section → List ℕ
-section_text section = flat_map operation_line section.ops
+-- the number and the symbol of a layer type
+unfoldable pub number_line : ℕ → List ℕ
+number_line n = codes "type " ++ decimal n ++ codes " " ++ (layer_row n).symbol ++ codes "\n"
+
+-- its two vectors in the plane, in parts, and the third one
+unfoldable pub basis_line : Vector → Vector → Fractions → List ℕ
+basis_line first second third =
+    codes "basis " ++ vector_text first ++ codes " " ++ vector_text second ++ codes " " ++ fractions_text third ++ codes "\n"
+
+-- its origin, with what stands behind it
+unfoldable pub origin_line : Fractions → List ℕ → List ℕ
+origin_line origin behind = codes "origin " ++ fractions_text origin ++ behind ++ codes "\n"
+
+-- the lines of a type, by the change that was found
+abbrev pub named_lines : Basis → Fractions → Fractions → List ℕ → Change → List ℕ
+named_lines f mean origin behind c =
+    number_line c.number ++ basis_line (first_vector f c) (second_vector f c) (third_vector mean c) ++ origin_line origin behind
+
+-- the lines of the type of the general section, at any height s
+abbrev pub general_type_lines : Report → Option Change → List ℕ
+general_type_lines report None = codes "type unrecognised\n"
+general_type_lines report (Some c) =
+    named_lines report.basis report.mean (lowest_point (origin_in_plane report.basis c)) (codes " + s/d c") c
+
+-- the lines of the type of the section of a special height
+abbrev pub type_lines : Report → Height → Option Change → List ℕ
+type_lines report s None = codes "type unrecognised\n"
+type_lines report s (Some c) =
+    named_lines report.basis report.mean (lowest_point (origin_at_height report.period s report.basis c)) [] c
+
+-- the lines of the general planes
+abbrev pub general_text : Report → List ℕ
+general_text report =
+    codes "general planes " ++ decimal report.planes ++ codes "\n" ++ general_type_lines report report.general.found ++
+    flat_map operation_line report.general.ops
 
 -- the lines of a special height
-abbrev pub height_text : HeightBlock → List ℕ
-height_text block =
-    codes "height " ++ ratio_text block.height ++ codes " orbit " ++ decimal block.orbit ++ codes "\n" ++ section_text block.section
+abbrev pub height_text : Report → HeightBlock → List ℕ
+height_text report block =
+    codes "height " ++ ratio_text block.height ++ codes " orbit " ++ decimal block.orbit ++ codes "\n" ++
+    type_lines report block.height block.section.found ++ flat_map operation_line block.section.ops
 
 -- the text of a report: the frame, the general block, a block for each special height, and the end
 abbrev pub report_text : Report → List ℕ
-report_text report =
-    frame_text report ++
-    codes "general planes " ++ decimal report.planes ++ codes "\n" ++ section_text report.general ++
-    flat_map height_text report.heights ++
-    codes "end\n"
+report_text report = frame_text report ++ general_text report ++ flat_map (height_text report) report.heights ++ codes "end\n"

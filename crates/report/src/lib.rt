@@ -13,7 +13,9 @@ mod kind;
 mod laws;
 mod lines;
 mod make;
+mod named;
 mod numbered;
+mod recognised;
 mod report;
 #[cfg(test)]
 mod report_tests;

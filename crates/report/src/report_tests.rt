@@ -60,6 +60,9 @@ b 0,1,0
 tau 0,0,1
 c 0,0,1
 general planes 1
+type 1 p1
+basis 1,0,0 0,1,0 0,0,1
+origin 0,0,0 + s/d c
 op x,y,z
 end
 ";
@@ -72,11 +75,20 @@ b 0,1,0
 tau 0,0,1
 c 0,0,1
 general planes 2
+type 1 p1
+basis 1,0,0 0,1,0 0,0,1
+origin 0,0,0 + s/d c
 op x,y,z
 height 0 orbit 1
+type 2 p-1
+basis 1,0,0 0,1,0 0,0,1
+origin 0,0,0
 op x,y,z
 op -x,-y,-z
 height 1/2 orbit 2
+type 2 p-1
+basis 1,0,0 0,1,0 0,0,1
+origin 0,0,1/2
 op x,y,z
 op -x,-y,-z+1
 end
@@ -90,14 +102,23 @@ b 0,0,-1
 tau -1/2,1/2,0
 c 0,1/2,0
 general planes 2
+type 3 p112
+basis 1,0,0 0,0,-1 0,1/2,0
+origin 0,0,0 + s/d c
 op x,y,z
 op -x,y,-z
 height 0 orbit 1
+type 6 p112/m
+basis 1,0,0 0,0,-1 0,1/2,0
+origin 0,0,0
 op x,y,z
 op -x,y,-z
 op -x,-y,-z
 op x,-y,z
 height 1/4 orbit 2
+type 7 p112/a
+basis 1,0,0 0,0,-1 0,1/2,0
+origin -1/4,1/4,0
 op x,y,z
 op -x,y,-z
 op -x-1/2,-y+1/2,-z

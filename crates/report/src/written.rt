@@ -72,6 +72,58 @@ impl fmt::Display for InEdges {
     }
 }
 
+/// The same ratio with the other sign.
+#[derive(Clone, Copy)]
+pub(crate) struct Opposite(pub(crate) Ratio);
+
+impl fmt::Display for Opposite {
+    ghost use Rattle.std.specs.Prelude.{Some};
+    ghost use Rattle.fractions.specs.FractionOf.{fraction_of};
+    ghost use Rattle.fractions.specs.RatioText.{ratio_text};
+    ghost use Rattle.report.specs.TypeVectors.{opposite_fraction};
+
+    ghost output = { λ q. Some (ratio_text (opposite_fraction (fraction_of q.0))) };
+
+    fn fmt<W: fmt::Write>(&self, f: &mut fmt::Formatter<W>) -> fmt::Result {
+        let num = self.0.num();
+        let den = self.0.den();
+        let size = num.unsigned_abs();
+        let sign = if num > 0 { "-" } else { "" };
+        if den > 1 {
+            write!(f, "{sign}{size}/{den}")
+        } else {
+            write!(f, "{sign}{size}")
+        }
+    }
+}
+
+/// A vector counted in cell edges, or the opposite one.
+#[derive(Clone, Copy)]
+pub(crate) struct Directed {
+    pub(crate) v: InEdges,
+    pub(crate) opposite: bool,
+}
+
+impl fmt::Display for Directed {
+    ghost use Rattle.std.specs.Prelude.{Some};
+    ghost use Rattle.report.specs.Texts.{fractions_text};
+    ghost use Rattle.report.specs.WrittenView.{directed_of};
+
+    ghost output = { λ d. Some (fractions_text (directed_of d)) };
+
+    fn fmt<W: fmt::Write>(&self, f: &mut fmt::Formatter<W>) -> fmt::Result {
+        let v = self.v;
+        if self.opposite {
+            let x = Opposite(v.x);
+            let y = Opposite(v.y);
+            let z = Opposite(v.z);
+            write!(f, "{x},{y},{z}")
+        } else {
+            write!(f, "{v}")
+        }
+    }
+}
+
 /// Three whole numbers, written with a blank before each.
 #[derive(Clone, Copy)]
 pub(crate) struct Indices {

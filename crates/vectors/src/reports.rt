@@ -10,11 +10,20 @@ const INVERSION_REPORT: &[u8] = b"plane 0 0 1\n\
     tau 0,0,1\n\
     c 0,0,1\n\
     general planes 2\n\
+    type 1 p1\n\
+    basis 1,0,0 0,1,0 0,0,1\n\
+    origin 0,0,0 + s/d c\n\
     op x,y,z\n\
     height 0 orbit 1\n\
+    type 2 p-1\n\
+    basis 1,0,0 0,1,0 0,0,1\n\
+    origin 0,0,0\n\
     op x,y,z\n\
     op -x,-y,-z\n\
     height 1/2 orbit 2\n\
+    type 2 p-1\n\
+    basis 1,0,0 0,1,0 0,0,1\n\
+    origin 0,0,1/2\n\
     op x,y,z\n\
     op -x,-y,-z+1\n\
     end\n";
@@ -27,14 +36,23 @@ const C2M_REPORT: &[u8] = b"plane 0 1 0\n\
     tau -1/2,1/2,0\n\
     c 0,1/2,0\n\
     general planes 2\n\
+    type 3 p112\n\
+    basis 1,0,0 0,0,-1 0,1/2,0\n\
+    origin 0,0,0 + s/d c\n\
     op x,y,z\n\
     op -x,y,-z\n\
     height 0 orbit 1\n\
+    type 6 p112/m\n\
+    basis 1,0,0 0,0,-1 0,1/2,0\n\
+    origin 0,0,0\n\
     op x,y,z\n\
     op -x,y,-z\n\
     op -x,-y,-z\n\
     op x,-y,z\n\
     height 1/4 orbit 2\n\
+    type 7 p112/a\n\
+    basis 1,0,0 0,0,-1 0,1/2,0\n\
+    origin -1/4,1/4,0\n\
     op x,y,z\n\
     op -x,y,-z\n\
     op -x-1/2,-y+1/2,-z\n\
@@ -58,6 +76,9 @@ static CASES: [Case; 14] = [
             tau 0,0,1\n\
             c 0,0,1\n\
             general planes 1\n\
+            type 1 p1\n\
+            basis 1,0,0 0,1,0 0,0,1\n\
+            origin 0,0,0 + s/d c\n\
             op x,y,z\n\
             end\n",
         complaints: b"",
@@ -84,11 +105,20 @@ static CASES: [Case; 14] = [
             tau -1,1,0\n\
             c -1,1,0\n\
             general planes 2\n\
+            type 1 p1\n\
+            basis 1,1,-1 -3,2,0 -1,1,0\n\
+            origin 0,0,0 + s/d c\n\
             op x,y,z\n\
             height 0 orbit 1\n\
+            type 2 p-1\n\
+            basis 1,1,-1 -3,2,0 -1,1,0\n\
+            origin 0,0,0\n\
             op x,y,z\n\
             op -x,-y,-z\n\
             height 1/2 orbit 2\n\
+            type 2 p-1\n\
+            basis 1,1,-1 -3,2,0 -1,1,0\n\
+            origin -1/2,1/2,0\n\
             op x,y,z\n\
             op -x-1,-y+1,-z\n\
             end\n",
@@ -108,17 +138,32 @@ static CASES: [Case; 14] = [
             tau 0,1,0\n\
             c 0,1,0\n\
             general planes 4\n\
+            type 1 p1\n\
+            basis 1,0,0 0,0,-1 0,1,0\n\
+            origin 0,0,0 + s/d c\n\
             op x,y,z\n\
             height 0 orbit 1\n\
+            type 2 p-1\n\
+            basis 1,0,0 0,0,-1 0,1,0\n\
+            origin 0,0,0\n\
             op x,y,z\n\
             op -x,-y,-z\n\
             height 1/4 orbit 2\n\
+            type 5 p11a\n\
+            basis 0,0,-1 1,0,0 0,-1,0\n\
+            origin 0,1/4,0\n\
             op x,y,z\n\
             op x,-y+1/2,z-1/2\n\
             height 1/2 orbit 1\n\
+            type 2 p-1\n\
+            basis 1,0,0 0,0,-1 0,1,0\n\
+            origin 0,1/2,0\n\
             op x,y,z\n\
             op -x,-y+1,-z\n\
             height 3/4 orbit 2\n\
+            type 5 p11a\n\
+            basis 0,0,-1 1,0,0 0,-1,0\n\
+            origin 0,3/4,0\n\
             op x,y,z\n\
             op x,-y+3/2,z-1/2\n\
             end\n",
@@ -136,17 +181,32 @@ static CASES: [Case; 14] = [
             tau 0,0,1\n\
             c 0,0,1\n\
             general planes 4\n\
+            type 1 p1\n\
+            basis 1,0,0 0,1,0 0,0,1\n\
+            origin 0,0,0 + s/d c\n\
             op x,y,z\n\
             height 0 orbit 1\n\
+            type 9 p2_111\n\
+            basis 1,0,0 0,1,0 0,0,1\n\
+            origin 0,1/4,0\n\
             op x,y,z\n\
             op x+1/2,-y+1/2,-z\n\
             height 1/4 orbit 2\n\
+            type 9 p2_111\n\
+            basis 0,1,0 1,0,0 0,0,-1\n\
+            origin 0,0,1/4\n\
             op x,y,z\n\
             op -x,y+1/2,-z+1/2\n\
             height 1/2 orbit 1\n\
+            type 9 p2_111\n\
+            basis 1,0,0 0,1,0 0,0,1\n\
+            origin 0,1/4,1/2\n\
             op x,y,z\n\
             op x+1/2,-y+1/2,-z+1\n\
             height 3/4 orbit 2\n\
+            type 9 p2_111\n\
+            basis 0,1,0 1,0,0 0,0,-1\n\
+            origin 0,0,3/4\n\
             op x,y,z\n\
             op -x,y+1/2,-z+3/2\n\
             end\n",
@@ -164,6 +224,9 @@ static CASES: [Case; 14] = [
             tau 0,0,1\n\
             c 0,0,1\n\
             general planes 4\n\
+            type 1 p1\n\
+            basis 1,0,0 0,1,0 0,0,1\n\
+            origin 0,0,0 + s/d c\n\
             op x,y,z\n\
             end\n",
         complaints: b"",
@@ -182,11 +245,20 @@ static CASES: [Case; 14] = [
             tau 1,0,0\n\
             c 1,0,0\n\
             general planes 2\n\
+            type 1 p1\n\
+            basis 0,1,0 0,0,1 1,0,0\n\
+            origin 0,0,0 + s/d c\n\
             op x,y,z\n\
             height 0 orbit 1\n\
+            type 9 p2_111\n\
+            basis 0,0,1 0,1,0 -1,0,0\n\
+            origin 0,0,0\n\
             op x,y,z\n\
             op -x,-y,z+1/2\n\
             height 1/2 orbit 2\n\
+            type 9 p2_111\n\
+            basis 0,0,1 0,1,0 -1,0,0\n\
+            origin 1/2,0,0\n\
             op x,y,z\n\
             op -x+1,-y,z+1/2\n\
             end\n",
@@ -254,24 +326,39 @@ static CASES: [Case; 14] = [
             tau 0,1,0\n\
             c 0,1,0\n\
             general planes 4\n\
+            type 12 pb11\n\
+            basis 0,0,-1 1,0,0 0,-1,0\n\
+            origin 0,0,-1/4 + s/d c\n\
             op x,y,z\n\
             op x+1/2,y,-z-1/2\n\
             height 0 orbit 1\n\
+            type 17 p2_1/b11\n\
+            basis 0,0,-1 1,0,0 0,-1,0\n\
+            origin 0,0,0\n\
             op x,y,z\n\
             op -x+1/2,-y,z-1/2\n\
             op -x,-y,-z\n\
             op x+1/2,y,-z-1/2\n\
             height 1/4 orbit 2\n\
+            type 29 pb2_1m\n\
+            basis 0,0,-1 1,0,0 0,-1,0\n\
+            origin 0,1/4,-1/4\n\
             op x,y,z\n\
             op x+1/2,-y+1/2,-z-1/2\n\
             op x+1/2,y,-z-1/2\n\
             op x,-y+1/2,z\n\
             height 1/2 orbit 1\n\
+            type 17 p2_1/b11\n\
+            basis 0,0,-1 1,0,0 0,-1,0\n\
+            origin 0,1/2,0\n\
             op x,y,z\n\
             op -x+1/2,-y+1,z-1/2\n\
             op -x,-y+1,-z\n\
             op x+1/2,y,-z-1/2\n\
             height 3/4 orbit 2\n\
+            type 29 pb2_1m\n\
+            basis 0,0,-1 1,0,0 0,-1,0\n\
+            origin 0,3/4,-1/4\n\
             op x,y,z\n\
             op x+1/2,-y+3/2,-z-1/2\n\
             op x+1/2,y,-z-1/2\n\
@@ -301,6 +388,9 @@ static CASES: [Case; 14] = [
             tau 0,0,1/4\n\
             c 0,0,1/4\n\
             general planes 1\n\
+            type 1 p1\n\
+            basis 1/4,0,0 0,1/4,0 0,0,1/4\n\
+            origin 0,0,0 + s/d c\n\
             op x,y,z\n\
             end\n",
         complaints: b"",
@@ -326,11 +416,20 @@ static CASES: [Case; 14] = [
             tau 1,-1,0\n\
             c 1,-1,0\n\
             general planes 2\n\
+            type 1 p1\n\
+            basis 1,-2,1 49,-1,-49 1,-1,0\n\
+            origin 0,0,0 + s/d c\n\
             op x,y,z\n\
             height 0 orbit 1\n\
+            type 2 p-1\n\
+            basis 1,-2,1 49,-1,-49 1,-1,0\n\
+            origin 0,0,0\n\
             op x,y,z\n\
             op -x,-y,-z\n\
             height 1/2 orbit 2\n\
+            type 2 p-1\n\
+            basis 1,-2,1 49,-1,-49 1,-1,0\n\
+            origin 1/2,-1/2,0\n\
             op x,y,z\n\
             op -x+1,-y-1,-z\n\
             end\n",
@@ -350,11 +449,16 @@ static CASES: [Case; 14] = [
             tau 0,0,1\n\
             c 0,0,1\n\
             general planes 2\n\
+            type 1 p1\n\
+            basis 1,0,0 10,1,0 0,0,1\n\
+            origin 0,0,0 + s/d c\n\
             op x,y,z\n\
             height 0 orbit 1\n\
+            type unrecognised\n\
             op x,y,z\n\
             op x,-y,-z\n\
             height 1/2 orbit 2\n\
+            type unrecognised\n\
             op x,y,z\n\
             op x,-y,-z+1\n\
             end\n",

@@ -4,9 +4,17 @@ use Rattle.fractions.specs.FractionOf.{fraction_of}
 use Rattle.motions.specs.BasisView.{basis_of}
 use Rattle.motions.specs.Views.{motion_of, row_of}
 use Rattle.motions.specs.declared.motion.Motion3.{Motion3}
+use Rattle.closure.specs.Groups.{group_listing}
+use Rattle.closure.proofs.OwnLattice.{own_listing}
+use Rattle.plane_lattice.proofs.MadeFrames.{made_frame}
 use Rattle.report.specs.Texts.{at_text}
 use Rattle.command.proofs.GroupAnswers.{height_answer, height_obstacle}
 use Rattle.command.proofs.at.height_text.Goals as goal
+
+pub make-requires-2 : goal.make-requires-2
+make-requires-2 c =
+    let group = c.args.group.now in
+    made_frame group c.in_ok-frame.frame (c.args.plane, c.args.basis, c.in_ok-frame.ensures.made (group_listing group) (own_listing group))
 
 pub returns-in_err-frame-clause-obstacle : goal.returns-in_err-frame-clause-obstacle
 returns-in_err-frame-clause-obstacle c =

@@ -1,8 +1,13 @@
 use Rattle.std.proofs.Common.{refl}
 use Rattle.std.proofs.lemmas.Result.{err_from_is_err_and}
+use Rattle.closure.specs.Groups.{group_listing}
+use Rattle.closure.proofs.OwnLattice.{own_listing}
 use Rattle.report.specs.ReportView.{report_of}
 use Rattle.command.proofs.GroupAnswers.{report_answer}
 use Rattle.command.proofs.layers.heights_text.Goals as goal
+
+pub make-requires-2 : goal.make-requires-2
+make-requires-2 c = (c.args.plane, c.args.basis, c.in_ok-frame.ensures.made (group_listing c.args.group.now) (own_listing c.args.group.now))
 
 pub returns-in_err-frame-clause-obstacle : goal.returns-in_err-frame-clause-obstacle
 returns-in_err-frame-clause-obstacle c =

@@ -12,7 +12,8 @@ use Rattle.report.proofs.make.show.Goals as goal
 pub invariant_of-result : goal.invariant_of-result
 invariant_of-result c =
     let scan = c.args.scan in
-    let levels = sym (ap levels_of_sections c.in_ok-numbered.ensures ∙ levels_of_numbered scan.special.items c.args.orbits.of.items c.requires) in
+    let levels = sym (ap levels_of_sections c.in_ok-numbered.ensures
+    ∙ levels_of_numbered scan.special.items c.args.orbits.of.items c.args.types.items c.requires.orbits c.requires.types) in
     record {
       in_period = subst (All (IsInPeriod scan.frame.period.0)) levels scan.in_period;
       halves = subst (All IsInHalves) levels (in_halves scan.special.items);
@@ -22,10 +23,15 @@ pub returns : goal.returns
 returns c =
     let scan = c.args.scan in
     let of = c.args.orbits.of.items in
+    let types = c.args.types.items in
     record {
       same_frame = refl;
       same_scan = ap (λ hs. record { general = map motion_of scan.general.items; special = map special_of_block (map block_of hs) }) c.in_ok-numbered.ensures
-          ∙ ap (λ hs. record { general = map motion_of scan.general.items; special = hs }) (specials_of_numbered scan.special.items of c.requires);
-      same_orbits = ap (λ hs. block_orbits (map block_of hs)) c.in_ok-numbered.ensures ∙ orbits_of_numbered scan.special.items of c.requires;
+          ∙ ap (λ hs. record { general = map motion_of scan.general.items; special = hs })
+          (specials_of_numbered scan.special.items of types c.requires.orbits c.requires.types);
+      same_orbits = ap (λ hs. block_orbits (map block_of hs)) c.in_ok-numbered.ensures
+          ∙ orbits_of_numbered scan.special.items of types c.requires.orbits c.requires.types;
       same_planes = refl;
+      same_general = refl;
+      same_heights = c.in_ok-numbered.ensures;
     }

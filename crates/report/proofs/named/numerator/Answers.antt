@@ -1,0 +1,19 @@
+use Rattle.std.proofs.Common.{[], ◌∷◌}
+use Rattle.integers.proofs.Coded.{code_fits, code_is}
+use Rattle.report.proofs.NamedSizes.{in_plane_part, numerator, origin_bounds}
+use Rattle.report.proofs.named.numerator.Goals as goal
+
+pub overflow_mul-result-6 : goal.overflow_mul-result-6
+overflow_mul-result-6 c =
+    code_fits origin_bounds (c.args.num ∷ c.args.den ∷ c.args.period.0 ∷ c.args.tau.0 ∷ c.args.v.0 ∷ []) in_plane_part tt
+    (c.requires.num, (c.requires.den, (c.requires.period, (c.requires.tau, (c.requires.v, tt)))))
+
+pub overflow_add-result : goal.overflow_add-result
+overflow_add-result c =
+    code_fits origin_bounds (c.args.num ∷ c.args.den ∷ c.args.period.0 ∷ c.args.tau.0 ∷ c.args.v.0 ∷ []) numerator tt
+    (c.requires.num, (c.requires.den, (c.requires.period, (c.requires.tau, (c.requires.v, tt)))))
+
+pub returns : goal.returns
+returns c =
+    code_is origin_bounds (c.args.num ∷ c.args.den ∷ c.args.period.0 ∷ c.args.tau.0 ∷ c.args.v.0 ∷ []) numerator tt
+    (c.requires.num, (c.requires.den, (c.requires.period, (c.requires.tau, (c.requires.v, tt)))))
