@@ -27,12 +27,11 @@ use Rattle.orbits.specs.declared.orbit_fault.OrbitFault.TheVariants as orbit_fau
 use Rattle.report.specs.Texts.{at_text, report_text}
 use Rattle.report.specs.Reports.{IsReport, Report}
 use Rattle.report.proofs.Says.{report_says}
-use Rattle.command.specs.Obstacles.{obstacle_of_height, obstacle_of_orbits}
+use Rattle.command.specs.Obstacles.{IsFairFrame, obstacle_of_height, obstacle_of_orbits}
 use Rattle.command.specs.Limits.{IsHeightInRange}
 use Rattle.command.specs.Questions.{at_height, all_heights, image_rows}
 use Rattle.command.specs.Causes.{IsGroupsObstacle}
 use Rattle.command.specs.Answers.{Answers}
-use Rattle.command.specs.FairFrames.{IsFairFrame}
 
 -- ---- in a frame
 

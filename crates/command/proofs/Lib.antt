@@ -5,7 +5,6 @@ pub mod FewWords
 pub mod TypeWords
 pub mod PlaneFaults
 pub mod EntrySizes
-pub mod OneRequest
 pub mod OneAnswer
 pub mod GroupAnswers
 pub mod Reading

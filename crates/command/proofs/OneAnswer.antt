@@ -1,4 +1,4 @@
--- An input has one answer, or one refusal.
+-- Words ask for one thing, and an input has one answer, or one refusal.
 use Rattle.std.proofs.Common.{◌≡◌, ◌≢◌, ◌<◌, ℕ, List, length, refl, sym, ap, ◌∙◌, subst, inl, inr, arith}
 use Rattle.symmetry.specs.Groups.{Listing}
 use Rattle.symmetry.specs.Vectors.{Vector}
@@ -14,11 +14,22 @@ use Rattle.closure.proofs.OneError.{one_group_error, no_group_and_error}
 use Rattle.triplets.proofs.OneFault.{one_listing, one_fault, no_listing_and_fault}
 use Rattle.command.specs.declared.refusal.Refusal.{Refusal}
 use Rattle.command.specs.declared.obstacle.Obstacle.TheVariants as obstacles
-use Rattle.command.specs.Obstacles.{obstacle_of_group, refusal_of_frame}
-use Rattle.command.specs.Questions.{Question, at_height, all_heights, image_rows}
-use Rattle.command.specs.FairFrames.{IsFairFrame, RefusesFrame}
+use Rattle.command.specs.Obstacles.{IsFairFrame, RefusesFrame, obstacle_of_group, refusal_of_frame}
+use Rattle.command.specs.Questions.{Asked, Question, at_height, all_heights, image_rows}
+use Rattle.command.specs.Requests.{IsRequest, IsWordsRefusal}
 use Rattle.command.specs.Inputs.{Cause, too_long, of_text, of_group, IsCause, IsShort, ListsGroup, obstacle_of}
 use Rattle.command.specs.Answers.{Answers, AnswersInput, IsFair, IsFairInput, RefusesInput, RefusesQuestion}
+
+-- ---- words
+
+pub one_request : (words : List (List ℕ)) (a a' : Asked) → IsRequest words a → IsRequest words a' → a ≡ a'
+one_request words a a' p q = cc
+
+pub one_words_refusal : (words : List (List ℕ)) (r r' : Refusal) → IsWordsRefusal words r → IsWordsRefusal words r' → r ≡ r'
+one_words_refusal words r r' p q = cc
+
+pub not_refused : (words : List (List ℕ)) (a : Asked) (refusal : Refusal) → IsRequest words a → IsWordsRefusal words refusal → ⊥
+not_refused words a refusal p h = cc
 
 -- ---- why there is no group
 

@@ -9,10 +9,7 @@ use Rattle.command.specs.Requests.{IsRequest}
 use Rattle.command.specs.Answers.{HasOutput, IsInput, IsInputRefusal, IsOutput}
 use Rattle.command.specs.Runs.{IsCause, Refuses}
 use Rattle.command.specs.Causes.{HasAnswer, IsObstacle, IsRefusedOr}
-use Rattle.command.proofs.OneRequest.{one_request, not_refused}
-use Rattle.command.proofs.OneAnswer.{one_refusal, answer_and_refusal, fair_and_refusal}
-
--- ---- what has to be made
+use Rattle.command.proofs.OneAnswer.{answer_and_refusal, fair_and_refusal, not_refused, one_refusal, one_request}
 
 -- a request is refused or answered, and in one way
 module _ (input : List ℕ) where
@@ -29,40 +26,32 @@ module _ (input : List ℕ) where
   has_output_and_refusal (type_table kind n) r fair p = p
 
 module _ (words : List (List ℕ)) (left : Option (List ℕ)) where
-  -- what is an obstacle as a refusal has its cause
-  pub told_cause : (faults faults' : ℕ) (refusal : Refusal) (obstacle : Obstacle) → obstacle ≡ obstacles.Refused refusal
-      → IsObstacle words left faults faults' obstacle → IsCause words left refusal
-  told_cause faults faults' refusal obstacle is h = (subst (IsObstacle words left faults faults') is h).0
-
   module _ (asked : Asked) (input : List ℕ) (asks : IsRequest words asked) (is : IsInput asked left input) where
-    same : (other : Asked) → IsRequest words other → other ≡ asked
-    same other others = one_request words other asked others asks
-
-    input_here : (other : Asked) → other ≡ asked → IsInput other left input
-    input_here other e = subst (λ (a : Asked). IsInput a left input) (sym e) is
+    -- what holds of any request of the words over its input holds of this
+    here : (other : Asked) → IsRequest words other → (P : Asked → Type 0) → (IsInput other left input → P other) → P asked
+    here other others P h =
+        let e = one_request words other asked others asks in subst P e (h (subst (λ (a : Asked). IsInput a left input) (sym e) is))
 
     -- an input that is refused is not answered, and for one reason
     pub no_answer : (text : List ℕ) (refusal : Refusal) → HasAnswer words left text → IsInputRefusal asked input refusal → ⊥
     no_answer text refusal made p =
-        let e = same made.asked made.asks in
-        output_and_refusal input asked text refusal
-        (subst (λ (a : Asked). IsOutput a input text) e (made.answers input (input_here made.asked e))) p
+        output_and_refusal input asked text refusal (here made.asked made.asks (λ a. IsOutput a input text) (made.answers input)) p
 
-    pub input_cause : (r refusal : Refusal) → IsCause words left r → IsInputRefusal asked input refusal → r ≡ refusal
-    input_cause r refusal (inl q) p = absurd (not_refused words asked r asks q)
-    input_cause r refusal (inr (other, others, all)) p =
-        let e = same other others in
-        one_input_refusal input asked r refusal (subst (λ (a : Asked). IsInputRefusal a input r) e (all input (input_here other e))) p
+    -- nor is one that has to be answered refused
+    module _ (faults faults' : ℕ) (r : Refusal) (obstacle : Obstacle) (told : obstacle ≡ obstacles.Refused r)
+        (kept : IsObstacle words left faults faults' obstacle) where
+      cause : IsCause words left r
+      cause = (subst (IsObstacle words left faults faults') told kept).0
 
-    -- what has to be answered is not refused
-    pub no_cause : (r : Refusal) → IsCause words left r → HasOutput asked input → ⊥
-    no_cause r (inl q) out = not_refused words asked r asks q
-    no_cause r (inr (other, others, all)) out =
-        let e = same other others in
-        has_output_and_refusal input asked r out (subst (λ (a : Asked). IsInputRefusal a input r) e (all input (input_here other e)))
+      -- the cause of the refusal is one of the words, or of the input
+      for_cause : {P : Type 0} → (IsInputRefusal asked input r → P) → IsCause words left r → P
+      for_cause of (inl q) = absurd (not_refused words asked r asks q)
+      for_cause of (inr (other, others, all)) = of (here other others (λ a. IsInputRefusal a input r) (all input))
 
--- ---- the outcome of a refusal
+      pub refuses_it : (refusal : Refusal) (outcome : Outcome) → IsRefusedOr r outcome → IsInputRefusal asked input refusal → Refuses refusal outcome
+      refuses_it refusal outcome (inl ended) p =
+          subst (Refuses refusal) (sym ended) (for_cause (λ q. one_input_refusal input asked r refusal q p) cause)
+      refuses_it refusal outcome (inr ended) p = subst (Refuses refusal) (sym ended) tt
 
-pub refuses : (r refusal : Refusal) (outcome : Outcome) → IsRefusedOr r outcome → r ≡ refusal → Refuses refusal outcome
-refuses r refusal outcome (inl is) e = subst (Refuses refusal) (sym is) e
-refuses r refusal outcome (inr is) e = subst (Refuses refusal) (sym is) tt
+      pub no_output : HasOutput asked input → ⊥
+      no_output out = for_cause (has_output_and_refusal input asked r out) cause

@@ -6,7 +6,7 @@ use Rattle.report.specs.TypeTexts.{IsTypeText}
 use Rattle.command.specs.declared.refusal.Refusal.{Refusal}
 use Rattle.command.specs.declared.refusal.Refusal.TheVariants.{Wide}
 use Rattle.command.specs.Questions.{Asked, Question, about, type_table, at_height, all_heights, image_rows}
-use Rattle.command.specs.FairFrames.{IsFairFrame, RefusesFrame}
+use Rattle.command.specs.Obstacles.{IsFairFrame, RefusesFrame}
 use Rattle.command.specs.Inputs.{IsRefusedInput, IsShort, ListsGroup}
 use Rattle.command.specs.At.{IsHeightAnswer}
 use Rattle.command.specs.Layers.{IsReportAnswer}

@@ -11,7 +11,7 @@ use Rattle.command.specs.declared.refusal.Refusal.{Refusal}
 use Rattle.command.specs.Words.{all_three, FrameWords, frame_words, ratio_to_end, row_words}
 use Rattle.command.specs.Limits.{within_limits}
 use Rattle.command.specs.Questions.{Asked, about, at_height, result_map}
-use Rattle.command.specs.FairFrames.{IsFairFrame}
+use Rattle.command.specs.Obstacles.{IsFairFrame}
 
 -- the height is asked for in the frame, or the first limit is passed
 abbrev pub at_asked : Vector → Fraction → Option FrameWords → Result Asked Refusal

@@ -10,7 +10,7 @@ use Rattle.command.specs.declared.refusal.Refusal.{Refusal}
 use Rattle.command.specs.Words.{FrameWords, frame_words, row_words}
 use Rattle.command.specs.Limits.{within_limits}
 use Rattle.command.specs.Questions.{Asked, about, all_heights, result_map}
-use Rattle.command.specs.FairFrames.{IsFairFrame}
+use Rattle.command.specs.Obstacles.{IsFairFrame}
 
 -- all heights are asked for in the frame, or the first limit is passed
 abbrev pub layers_asked : Vector → Option FrameWords → Result Asked Refusal

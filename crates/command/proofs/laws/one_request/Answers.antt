@@ -1,4 +1,4 @@
-use Rattle.command.proofs.OneRequest.{one_request, one_words_refusal, not_refused}
+use Rattle.command.proofs.OneAnswer.{one_request, one_words_refusal, not_refused}
 use Rattle.command.proofs.laws.one_request.Goals as goal
 
 pub returns-clause-asked : goal.returns-clause-asked
