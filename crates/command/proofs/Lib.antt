@@ -1,7 +1,6 @@
 pub mod Indices
 pub mod Ratios
 pub mod Numerals
-pub mod FewWords
 pub mod TypeWords
 pub mod PlaneFaults
 pub mod EntrySizes

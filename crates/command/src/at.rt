@@ -1,5 +1,5 @@
 // `at`: the operations that map one plane to itself.
-ghost use Rattle.std.specs.Prelude.{◌≡◌, IfErr, IfOk, IfSome, Some, map, option_map, string_bytes};
+ghost use Rattle.std.specs.Prelude.{◌≡◌, IfErr, IfOk, IfSome, map, option_map, string_bytes};
 ghost use Rattle.fractions.specs.FractionOf.{fraction_of};
 ghost use Rattle.motions.specs.BasisView.{basis_of};
 ghost use Rattle.motions.specs.Views.{row_of};

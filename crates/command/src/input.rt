@@ -1,5 +1,5 @@
 // The group that a source gives.
-ghost use Rattle.std.specs.Prelude.{◌≡◌, ◌≢◌, ◌≤◌, ℕ, List, length, Err, IfErr, IfOk, OnOk, Some};
+ghost use Rattle.std.specs.Prelude.{◌≡◌, ◌≢◌, ℕ, List, Err, IfErr, IfOk, OnOk, Some};
 ghost use Rattle.std.specs.Io.KnownBytes.{IsAtEnd};
 ghost use Rattle.devices.specs.Transfers.{ReadsWithin};
 ghost use Rattle.command.specs.Causes.{IsGroupObstacle, IsReadWhole, IsSourceObstacle};

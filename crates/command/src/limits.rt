@@ -1,5 +1,5 @@
 // The limits of a request.
-ghost use Rattle.std.specs.Prelude.{◌≡◌, ◌*◌, ◌<◌, ◌↔◌, IfOk, IfSome, IsTrue, Some, option_map, unsigned_abs};
+ghost use Rattle.std.specs.Prelude.{◌≡◌, ◌*◌, ◌<◌, IfOk, IfSome, IsTrue, Some, option_map, unsigned_abs};
 ghost use Rattle.std.specs.Result.{result_err};
 ghost use Rattle.fractions.specs.declared.part.Part.{Part};
 ghost use Rattle.integers.specs.Size.{IsWithin};
@@ -11,7 +11,6 @@ ghost use Rattle.motions.specs.BasisView.{basis_of};
 ghost use Rattle.command.specs.Limits.{basis_parts, edges_basis, entry_parts, IsHeightLimit, is_height_in_range, is_height_limit, plane_fault, plane_refusal, size_parts, vector_parts, within_limits};
 ghost use Rattle.command.specs.Questions.{result_map};
 ghost use Rattle.command.specs.Views.{fractions_of, frame_of, index_row, plane_words, planes_of};
-ghost use Rattle.motions.specs.declared.plane_fault.PlaneFault.{PlaneFault};
 
 use crate::refusal::Refusal;
 use crate::words::{FrameWord, IndexWords, VectorWord};

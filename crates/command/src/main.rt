@@ -23,15 +23,14 @@ mod words;
 
 use devices::{RealSink, RealSource};
 use outcome::Outcome;
+use std::alloc::AllocError;
 use std::process::ExitCode;
 use std::{env, io};
 
 fn main(rt: HostRuntime) -> ExitCode {
     let words = match env::args(&rt) {
         Ok(args) => args.skip(1).collect(rt.alloc()),
-        Err(error) if error.kind() == io::ErrorKind::OutOfMemory => return ExitCode::from(
-            Outcome::NoMemory.code(),
-        ),
+        Err(error) if error.kind() == io::ErrorKind::OutOfMemory => Err(AllocError),
         // Words that are no text are no request.
         Err(_) => Ok(Vec::new(rt.alloc())),
     };
