@@ -1,0 +1,3 @@
+pub mod FormPassed
+pub mod FormSums
+pub mod WideCoded

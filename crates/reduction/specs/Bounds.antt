@@ -1,0 +1,39 @@
+-- How large the numbers become.
+use Rattle.std.specs.Prelude.{ℕ, ◌+◌, ◌*◌, ◌^◌, unsigned_abs}
+use Rattle.fractions.specs.declared.part.TheConstants.{UNIT}
+use Rattle.motions.specs.declared.index.TheConstants.{INDEX}
+
+-- an entry of a vector of the first basis
+abbrev pub largest_first : ℕ
+largest_first = unsigned_abs UNIT
+
+-- (hkl).v of such a vector, and the coefficients by which it is mixed
+abbrev pub largest_value : ℕ
+largest_value = unsigned_abs INDEX * largest_first + unsigned_abs INDEX * largest_first + unsigned_abs INDEX * largest_first
+
+-- an entry of a mixture of two such vectors
+abbrev pub largest_once : ℕ
+largest_once = largest_value * largest_first + largest_value * largest_first
+
+-- and of one that is mixed again
+abbrev pub largest_twice : ℕ
+largest_twice = largest_value * largest_once + largest_value * largest_once
+
+-- two columns of a matrix multiplied, whose entries are at most 50 in size
+abbrev pub largest_columns : ℕ
+largest_columns = 3 * (50 * 50)
+
+-- an entry of the form: two such columns, for each operation of a group
+abbrev pub largest_form : ℕ
+largest_form = 192 * largest_columns
+
+-- an entry of a vector that is shortened
+abbrev pub largest_short : ℕ
+largest_short = 2 ^ 46
+
+-- a row of the form times such a vector, and the form at two of them
+abbrev pub largest_along : ℕ
+largest_along = largest_form * largest_short + largest_form * largest_short + largest_form * largest_short
+
+abbrev pub largest_form_value : ℕ
+largest_form_value = largest_short * largest_along + largest_short * largest_along + largest_short * largest_along

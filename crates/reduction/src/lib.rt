@@ -1,0 +1,4 @@
+// Reduced frames of an orientation of planes.
+#![tactic(auto)]
+
+mod form;
