@@ -6,8 +6,8 @@ use Rattle.integers.specs.Size.{IsWithin}
 use Rattle.integers.proofs.Coded.{again, again_is}
 use Rattle.plane_lattice.specs.Laws.QuotientLaws.{div_euclid_from}
 use Rattle.plane_lattice.proofs.Quotients.{IsWithin-div_euclid}
+use Rattle.plane_lattice.proofs.Wide.{wide, wide_is}
 use Rattle.reduction.specs.Bounds.{largest_form, largest_short, largest_form_value}
-use Rattle.reduction.proofs.WideCoded.{wide, wide_is}
 
 pub form_again : (x : ℤ) → IsWithin largest_form x → again x ≡ x
 form_again x h = again_is x largest_form h (lit< tt)
@@ -22,7 +22,7 @@ pub short_again_within : (x : ℤ) → IsWithin largest_short x → IsWithin lar
 short_again_within x h = let P : ℤ → Type 0 = IsWithin largest_short in subst P (sym (short_again x h)) h
 
 pub value_wide : (x : ℤ) → IsWithin largest_form_value x → wide x ≡ x
-value_wide x h = wide_is x largest_form_value h (lit< tt)
+value_wide x h = wide_is largest_form_value x (lit< tt) h
 
 -- the quotient is a multiple that is small enough
 pub multiple_below : (h a k : ℤ) → IsWithin largest_form_value h → IsWithin largest_form_value a → pos 1 ≤ℤ a → a <ℤ (pos 2 *ℤ h)

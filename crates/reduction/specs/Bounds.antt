@@ -7,15 +7,15 @@ use Rattle.motions.specs.declared.index.TheConstants.{INDEX}
 abbrev pub largest_first : ℕ
 largest_first = unsigned_abs UNIT
 
--- (hkl).v of such a vector, and the coefficients by which it is mixed
+-- (hkl).v of such a vector, and the numbers of the Bézout identities of such values
 abbrev pub largest_value : ℕ
 largest_value = unsigned_abs INDEX * largest_first + unsigned_abs INDEX * largest_first + unsigned_abs INDEX * largest_first
 
--- an entry of a mixture of two such vectors
+-- an entry of x u + y v for two such vectors u and v
 abbrev pub largest_once : ℕ
 largest_once = largest_value * largest_first + largest_value * largest_first
 
--- and of one that is mixed again
+-- and of such a vector and one more
 abbrev pub largest_twice : ℕ
 largest_twice = largest_value * largest_once + largest_value * largest_once
 
@@ -37,3 +37,7 @@ largest_along = largest_form * largest_short + largest_form * largest_short + la
 
 abbrev pub largest_form_value : ℕ
 largest_form_value = largest_short * largest_along + largest_short * largest_along + largest_short * largest_along
+
+-- a determinant of two rows of two entries of such vectors
+abbrev pub largest_minor : ℕ
+largest_minor = largest_short * largest_short + largest_short * largest_short

@@ -7,7 +7,7 @@ use Rattle.symmetry.specs.Lists.{AreScanning}
 use Rattle.symmetry.specs.Sizes.{IsMatrixWithin}
 use Rattle.motions.specs.Views.{vector_of}
 use Rattle.reduction.specs.Bounds.{largest_form, largest_short}
-use Rattle.reduction.specs.LatticeBases.{mixture}
+use Rattle.reduction.specs.LatticeBases.{combined}
 use Rattle.reduction.specs.declared.form.Form.{Form}
 
 -- its matrix, as the code keeps it
@@ -51,7 +51,7 @@ pub record IsUnshortened (g : Matrix) (v w : Vector) : Type 0 where
 -- u is v and a multiple of w, and shorter than v
 pub record Shortens (g : Matrix) (v w u : Vector) : Type 0 where
   pub times : ℤ
-  pub is : u ≡ mixture (pos 1) v times w
+  pub is : u ≡ combined (pos 1) v times w
   pub less : by_form g u u <ℤ by_form g v v
 
 -- ---- what the code computes

@@ -1,3 +1,9 @@
+pub mod LeadingEntries
+pub mod BasisView
+pub mod LatticeBases
+pub mod Bezout
 pub mod Bounds
 pub mod Forms
-pub mod LatticeBases
+pub mod Pairs
+pub mod Reduced
+pub mod ReducedFrames
