@@ -1,5 +1,6 @@
 pub mod AlikeReports
 pub mod Blocks
+pub mod JsonValues
 pub mod Made
 pub mod Means
 pub mod NamedSizes

@@ -11,4 +11,5 @@ pub mod Texts
 pub mod TypeNumbers
 pub mod TypeTexts
 pub mod TypeVectors
+pub mod Values
 pub mod WrittenView

@@ -2,18 +2,21 @@
 // and the types.
 //
 // Promises to the crates above: `at_text`, `images_text` and `type_text` write exactly these texts; `Report::make` gives the
-// report of a group in a frame, and `Report::text` writes its text. `report_says` is what a report says of every height.
+// report of a group in a frame, `Report::text` writes its text, and `Report::json` its JSON. `report_says` is what a report
+// says of every height.
 #![tactic(auto)]
 
 mod at;
 #[cfg(test)]
 mod generator_tests;
 mod images;
+mod json;
 mod kind;
 mod laws;
 mod lines;
 mod make;
 mod named;
+mod named_lines;
 mod numbered;
 mod recognised;
 mod report;

@@ -1,5 +1,5 @@
-// The lines of the type of a section.
-ghost use Rattle.std.specs.Prelude.{◌≡◌, ◌++◌, ◌+ℤ◌, ◌*ℤ◌, ◌≤ℤ◌, ◌*◌, OnOk, int_lt, pos, string_bytes, unsigned_abs};
+// The symbol, the basis and the origin of the type of a section.
+ghost use Rattle.std.specs.Prelude.{◌≡◌, ◌+ℤ◌, ◌*ℤ◌, ◌≤ℤ◌, ◌*◌, int_lt, pos, unsigned_abs};
 ghost use Rattle.fractions.specs.FractionOf.{fraction_of};
 ghost use Rattle.fractions.specs.Fractions.{fractions_of};
 ghost use Rattle.fractions.specs.LowestTerms.{lowest_terms};
@@ -7,6 +7,7 @@ ghost use Rattle.fractions.specs.declared.part.TheConstants.{UNIT};
 ghost use Rattle.integers.specs.Size.{IsWithin};
 ghost use Rattle.symmetry.specs.Sizes.{IsVectorWithin};
 ghost use Rattle.symmetry.specs.Vectors.{multiple, plus};
+ghost use Rattle.layer_types.specs.Rows.{layer_row};
 ghost use Rattle.motions.specs.PlaneMatrices.{determinant2};
 ghost use Rattle.motions.specs.PlaneSizes.{IsMatrix2Within};
 ghost use Rattle.motions.specs.PlaneViews.{matrix2_of};
@@ -14,12 +15,10 @@ ghost use Rattle.plane_lattice.specs.Bounds.{largest_entry, largest_period};
 ghost use Rattle.plane_lattice.specs.FrameView.{basis_of_frame};
 ghost use Rattle.recognition.specs.Grid.{grid};
 ghost use Rattle.recognition.specs.Search.{change_of};
-ghost use Rattle.report.specs.Texts.{basis_line, named_lines, number_line, origin_line};
 ghost use Rattle.report.specs.TypeVectors.{first_vector, lowest_point, origin_at_height, origin_in_plane, second_vector, third_vector};
 ghost use Rattle.report.specs.SmallHeights.{IsSmallHeight};
 ghost use Rattle.report.specs.WrittenView.{directed_of, edges_of, parts_of};
 
-use crate::at::NoMemory;
 use crate::written::{Directed, InEdges, InParts};
 use fractions::{Part, Ratio, UNIT};
 use layer_types::layer;
@@ -29,67 +28,40 @@ use recognition::{Found, GRID};
 // An origin x a + y b of the grid, with a and b in parts, is counted in cell edges over this.
 const OVER: i64 = GRID as i64 * UNIT;
 
-/// The number and the symbol of the type, its basis, and its origin with what stands behind it.
-pub(crate) fn write_named(
-    text: &mut String,
-    frame: &Frame,
-    found: &Found,
-    origin: InEdges,
-    behind: &str,
-) -> Result<(), NoMemory>
-    ensures { OnOk result (string_bytes text.new ≡ string_bytes text.old
-        ++ named_lines (basis_of_frame frame.now) (fractions_of frame.now.c) (edges_of origin) behind.now (change_of found.now)) }
-{
-    write_number(text, found)?;
-    write_basis(text, frame, found)?;
-    write_origin(text, origin, behind)
-}
-
-#[tactic(auto, unfolding(crate::specs::Texts::number_line))]
-fn write_number(text: &mut String, found: &Found) -> Result<(), NoMemory>
-    ensures { OnOk result (string_bytes text.new ≡ string_bytes text.old ++ number_line (change_of found.now).number) }
+/// The symbol of the type.
+pub(crate) fn symbol(found: &Found) -> &'static str
+    ensures { result.now ≡ (layer_row (change_of found.now).number).symbol }
 {
     let Some(layer_type) = layer(found.number) else {
         unreachable!()
     };
-    let number = found.number;
-    let symbol = layer_type.symbol;
-    write!(text, "type {number} {symbol}\n")
+    layer_type.symbol
 }
 
-fn write_basis(text: &mut String, frame: &Frame, found: &Found) -> Result<(), NoMemory>
-    ensures { let c = change_of found.now in
-        let f = basis_of_frame frame.now in
-        OnOk result (string_bytes text.new ≡ string_bytes text.old
-        ++ basis_line (first_vector f c) (second_vector f c) (third_vector (fractions_of frame.now.c) c)) }
-{
-    let first = in_plane(frame, found.p[0][0], found.p[1][0]);
-    let second = in_plane(frame, found.p[0][1], found.p[1][1]);
-    let third = Directed {
-        v: InEdges::of(&frame.c),
-        opposite: is_turned(found),
-    };
-    write_vectors(text, first, second, third)
+/// The basis of a type: its two vectors in the plane, and the third one.
+#[derive(Clone, Copy)]
+pub(crate) struct TypeBasis {
+    pub(crate) first: InParts,
+    pub(crate) second: InParts,
+    pub(crate) third: Directed,
 }
 
-#[tactic(auto, unfolding(crate::specs::Texts::basis_line))]
-fn write_vectors(
-    text: &mut String,
-    first: InParts,
-    second: InParts,
-    third: Directed,
-) -> Result<(), NoMemory>
-    ensures { OnOk result (string_bytes text.new
-        ≡ string_bytes text.old ++ basis_line (parts_of first) (parts_of second) (directed_of third)) }
-{
-    write!(text, "basis {first} {second} {third}\n")
-}
-
-#[tactic(auto, unfolding(crate::specs::Texts::origin_line))]
-fn write_origin(text: &mut String, origin: InEdges, behind: &str) -> Result<(), NoMemory>
-    ensures { OnOk result (string_bytes text.new ≡ string_bytes text.old ++ origin_line (edges_of origin) behind.now) }
-{
-    write!(text, "origin {origin}{behind}\n")
+impl TypeBasis {
+    /// The basis by the change that was found.
+    pub(crate) fn of(frame: &Frame, found: &Found) -> TypeBasis
+        ensures first { parts_of result.first ≡ first_vector (basis_of_frame frame.now) (change_of found.now) }
+        ensures second { parts_of result.second ≡ second_vector (basis_of_frame frame.now) (change_of found.now) }
+        ensures third { directed_of result.third ≡ third_vector (fractions_of frame.now.c) (change_of found.now) }
+    {
+        TypeBasis {
+            first: in_plane(frame, found.p[0][0], found.p[1][0]),
+            second: in_plane(frame, found.p[0][1], found.p[1][1]),
+            third: Directed {
+                v: InEdges::of(&frame.c),
+                opposite: is_turned(found),
+            },
+        }
+    }
 }
 
 // Whether the determinant of the matrix is negative.

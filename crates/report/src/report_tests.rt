@@ -67,6 +67,13 @@ op x,y,z
 end
 ";
 
+const P1_JSON: &str = "\
+{\"a\":\"1,0,0\",\"b\":\"0,1,0\",\"c\":\"0,0,1\",\
+\"general\":{\"ops\":[\"x,y,z\"],\"planes\":1,\
+\"type\":{\"basis\":[\"1,0,0\",\"0,1,0\",\"0,0,1\"],\"number\":1,\"origin\":\"0,0,0\",\"symbol\":\"p1\"}},\
+\"heights\":[],\"period\":\"1\",\"plane\":[0,0,1],\"tau\":\"0,0,1\"}
+";
+
 const P_1: &str = "\
 plane 0 0 1
 period 1
@@ -153,11 +160,15 @@ fn along_the_axis() -> Basis {
     }
 }
 
+// The report of an orientation.
+fn report_of(alloc: Global, group: &Group, plane: Miller, basis: Basis) -> Result<Report, Fail> {
+    let frame = Frame::make(group, plane, basis)?;
+    Ok(Report::make(alloc, group, &frame)?)
+}
+
 // The text of the report of an orientation.
 fn text_of(alloc: Global, group: &Group, plane: Miller, basis: Basis) -> Result<Vec<u8>, Fail> {
-    let frame = Frame::make(group, plane, basis)?;
-    let report = Report::make(alloc, group, &frame)?;
-    Ok(report.text(alloc)?)
+    Ok(report_of(alloc, group, plane, basis)?.text(alloc)?)
 }
 
 #[test]
@@ -174,6 +185,15 @@ fn p1_has_no_special_height(rt: HostRuntime) -> Result<(), Fail> {
     let group = group_of(rt.alloc(), &[IDENTITY], &[])?;
     let text = text_of(rt.alloc(), &group, Miller::make(0, 0, 1)?, cell_edges())?;
     assert_eq!(rt; text.as_slice(), P1.as_bytes());
+    Ok(())
+}
+
+#[test]
+fn p1_has_its_json(rt: HostRuntime) -> Result<(), Fail> {
+    let group = group_of(rt.alloc(), &[IDENTITY], &[])?;
+    let report = report_of(rt.alloc(), &group, Miller::make(0, 0, 1)?, cell_edges())?;
+    let line = report.json(rt.alloc())?;
+    assert_eq!(rt; line.as_slice(), P1_JSON.as_bytes());
     Ok(())
 }
 

@@ -12,7 +12,8 @@ ghost use Rattle.report.specs.Texts.{fractions_text, frame_text, indices_text, v
 
 use crate::at::NoMemory;
 use crate::lines::write_operations;
-use crate::named::{origin_at_height, origin_in_plane, write_named};
+use crate::named::{origin_at_height, origin_in_plane};
+use crate::named_lines::write_named;
 use crate::report::Report;
 use crate::section::HeightSection;
 use crate::written::{InEdges, InParts, Indices};

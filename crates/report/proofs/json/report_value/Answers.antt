@@ -1,0 +1,9 @@
+use Rattle.std.proofs.Common.{sym, subst}
+use Rattle.std.specs.Prelude.{All}
+use Rattle.fractions.specs.FractionOf.{fraction_of}
+use Rattle.report.specs.SmallHeights.{IsSmallHeight}
+use Rattle.report.proofs.SmallSizes.{small_sections}
+use Rattle.report.proofs.json.report_value.Goals as goal
+
+pub heights_value-requires : goal.heights_value-requires
+heights_value-requires c = subst (All (λ h. IsSmallHeight (fraction_of h.s))) (sym c.deref.ensures.value) (small_sections c.args.report.now)
