@@ -1,10 +1,1 @@
-pub mod Indices
-pub mod Ratios
-pub mod Numerals
-pub mod TypeWords
-pub mod PlaneFaults
-pub mod EntrySizes
-pub mod OneAnswer
-pub mod GroupAnswers
-pub mod Reading
-pub mod RunFacts
+pub mod NumberWords

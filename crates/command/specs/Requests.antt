@@ -1,9 +1,9 @@
 -- Requests, and why words are refused.
-use Rattle.std.specs.Prelude.{◌≡◌, ℕ, List, [], ◌∷◌, if◌then◌else◌, Option, Some, None, Result, Ok, Err, codes}
+use Rattle.std.specs.Prelude.{ℕ, List, [], ◌∷◌, if◌then◌else◌, Option, Some, None, Result, Err, codes}
 use Rattle.std.specs.Str.{bytes_eq}
-use Rattle.command.specs.declared.refusal.Refusal.{Refusal}
-use Rattle.command.specs.declared.refusal.Refusal.TheVariants.{Usage}
-use Rattle.command.specs.Questions.{Asked, Question, about}
+use Rattle.requests.specs.declared.refusal.Refusal.{Refusal}
+use Rattle.requests.specs.declared.refusal.Refusal.TheVariants.{Usage}
+use Rattle.requests.specs.Questions.{Asked}
 use Rattle.command.specs.At.{at_words}
 use Rattle.command.specs.Layers.{layers_words}
 use Rattle.command.specs.Images.{images_words}
@@ -26,15 +26,3 @@ or_usage None = Err Usage
 -- what the words ask for, or why they are refused
 unfoldable pub asked_by : List (List ℕ) → Result Asked Refusal
 asked_by words = or_usage (command_words words)
-
--- the words ask for this, in range
-abbrev pub IsRequest : List (List ℕ) → Asked → Type 0
-IsRequest words asked = asked_by words ≡ Ok asked
-
--- why the words are no request in range
-abbrev pub IsWordsRefusal : List (List ℕ) → Refusal → Type 0
-IsWordsRefusal words refusal = asked_by words ≡ Err refusal
-
--- the words ask about the group of an input
-abbrev pub AsksInput : List (List ℕ) → Type 0
-AsksInput words = (question : Question) × IsRequest words (about question)

@@ -5,24 +5,16 @@
 
 mod at;
 mod images;
-mod input;
-mod laws;
 mod layers;
-mod limits;
-mod obstacle;
-mod outcome;
+mod numbers;
 mod read_words;
-mod refusal;
-mod request;
-mod respond;
 mod run;
 #[cfg(test)]
 mod tests;
 mod types;
-mod words;
 
 use devices::{RealSink, RealSource};
-use outcome::Outcome;
+use requests::Outcome;
 use std::alloc::AllocError;
 use std::process::ExitCode;
 use std::{env, io};

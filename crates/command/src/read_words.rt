@@ -1,15 +1,14 @@
 // The request that the words are, or the first refusal that applies.
 ghost use Rattle.std.specs.Prelude.{◌≡◌, IfOk, IfSome, map, option_map, string_bytes};
-ghost use Rattle.command.specs.Questions.{IsAskedInRange, result_map};
+ghost use Rattle.requests.specs.Questions.{IsAskedInRange, result_map};
 ghost use Rattle.command.specs.Requests.{asked_by, command_words};
-ghost use Rattle.command.specs.Views.{asked_of};
+ghost use Rattle.requests.specs.Views.{asked_of};
 
 use crate::at::read_at;
 use crate::images::read_images;
 use crate::layers::read_layers;
-use crate::refusal::Refusal;
-use crate::request::Request;
 use crate::types::read_types;
+use requests::{Refusal, Request};
 
 /// What the words of a command ask for, or the first limit that they pass. `None` where they are no command.
 fn read_command(words: &[String]) -> Option<Result<Request, Refusal>>
@@ -30,7 +29,7 @@ fn read_command(words: &[String]) -> Option<Result<Request, Refusal>>
 
 /// The request that the words are.
 ///
-/// The refusals, in this order: `Usage`, the words are no request; `OutOfRange`, `AllZero`, `NotCoprime`, the indices
+/// The refusals, in this order: `Usage`, the words are no request; `FourIndex`, i is not -(h+k); `OutOfRange`, `AllZero`, `NotCoprime`, the indices
 /// are no Miller indices; `FrameLimit`, `HeightLimit`, an entry of the frame or the height is out of range.
 pub fn read_words(words: &[String]) -> Result<Request, Refusal>
     ensures is { result_map asked_of result ≡ asked_by (map string_bytes words.now) }

@@ -1,23 +1,18 @@
 // The top call.
-ghost use Rattle.std.specs.Prelude.{◌≡◌, ◌≢◌, ℕ, List, Err, IfErr, IfOk, OnOk, map, string_bytes};
+ghost use Rattle.std.specs.Prelude.{◌≡◌, ◌≢◌, ℕ, List, map, string_bytes};
 ghost use Rattle.std.specs.Io.KnownBytes.{IsAtEnd};
 ghost use Rattle.devices.specs.Transfers.{ReadsWithin};
-ghost use Rattle.command.specs.declared.refusal.Refusal.{Refusal};
-ghost use Rattle.command.specs.Questions.{Asked};
-ghost use Rattle.command.specs.Requests.{AsksInput, IsRequest, IsWordsRefusal};
-ghost use Rattle.command.specs.Answers.{HasOutput, IsInput, IsInputRefusal};
-ghost use Rattle.command.specs.Causes.{HasAnswer, IsObstacle, IsReadWhole, IsRefusedOr};
-ghost use Rattle.command.specs.Runs.{Complains, FitsIn, HasCause, LeavesOut, ReadsWhole, Refuses, Succeeds};
+ghost use Rattle.requests.specs.declared.outcome.Outcome.TheVariants as outcomes;
+ghost use Rattle.requests.specs.declared.refusal.Refusal.{Refusal};
+ghost use Rattle.requests.specs.Answers.{HasOutput, IsInput, IsInputRefusal};
+ghost use Rattle.requests.specs.Causes.{IsRefusedOr};
+ghost use Rattle.requests.specs.Questions.{Asked, AsksInput, IsRequest, IsWordsRefusal};
+ghost use Rattle.requests.specs.Runs.{Complains, FitsIn, HasCause, LeavesOut, ReadsWhole, Refuses, Succeeds};
+ghost use Rattle.command.specs.Requests.{asked_by};
 
-use crate::input::group_of;
-use crate::obstacle::Obstacle;
-use crate::outcome::Outcome;
 use crate::read_words::read_words;
-use crate::refusal::Refusal;
-use crate::request::Request;
-use crate::respond::respond;
-use devices::{Sink, Source, put_all};
-use report::type_text;
+use devices::{Sink, Source};
+use requests::{Outcome, carry_out};
 use std::alloc::Global;
 
 /// Runs the program: reads the words, and for a request that asks for it the source to its end, and writes the whole
@@ -32,79 +27,36 @@ pub fn run<S: Source, K: Sink, E: Sink>(
     complaints: &mut E,
 ) -> Outcome
     // A run that is done wrote the answer, and nothing else.
-    ensures out { LeavesOut K.held result (map string_bytes words.now) (S.left source.old) out.old out.new }
+    ensures out { LeavesOut K.held result (asked_by (map string_bytes words.now)) (S.left source.old) out.old out.new }
     // A run that refuses wrote the line of its refusal, and nothing else.
     ensures complaint { Complains E.held E.faults result complaints.old complaints.new }
     // What is refused has that cause, and only a device that failed gives a fault.
-    ensures cause { HasCause result (map string_bytes words.now) (S.left source.old)
+    ensures cause { HasCause result (asked_by (map string_bytes words.now)) (S.left source.old)
         (S.faults source.old) (S.faults source.new) (K.faults out.old) (K.faults out.new) }
     // Words that are no request, or pass a limit, are refused: the first that applies.
-    ensures refuses_words { (refusal : Refusal) → IsWordsRefusal (map string_bytes words.now) refusal →
+    ensures refuses_words { (refusal : Refusal) → IsWordsRefusal (asked_by (map string_bytes words.now)) refusal →
         IsRefusedOr refusal result }
     // An input that is too long, badly written, no group or none that may be asked is refused: the first that applies.
     ensures refuses_input { (asked : Asked) (input : List ℕ) (refusal : Refusal) →
-        IsRequest (map string_bytes words.now) asked → IsInput asked (S.left source.old) input →
+        IsRequest (asked_by (map string_bytes words.now)) asked → IsInput asked (S.left source.old) input →
         IsInputRefusal asked input refusal → Refuses refusal result }
     // A request over a group that may be asked is answered.
     ensures answers { (asked : Asked) (input : List ℕ) →
-        IsRequest (map string_bytes words.now) asked → IsInput asked (S.left source.old) input →
+        IsRequest (asked_by (map string_bytes words.now)) asked → IsInput asked (S.left source.old) input →
         HasOutput asked input →
         Succeeds result (S.faults source.old) (S.faults source.new) (K.faults out.old) (K.faults out.new) }
     // A source that never fails gives no fault.
-    ensures steady_source { S.NeverFails source.old → result ≢ Outcome.ReadFault }
+    ensures steady_source { S.NeverFails source.old → result ≢ outcomes.ReadFault }
     // Nor does a sink that never fails and has room for the answer.
     ensures steady_out { (n : ℕ) → K.Takes out.old n →
-        FitsIn (map string_bytes words.now) (S.left source.old) n → result ≢ Outcome.WriteFault }
+        FitsIn (asked_by (map string_bytes words.now)) (S.left source.old) n → result ≢ outcomes.WriteFault }
     // Words that ask nothing of an input leave the source as it is.
-    ensures untouched { ¬ AsksInput (map string_bytes words.now) →
-        (source.new ≡ source.old) × (result ≢ Outcome.ReadFault) }
+    ensures untouched { ¬ AsksInput (asked_by (map string_bytes words.now)) →
+        (source.new ≡ source.old) × (result ≢ outcomes.ReadFault) }
     // Else it is read to its end, but where it is too long or a step before gave up.
-    ensures whole { AsksInput (map string_bytes words.now) → ReadsWhole result → IsAtEnd (S.left source.new) }
+    ensures whole { AsksInput (asked_by (map string_bytes words.now)) → ReadsWhole result → IsAtEnd (S.left source.new) }
     // At most one byte more than an input may have is read.
     ensures within { ReadsWithin (S.left source.old) (S.left source.new) 65537 }
 {
-    match answer(alloc, words, source) {
-        Ok(text) => match put_all(out, &text) {
-            Ok(()) => Outcome::Done,
-            Err(_) => Outcome::WriteFault,
-        },
-        Err(Obstacle::Refused(refusal)) => refuse(alloc, refusal, complaints),
-        Err(Obstacle::ReadFault) => Outcome::ReadFault,
-        Err(Obstacle::NoMemory) => Outcome::NoMemory,
-    }
-}
-
-/// Reads the words, and the source where they ask for it, and makes the whole answer.
-fn answer<S: Source>(alloc: Global, words: &[String], source: &mut S) -> Result<Vec<u8>, Obstacle>
-    ensures text { IfOk result (λ text. HasAnswer (map string_bytes words.now) (S.left source.old) text.items) }
-    ensures obstacle { IfErr result
-        (IsObstacle (map string_bytes words.now) (S.left source.old) (S.faults source.old) (S.faults source.new)) }
-    ensures unfailed { OnOk result (S.faults source.new ≡ S.faults source.old) }
-    ensures steady { S.NeverFails source.old → result ≢ Err Obstacle.ReadFault }
-    ensures untouched { ¬ AsksInput (map string_bytes words.now) →
-        (source.new ≡ source.old) × (result ≢ Err Obstacle.ReadFault) }
-    ensures whole { AsksInput (map string_bytes words.now) → IsReadWhole result → IsAtEnd (S.left source.new) }
-    ensures within { ReadsWithin (S.left source.old) (S.left source.new) 65537 }
-{
-    match read_words(words)? {
-        Request::About(question) => {
-            let group = group_of(alloc, source)?;
-            respond(alloc, &question, &group)
-        }
-        Request::Types { kind, n } => Ok(type_text(alloc, kind, n)?),
-    }
-}
-
-/// Writes the line of a refusal to the complaints. It is refused whether that sink takes the line or not.
-fn refuse<E: Sink>(alloc: Global, refusal: Refusal, complaints: &mut E) -> Outcome
-    ensures refused { IsRefusedOr refusal result }
-    ensures complaint { Complains E.held E.faults result complaints.old complaints.new }
-{
-    match format!(in alloc; "{refusal}\n") {
-        Ok(line) => {
-            let _ = put_all(complaints, line.as_bytes());
-            Outcome::Refused(refusal)
-        }
-        Err(_) => Outcome::NoMemory,
-    }
+    carry_out(alloc, read_words(words), source, out, complaints)
 }

@@ -1,16 +1,14 @@
 // `types`: the table of a type, which needs no input.
-ghost use Rattle.std.specs.Prelude.{◌≡◌, ◌≢◌, ◌≤◌, ◌↔◌, IfOk, IfSome, IsTrue, length, map, option_map, slice_index, string_bytes};
+ghost use Rattle.std.specs.Prelude.{◌≡◌, IfOk, IfSome, map, option_map, string_bytes};
 ghost use Rattle.report.specs.TypeNumbers.{IsTypeNumber, type_count};
-ghost use Rattle.command.specs.Questions.{IsAskedInRange, result_map};
-ghost use Rattle.command.specs.Types.{kind_word, type_word, types_words};
-ghost use Rattle.command.specs.Views.{asked_of};
+ghost use Rattle.requests.specs.Questions.{IsAskedInRange, result_map};
+ghost use Rattle.command.specs.Numbers.{number_word};
+ghost use Rattle.command.specs.Types.{kind_word, types_words};
+ghost use Rattle.requests.specs.Views.{asked_of};
 
-use crate::refusal::Refusal;
-use crate::request::Request;
+use crate::numbers::read_number;
 use report::Kind;
-
-/// The most digits that the number of a type has.
-const MOST_TYPE_DIGITS: usize = 3;
+use requests::{Refusal, Request, Table};
 
 /// The kind of types that a word names.
 fn read_kind(word: &str) -> Option<Kind>
@@ -21,16 +19,6 @@ fn read_kind(word: &str) -> Option<Kind>
         "rod" => Some(Kind::Rod),
         "frieze" => Some(Kind::Frieze),
         _ => None,
-    }
-}
-
-/// Whether a word has no plus sign first, and at most three bytes.
-fn is_short_number(word: &[u8]) -> bool
-    ensures { IsTrue result ↔ ((slice_index word.now 0 ≢ 43) × (length word.now ≤ 3)) }
-{
-    match word {
-        [b'+', ..] => false,
-        _ => word.len() <= MOST_TYPE_DIGITS,
     }
 }
 
@@ -47,17 +35,11 @@ fn type_count(kind: Kind) -> u8
 
 /// The number of a type of this kind that a word is: one to three digits.
 fn read_type_number(kind: Kind, word: &str) -> Option<u8>
-    ensures is { result ≡ type_word kind word.now }
+    ensures is { result ≡ number_word (type_count kind) word.now }
     ensures of_kind { IfSome result (IsTypeNumber kind) }
 {
-    if !is_short_number(word.as_bytes()) {
-        return None;
-    }
-    let n = word.parse::<u8>().ok()?;
-    if n == 0 || n > type_count(kind) {
-        return None;
-    }
-    Some(n)
+    let n = read_number(word, u16::from(type_count(kind)))?;
+    Some(n as u8)
 }
 
 /// What the words behind `types` ask for: a kind, and a number of a type of that kind.
@@ -69,7 +51,7 @@ pub fn read_types(arguments: &[String]) -> Option<Result<Request, Refusal>>
         [kind, number] => {
             let kind = read_kind(kind.as_str())?;
             let n = read_type_number(kind, number.as_str())?;
-            Some(Ok(Request::Types { kind, n }))
+            Some(Ok(Request::Tabulate(Table::Type { kind, n })))
         }
         _ => None,
     }

@@ -1,0 +1,10 @@
+pub mod Indices
+pub mod Ratios
+pub mod Numerals
+pub mod ThirdIndices
+pub mod PlaneFaults
+pub mod EntrySizes
+pub mod OneAnswer
+pub mod GroupAnswers
+pub mod Reading
+pub mod RunFacts

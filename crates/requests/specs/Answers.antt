@@ -1,0 +1,83 @@
+-- What the program answers to a request over an input.
+use Rattle.std.specs.Prelude.{◌≡◌, ℕ, ◌⊎◌, List, [], Option, Some}
+use Rattle.symmetry.specs.Groups.{Listing}
+use Rattle.orbits.specs.Orientations.{IsWide}
+use Rattle.report.specs.TypeTexts.{IsTypeText}
+use Rattle.requests.specs.declared.refusal.Refusal.{Refusal}
+use Rattle.requests.specs.declared.refusal.Refusal.TheVariants.{Wide}
+use Rattle.requests.specs.Questions.{Asked, Question, Table, about, tabulate, at_height, all_heights, image_rows, of_type}
+use Rattle.requests.specs.Obstacles.{IsFairFrame, RefusesFrame}
+use Rattle.requests.specs.Inputs.{IsRefusedInput, IsShort, ListsGroup}
+use Rattle.requests.specs.At.{IsHeightAnswer}
+use Rattle.requests.specs.Layers.{IsReportAnswer}
+use Rattle.requests.specs.Images.{IsImagesAnswer}
+
+-- ---- of a group
+
+-- the text is what is asked of the group
+abbrev pub Answers : Listing → Question → List ℕ → Type 0
+Answers g (at_height row basis s) text = IsHeightAnswer g row basis s text
+Answers g (all_heights row basis form) text = IsReportAnswer g row basis form text
+Answers g (image_rows row) text = IsImagesAnswer g row text
+
+-- the question may be asked of the group
+abbrev pub IsFair : Listing → Question → Type 0
+IsFair g (at_height row basis s) = IsFairFrame g row basis
+IsFair g (all_heights row basis form) = IsFairFrame g row basis
+IsFair g (image_rows row) = ¬ IsWide g row
+
+-- why it may not
+abbrev pub RefusesQuestion : Listing → Question → Refusal → Type 0
+RefusesQuestion g (at_height row basis s) refusal = RefusesFrame g row basis refusal
+RefusesQuestion g (all_heights row basis form) refusal = RefusesFrame g row basis refusal
+RefusesQuestion g (image_rows row) refusal = IsWide g row × (refusal ≡ Wide)
+
+-- ---- of an input
+
+-- the text is what is asked of the group that the input lists
+pub record AnswersInput (question : Question) (input text : List ℕ) : Type 0 where
+  pub short : IsShort input
+  pub group : Listing
+  pub lists : ListsGroup input group
+  pub answers : Answers group question text
+
+-- the question may be asked of the group that the input lists
+pub record IsFairInput (question : Question) (input : List ℕ) : Type 0 where
+  pub short : IsShort input
+  pub group : Listing
+  pub lists : ListsGroup input group
+  pub fair : IsFair group question
+
+-- why there is no answer over the input: it gives no group, or one that may not be asked
+abbrev pub RefusesInput : Question → List ℕ → Refusal → Type 0
+RefusesInput question input refusal =
+    IsRefusedInput input refusal
+    ⊎ (IsShort input × ((g : Listing) × ListsGroup input g × RefusesQuestion g question refusal))
+
+-- ---- without an input
+
+-- the text is that of the table
+abbrev pub IsTable : Table → List ℕ → Type 0
+IsTable (of_type kind n) text = IsTypeText kind n text
+
+-- ---- to a request
+
+-- the input over which it is answered: all that the source has left, where it tells that, or nothing
+abbrev pub IsInput : Asked → Option (List ℕ) → List ℕ → Type 0
+IsInput (about question) left input = left ≡ Some input
+IsInput (tabulate table) left input = input ≡ []
+
+-- the text is the answer over the input
+abbrev pub IsOutput : Asked → List ℕ → List ℕ → Type 0
+IsOutput (about question) input text = AnswersInput question input text
+IsOutput (tabulate table) input text = IsTable table text
+
+-- it has to be answered over the input: a table always
+abbrev pub HasOutput : Asked → List ℕ → Type 0
+HasOutput (about question) input = IsFairInput question input
+HasOutput (tabulate table) input = Unit {0}
+
+-- why the input is refused: a table never is
+abbrev pub IsInputRefusal : Asked → List ℕ → Refusal → Type 0
+IsInputRefusal (about question) input refusal = RefusesInput question input refusal
+IsInputRefusal (tabulate table) input refusal = ⊥

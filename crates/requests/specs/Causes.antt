@@ -1,0 +1,64 @@
+-- What the steps of a run make, and what keeps them from it.
+use Rattle.std.specs.Prelude.{◌≡◌, ◌≢◌, ◌⊎◌, ℕ, List, Option, Some, Result, Ok, Err}
+use Rattle.symmetry.specs.Groups.{Listing}
+use Rattle.devices.specs.Calls.{Rose}
+use Rattle.closure.specs.declared.group.Group.{Group}
+use Rattle.requests.specs.declared.obstacle.Obstacle.{Obstacle}
+use Rattle.requests.specs.declared.obstacle.Obstacle.TheVariants as obstacles
+use Rattle.requests.specs.declared.outcome.Outcome.{Outcome}
+use Rattle.requests.specs.declared.outcome.Outcome.TheVariants as outcomes
+use Rattle.requests.specs.declared.refusal.Refusal.{Refusal}
+use Rattle.requests.specs.declared.refusal.Refusal.TheVariants.{TooLong}
+use Rattle.requests.specs.Questions.{Asked, Question, IsRequest}
+use Rattle.requests.specs.Inputs.{IsRefusedInput}
+use Rattle.closure.specs.Groups.{IsGroupOf}
+use Rattle.requests.specs.Answers.{IsInput, IsOutput, RefusesQuestion}
+use Rattle.requests.specs.Runs.{IsCause}
+
+-- ---- the group of an input
+
+-- what keeps the input from a group
+abbrev pub IsGroupObstacle : List ℕ → Obstacle → Type 0
+IsGroupObstacle input (obstacles.Refused refusal) = IsRefusedInput input refusal
+IsGroupObstacle input obstacles.ReadFault = ⊥
+IsGroupObstacle input obstacles.NoMemory = Unit {0}
+
+-- what keeps a source from a group; its count of faults rose where it failed alone
+abbrev pub IsSourceObstacle : Option (List ℕ) → ℕ → ℕ → Obstacle → Type 0
+IsSourceObstacle left faults faults' (obstacles.Refused refusal) =
+    ((input : List ℕ) → left ≡ Some input → IsRefusedInput input refusal) × (faults' ≡ faults)
+IsSourceObstacle left faults faults' obstacles.ReadFault = Rose faults faults'
+IsSourceObstacle left faults faults' obstacles.NoMemory = faults' ≡ faults
+
+-- the source was read to its end before this came up
+abbrev pub IsReadWhole : {A : Type 0} → Result A Obstacle → Type 0
+IsReadWhole (Ok made) = Unit {0}
+IsReadWhole (Err (obstacles.Refused refusal)) = refusal ≢ TooLong
+IsReadWhole (Err obstacles.ReadFault) = ⊥
+IsReadWhole (Err obstacles.NoMemory) = ⊥
+
+-- ---- the answer of a group
+
+-- what keeps the group from an answer, as each listing of it tells
+abbrev pub IsGroupsObstacle : Group → Question → Obstacle → Type 0
+IsGroupsObstacle group question (obstacles.Refused refusal) = (g : Listing) → IsGroupOf g group → RefusesQuestion g question refusal
+IsGroupsObstacle group question obstacles.ReadFault = ⊥
+IsGroupsObstacle group question obstacles.NoMemory = Unit {0}
+
+-- ---- the answer to words
+
+-- the words are a request, and the text is the answer over its input
+pub record HasAnswer (read : Result Asked Refusal) (left : Option (List ℕ)) (text : List ℕ) : Type 0 where
+  pub asked : Asked
+  pub asks : IsRequest read asked
+  pub answers : (input : List ℕ) → IsInput asked left input → IsOutput asked input text
+
+-- what keeps the words from an answer; the count of faults rose where the source failed alone
+abbrev pub IsObstacle : Result Asked Refusal → Option (List ℕ) → ℕ → ℕ → Obstacle → Type 0
+IsObstacle read left faults faults' (obstacles.Refused refusal) = IsCause read left refusal × (faults' ≡ faults)
+IsObstacle read left faults faults' obstacles.ReadFault = Rose faults faults'
+IsObstacle read left faults faults' obstacles.NoMemory = faults' ≡ faults
+
+-- this refusal, unless memory ran out for its line
+abbrev pub IsRefusedOr : Refusal → Outcome → Type 0
+IsRefusedOr refusal outcome = (outcome ≡ outcomes.Refused refusal) ⊎ (outcome ≡ outcomes.NoMemory)

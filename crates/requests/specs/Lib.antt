@@ -1,0 +1,13 @@
+pub mod Words
+pub mod Limits
+pub mod Questions
+pub mod Views
+pub mod At
+pub mod Layers
+pub mod Images
+pub mod Inputs
+pub mod Answers
+pub mod Runs
+pub mod Refusals
+pub mod Obstacles
+pub mod Causes

@@ -1,0 +1,56 @@
+-- What is asked.
+use Rattle.std.specs.Prelude.{◌≡◌, ℕ, Result, Ok, Err}
+use Rattle.fractions.specs.Fraction.{Fraction}
+use Rattle.symmetry.specs.Vectors.{Vector}
+use Rattle.symmetry.specs.Frames.{Basis}
+use Rattle.report.specs.declared.kind.Kind.{Kind}
+use Rattle.report.specs.TypeNumbers.{IsTypeNumber}
+use Rattle.requests.specs.declared.form.Form.{Form}
+use Rattle.requests.specs.declared.refusal.Refusal.{Refusal}
+use Rattle.requests.specs.Limits.{IsHeightInRange}
+
+-- what is asked of a group: the operations at one height, those at all heights, or the images of an orientation
+pub data Question : Type 0 where
+  at_height : (row : Vector) (basis : Basis) (height : Fraction) → Question
+  all_heights : (row : Vector) (basis : Basis) (form : Form) → Question
+  image_rows : (row : Vector) → Question
+
+-- what is asked without an input: the table of a type
+pub data Table : Type 0 where
+  of_type : (kind : Kind) (n : ℕ) → Table
+
+-- what is asked: a question about the group of an input, or a table
+pub data Asked : Type 0 where
+  about : (question : Question) → Asked
+  tabulate : (table : Table) → Asked
+
+-- the height is within its limits
+abbrev pub IsQuestionInRange : Question → Type 0
+IsQuestionInRange (at_height row basis height) = IsHeightInRange height
+IsQuestionInRange _ = Unit {0}
+
+-- the number is one of the kind
+abbrev pub IsTableInRange : Table → Type 0
+IsTableInRange (of_type kind n) = IsTypeNumber kind n
+
+-- what is asked is within its limits
+abbrev pub IsAskedInRange : Asked → Type 0
+IsAskedInRange (about question) = IsQuestionInRange question
+IsAskedInRange (tabulate table) = IsTableInRange table
+
+-- what was read, as what it is of, or the refusal
+abbrev pub result_map : {A B E : Type 0} → (A → B) → Result A E → Result B E
+result_map f (Ok a) = Ok (f a)
+result_map f (Err e) = Err e
+
+-- this is what the words ask for
+abbrev pub IsRequest : Result Asked Refusal → Asked → Type 0
+IsRequest read asked = read ≡ Ok asked
+
+-- this is why the words are refused
+abbrev pub IsWordsRefusal : Result Asked Refusal → Refusal → Type 0
+IsWordsRefusal read refusal = read ≡ Err refusal
+
+-- the words ask about the group of an input
+abbrev pub AsksInput : Result Asked Refusal → Type 0
+AsksInput read = (question : Question) × IsRequest read (about question)

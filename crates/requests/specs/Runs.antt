@@ -1,0 +1,103 @@
+-- What a run of the program does.
+use Rattle.std.specs.Prelude.{◌≡◌, ◌≢◌, ◌⊎◌, ℕ, ◌≤◌, List, ◌++◌, length, codes, Option, Result}
+use Rattle.std.specs.Io.KnownBytes.{append_known}
+use Rattle.devices.specs.Calls.{Rose}
+use Rattle.devices.specs.Transfers.{HoldsFront}
+use Rattle.requests.specs.declared.refusal.Refusal.{Refusal}
+use Rattle.requests.specs.declared.refusal.Refusal.TheVariants.{TooLong}
+use Rattle.requests.specs.declared.outcome.Outcome.{Outcome}
+use Rattle.requests.specs.declared.outcome.Outcome.TheVariants.{Done, Refused, ReadFault, WriteFault, NoMemory}
+use Rattle.requests.specs.Questions.{Asked, IsRequest, IsWordsRefusal}
+use Rattle.requests.specs.Answers.{IsInput, IsOutput, IsInputRefusal}
+use Rattle.requests.specs.Refusals.{refusal_text}
+
+-- the status that the program ends with
+abbrev pub exit_status : Outcome → ℕ
+exit_status Done = 0
+exit_status (Refused r) = 1
+exit_status ReadFault = 3
+exit_status WriteFault = 4
+exit_status NoMemory = 5
+
+-- ---- what it leaves in its sinks
+
+-- the sink holds the whole answer more
+pub record WritesAnswer (read : Result Asked Refusal) (left held held' : Option (List ℕ)) : Type 0 where
+  pub asked : Asked
+  pub asks : IsRequest read asked
+  pub writes : (input : List ℕ) → IsInput asked left input → (text : List ℕ) × IsOutput asked input text × (held' ≡ append_known held text)
+
+-- the sink holds a front of the answer more
+pub record WritesFront (read : Result Asked Refusal) (left held held' : Option (List ℕ)) : Type 0 where
+  pub asked : Asked
+  pub asks : IsRequest read asked
+  pub writes : (input : List ℕ) → IsInput asked left input → (text : List ℕ) × IsOutput asked input text × HoldsFront held held' text
+
+-- the sink holds the answer where the run is done, a front of it where the sink failed, and else it is as it was
+abbrev pub LeavesOut : {K : Type 0} → (K → Option (List ℕ)) → Outcome → Result Asked Refusal → Option (List ℕ) → K → K → Type 0
+LeavesOut held Done read left old new = WritesAnswer read left (held old) (held new)
+LeavesOut held WriteFault read left old new = WritesFront read left (held old) (held new)
+LeavesOut held (Refused r) read left old new = new ≡ old
+LeavesOut held ReadFault read left old new = new ≡ old
+LeavesOut held NoMemory read left old new = new ≡ old
+
+-- the line of a refusal, with its end
+abbrev pub refusal_line : Refusal → List ℕ
+refusal_line refusal = refusal_text refusal ++ codes "\n"
+
+-- the sink of complaints holds the line of a refusal, or a front of it where that sink failed, and else it is as it was
+abbrev pub Complains : {E : Type 0} → (E → Option (List ℕ)) → (E → ℕ) → Outcome → E → E → Type 0
+Complains held faults (Refused r) old new =
+    ((held new ≡ append_known (held old) (refusal_line r)) × (faults new ≡ faults old))
+    ⊎ (HoldsFront (held old) (held new) (refusal_line r) × Rose (faults old) (faults new))
+Complains held faults Done old new = new ≡ old
+Complains held faults ReadFault old new = new ≡ old
+Complains held faults WriteFault old new = new ≡ old
+Complains held faults NoMemory old new = new ≡ old
+
+-- ---- why it ends so
+
+-- why a run refuses: the words, or the input of their request
+abbrev pub IsCause : Result Asked Refusal → Option (List ℕ) → Refusal → Type 0
+IsCause read left refusal =
+    IsWordsRefusal read refusal
+    ⊎ ((asked : Asked) × IsRequest read asked × ((input : List ℕ) → IsInput asked left input → IsInputRefusal asked input refusal))
+
+-- a refusal has its cause, and a fault is of a device whose count rose. No other count rose
+abbrev pub HasCause : Outcome → Result Asked Refusal → Option (List ℕ) → ℕ → ℕ → ℕ → ℕ → Type 0
+HasCause Done read left faults faults' put put' = (faults' ≡ faults) × (put' ≡ put)
+HasCause (Refused r) read left faults faults' put put' = IsCause read left r × (faults' ≡ faults)
+HasCause ReadFault read left faults faults' put put' = Rose faults faults'
+HasCause WriteFault read left faults faults' put put' = (faults' ≡ faults) × Rose put put'
+HasCause NoMemory read left faults faults' put put' = faults' ≡ faults
+
+-- ---- what it has to do
+
+-- a run that has to refuse does, unless memory ran out or the source failed
+abbrev pub Refuses : Refusal → Outcome → Type 0
+Refuses refusal (Refused r) = r ≡ refusal
+Refuses refusal NoMemory = Unit {0}
+Refuses refusal ReadFault = Unit {0}
+Refuses refusal Done = ⊥
+Refuses refusal WriteFault = ⊥
+
+-- a run that has to answer does, unless memory ran out or a device failed, whose count of faults then rose
+abbrev pub Succeeds : Outcome → ℕ → ℕ → ℕ → ℕ → Type 0
+Succeeds Done faults faults' put put' = Unit {0}
+Succeeds NoMemory faults faults' put put' = Unit {0}
+Succeeds ReadFault faults faults' put put' = Rose faults faults'
+Succeeds WriteFault faults faults' put put' = Rose put put'
+Succeeds (Refused r) faults faults' put put' = ⊥
+
+-- the source was read to its end
+abbrev pub ReadsWhole : Outcome → Type 0
+ReadsWhole Done = Unit {0}
+ReadsWhole WriteFault = Unit {0}
+ReadsWhole (Refused r) = r ≢ TooLong
+ReadsWhole ReadFault = ⊥
+ReadsWhole NoMemory = ⊥
+
+-- the source tells what is left, and each answer over it has at most so many bytes
+abbrev pub FitsIn : Result Asked Refusal → Option (List ℕ) → ℕ → Type 0
+FitsIn read left n = (asked : Asked) → IsRequest read asked
+    → (input : List ℕ) × IsInput asked left input × ((text : List ℕ) → IsOutput asked input text → length text ≤ n)

@@ -1,0 +1,34 @@
+// What is asked of the program, and its answer or the reason why it is refused.
+//
+// Promises to the programs above: words are read as indices, ratios, vectors and frames, within the limits of a request, or
+// refused by the first limit that they pass; `group_of` reads a source to the group that it lists; `carry_out` writes the
+// whole answer to a request, or the line of a refusal, over any source and sinks.
+#![tactic(auto)]
+
+mod at;
+mod form;
+mod images;
+mod input;
+mod laws;
+mod layers;
+mod limits;
+mod obstacle;
+mod outcome;
+mod refusal;
+mod request;
+mod respond;
+mod run;
+mod tables;
+mod words;
+
+pub use form::Form;
+pub use laws::{one_answer, one_request};
+pub use limits::{PlaneWords, Planes, within_limits};
+pub use outcome::Outcome;
+pub use refusal::Refusal;
+pub use request::{Question, Request, Table};
+pub use run::carry_out;
+pub use words::{
+    FrameWord, IndexWords, VectorWord, split_form, split_frame, split_indices, split_ratio,
+    split_three_indices,
+};

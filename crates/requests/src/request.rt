@@ -1,0 +1,42 @@
+// What the words ask for, within the limits.
+use crate::form::Form;
+use fractions::Ratio;
+use motions::{Basis, Miller};
+use report::Kind;
+
+/// What is asked of a group.
+#[derive(Clone, Copy, Debug)]
+pub enum Question {
+    /// The operations that map the plane of the height `s` to itself, in the frame given.
+    At {
+        plane: Miller,
+        basis: Basis,
+        s: Ratio,
+    },
+    /// The report of all heights of the orientation, in the frame given.
+    Layers {
+        plane: Miller,
+        basis: Basis,
+        form: Form,
+    },
+    /// The images of the orientation.
+    Images {
+        plane: Miller,
+    },
+}
+
+/// What is asked without a group.
+#[derive(Clone, Copy, Debug)]
+pub enum Table {
+    /// The operations of a type by its number: 1 to 80 for layer, 1 to 75 for rod and 1 to 7 for frieze types.
+    Type { kind: Kind, n: u8 },
+}
+
+/// What the words ask for, in range.
+#[derive(Clone, Copy, Debug)]
+pub enum Request {
+    /// A question about the group that the input lists.
+    About(Question),
+    /// A table, which needs no input.
+    Tabulate(Table),
+}

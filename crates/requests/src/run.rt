@@ -1,0 +1,115 @@
+// A request carried out.
+ghost use Rattle.std.specs.Prelude.{◌≡◌, ◌≢◌, ℕ, List, Err, IfErr, IfOk, OnOk};
+ghost use Rattle.std.specs.Io.KnownBytes.{IsAtEnd};
+ghost use Rattle.devices.specs.Transfers.{ReadsWithin};
+ghost use Rattle.requests.specs.declared.refusal.Refusal.{Refusal};
+ghost use Rattle.requests.specs.Questions.{Asked, AsksInput, IsAskedInRange, IsRequest, IsWordsRefusal, result_map};
+ghost use Rattle.requests.specs.Views.{asked_of};
+ghost use Rattle.requests.specs.Answers.{HasOutput, IsInput, IsInputRefusal};
+ghost use Rattle.requests.specs.Causes.{HasAnswer, IsObstacle, IsReadWhole, IsRefusedOr};
+ghost use Rattle.requests.specs.Runs.{Complains, FitsIn, HasCause, LeavesOut, ReadsWhole, Refuses, Succeeds};
+
+use crate::input::group_of;
+use crate::obstacle::Obstacle;
+use crate::outcome::Outcome;
+use crate::refusal::Refusal;
+use crate::request::Request;
+use crate::respond::respond;
+use crate::tables::table_text;
+use devices::{Sink, Source, put_all};
+use std::alloc::Global;
+
+/// Carries out a request: reads the source to its end, where it is asked of a group, and writes the whole answer to `out`,
+/// or the line of a refusal to `complaints`.
+///
+/// `read` is what the words of a program were read as. The whole output is made before its first byte is written.
+pub fn carry_out<S: Source, K: Sink, E: Sink>(
+    alloc: Global,
+    read: Result<Request, Refusal>,
+    source: &mut S,
+    out: &mut K,
+    complaints: &mut E,
+) -> Outcome
+    requires range { IfOk read (λ request. IsAskedInRange (asked_of request)) }
+    // A run that is done wrote the answer, and nothing else.
+    ensures out { LeavesOut K.held result (result_map asked_of read) (S.left source.old) out.old out.new }
+    // A run that refuses wrote the line of its refusal, and nothing else.
+    ensures complaint { Complains E.held E.faults result complaints.old complaints.new }
+    // What is refused has that cause, and only a device that failed gives a fault.
+    ensures cause { HasCause result (result_map asked_of read) (S.left source.old)
+        (S.faults source.old) (S.faults source.new) (K.faults out.old) (K.faults out.new) }
+    // Words that are no request, or pass a limit, are refused: the first that applies.
+    ensures refuses_words { (refusal : Refusal) → IsWordsRefusal (result_map asked_of read) refusal →
+        IsRefusedOr refusal result }
+    // An input that is too long, badly written, no group or none that may be asked is refused: the first that applies.
+    ensures refuses_input { (asked : Asked) (input : List ℕ) (refusal : Refusal) →
+        IsRequest (result_map asked_of read) asked → IsInput asked (S.left source.old) input →
+        IsInputRefusal asked input refusal → Refuses refusal result }
+    // A request over a group that may be asked is answered.
+    ensures answers { (asked : Asked) (input : List ℕ) →
+        IsRequest (result_map asked_of read) asked → IsInput asked (S.left source.old) input →
+        HasOutput asked input →
+        Succeeds result (S.faults source.old) (S.faults source.new) (K.faults out.old) (K.faults out.new) }
+    // A source that never fails gives no fault.
+    ensures steady_source { S.NeverFails source.old → result ≢ Outcome.ReadFault }
+    // Nor does a sink that never fails and has room for the answer.
+    ensures steady_out { (n : ℕ) → K.Takes out.old n →
+        FitsIn (result_map asked_of read) (S.left source.old) n → result ≢ Outcome.WriteFault }
+    // Words that ask nothing of an input leave the source as it is.
+    ensures untouched { ¬ AsksInput (result_map asked_of read) →
+        (source.new ≡ source.old) × (result ≢ Outcome.ReadFault) }
+    // Else it is read to its end, but where it is too long or a step before gave up.
+    ensures whole { AsksInput (result_map asked_of read) → ReadsWhole result → IsAtEnd (S.left source.new) }
+    // At most one byte more than an input may have is read.
+    ensures within { ReadsWithin (S.left source.old) (S.left source.new) 65537 }
+{
+    match answer(alloc, read, source) {
+        Ok(text) => match put_all(out, &text) {
+            Ok(()) => Outcome::Done,
+            Err(_) => Outcome::WriteFault,
+        },
+        Err(Obstacle::Refused(refusal)) => refuse(alloc, refusal, complaints),
+        Err(Obstacle::ReadFault) => Outcome::ReadFault,
+        Err(Obstacle::NoMemory) => Outcome::NoMemory,
+    }
+}
+
+/// Reads the source where the request asks for it, and makes the whole answer.
+fn answer<S: Source>(
+    alloc: Global,
+    read: Result<Request, Refusal>,
+    source: &mut S,
+) -> Result<Vec<u8>, Obstacle>
+    requires range { IfOk read (λ request. IsAskedInRange (asked_of request)) }
+    ensures text { IfOk result (λ text. HasAnswer (result_map asked_of read) (S.left source.old) text.items) }
+    ensures obstacle { IfErr result
+        (IsObstacle (result_map asked_of read) (S.left source.old) (S.faults source.old) (S.faults source.new)) }
+    ensures unfailed { OnOk result (S.faults source.new ≡ S.faults source.old) }
+    ensures steady { S.NeverFails source.old → result ≢ Err Obstacle.ReadFault }
+    ensures untouched { ¬ AsksInput (result_map asked_of read) →
+        (source.new ≡ source.old) × (result ≢ Err Obstacle.ReadFault) }
+    ensures whole { AsksInput (result_map asked_of read) → IsReadWhole result → IsAtEnd (S.left source.new) }
+    ensures within { ReadsWithin (S.left source.old) (S.left source.new) 65537 }
+{
+    match read? {
+        Request::About(question) => {
+            let group = group_of(alloc, source)?;
+            respond(alloc, &question, &group)
+        }
+        Request::Tabulate(table) => Ok(table_text(alloc, table)?),
+    }
+}
+
+/// Writes the line of a refusal to the complaints. It is refused whether that sink takes the line or not.
+fn refuse<E: Sink>(alloc: Global, refusal: Refusal, complaints: &mut E) -> Outcome
+    ensures refused { IsRefusedOr refusal result }
+    ensures complaint { Complains E.held E.faults result complaints.old complaints.new }
+{
+    match format!(in alloc; "{refusal}\n") {
+        Ok(line) => {
+            let _ = put_all(complaints, line.as_bytes());
+            Outcome::Refused(refusal)
+        }
+        Err(_) => Outcome::NoMemory,
+    }
+}
