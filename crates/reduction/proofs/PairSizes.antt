@@ -6,6 +6,7 @@ use Rattle.integers.proofs.Ring.{IsWithin-add, IsWithin-mul}
 use Rattle.symmetry.specs.Vectors.{Vector, Matrix, dot}
 use Rattle.symmetry.specs.Sizes.{IsVectorWithin, IsMatrixWithin}
 use Rattle.symmetry.specs.Frames.{Basis}
+use Rattle.plane_lattice.proofs.Sizes.{dot_within, image_within}
 use Rattle.reduction.specs.Bounds.{largest_form, largest_short, largest_twice}
 use Rattle.reduction.specs.Forms.{by_form, IsForm, IsShort, IsUnshortened, Shortens}
 use Rattle.reduction.specs.LatticeBases.{combined}
@@ -54,18 +55,8 @@ module _ (g : Matrix) (form : IsForm g) (f : Basis) (pair : IsShortPair g f) (fi
 
 -- ---- the vectors that the reduction begins with
 
--- how large the form is at a vector
-form_within : (m n : ℕ) (g : Matrix) (v : Vector) → IsMatrixWithin m g → IsVectorWithin n v
-    → IsWithin (n * (m * n + m * n + m * n) + n * (m * n + m * n + m * n) + n * (m * n + m * n + m * n)) (by_form g v v)
-unfolding dot
-form_within m n g v h k =
-    IsWithin-add (IsWithin-add (IsWithin-mul k.x (row g.first h.first)) (IsWithin-mul k.y (row g.second h.second))) (IsWithin-mul k.z (row g.third h.third))
-  where
-    row : (r : Vector) → IsVectorWithin m r → IsWithin (m * n + m * n + m * n) (r.x *ℤ v.x +ℤ r.y *ℤ v.y +ℤ r.z *ℤ v.z)
-    row r l = IsWithin-add (IsWithin-add (IsWithin-mul l.x k.x) (IsWithin-mul l.y k.y)) (IsWithin-mul l.z k.z)
-
 pub begins_short : (g : Matrix) (v : Vector) → IsForm g → IsVectorWithin largest_twice v → by_form g v v ≤ℤ pos (2 ^ 90)
-begins_short g v form h = go _ _ (2 ^ 90) (form_within largest_form largest_twice g v form.small h) (lit≤ tt)
+begins_short g v form h = go _ _ (2 ^ 90) (dot_within h (image_within form.small h)) (lit≤ tt)
   where
     go : (m : ℕ) (x : ℤ) (n : ℕ) → IsWithin m x → m ≤ n → x ≤ℤ pos n
     go m x n h k = let l = h.most in omega (arith, ints)

@@ -23,9 +23,8 @@ use plane_lattice::Frame;
 
 /// A frame of the group and the orientation whose vectors are reduced.
 ///
-/// Vectors are compared by the form Q(u,v), the sum of (W u).(W v) over the scanning operations, which each of these
-/// keeps. The frame is such that 2 |Q(a,b)| <= Q(a,a) <= Q(b,b), and no tau + i a + j b with i and j from -1 to 1 is
-/// shorter than tau.
+/// Vectors are compared by the form Q(u,v), the sum of (W u).(W v) over the scanning operations: 2 |Q(a,b)| <= Q(a,a)
+/// <= Q(b,b), and no tau + i a + j b with i and j from -1 to 1 is shorter than tau.
 ///
 /// Where several frames are such, it is one that depends on the group and the plane alone, and not on the order in which
 /// the operations and the centring vectors were listed: the basis that is reduced is made of the least vector of the
