@@ -6,6 +6,7 @@ use Rattle.symmetry.specs.Frames.{Basis}
 use Rattle.report.specs.Consequences.{ReportSays}
 use Rattle.report.specs.Reports.{IsReport, Report}
 use Rattle.report.specs.Texts.{report_text}
+use Rattle.report.specs.Values.{report_json}
 use Rattle.requests.specs.declared.form.Form.{Form}
 use Rattle.requests.specs.declared.form.Form.TheVariants as forms
 use Rattle.requests.specs.Obstacles.{IsFairFrame}
@@ -13,7 +14,7 @@ use Rattle.requests.specs.Obstacles.{IsFairFrame}
 -- a report in a form
 abbrev pub written_report : Form → Report → List ℕ
 written_report forms.Text report = report_text report
-written_report forms.Json report = report_text report
+written_report forms.Json report = report_json report
 
 -- the text is the report in its form, with what this says of every height
 pub record IsReportAnswer (g : Listing) (row : Vector) (basis : Basis) (form : Form) (text : List ℕ) : Type 0 where

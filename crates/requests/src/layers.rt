@@ -24,7 +24,7 @@ fn written(alloc: Global, report: &Report, form: Form) -> Result<Vec<u8>, AllocE
 {
     match form {
         Form::Text => report.text(alloc),
-        Form::Json => report.text(alloc),
+        Form::Json => report.json(alloc),
     }
 }
 

@@ -22,12 +22,14 @@ mod tables;
 mod words;
 
 pub use form::Form;
+pub use input::group_of;
 pub use laws::{one_answer, one_request};
 pub use limits::{PlaneWords, Planes, within_limits};
+pub use obstacle::Obstacle;
 pub use outcome::Outcome;
 pub use refusal::Refusal;
 pub use request::{Question, Request, Table};
-pub use run::carry_out;
+pub use run::{carry_out, refuse};
 pub use words::{
     FrameWord, IndexWords, VectorWord, split_form, split_frame, split_indices, split_ratio,
     split_three_indices,

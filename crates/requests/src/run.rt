@@ -101,7 +101,7 @@ fn answer<S: Source>(
 }
 
 /// Writes the line of a refusal to the complaints. It is refused whether that sink takes the line or not.
-fn refuse<E: Sink>(alloc: Global, refusal: Refusal, complaints: &mut E) -> Outcome
+pub fn refuse<E: Sink>(alloc: Global, refusal: Refusal, complaints: &mut E) -> Outcome
     ensures refused { IsRefusedOr refusal result }
     ensures complaint { Complains E.held E.faults result complaints.old complaints.new }
 {

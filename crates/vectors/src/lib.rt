@@ -15,6 +15,7 @@ mod refused_words;
 mod reports;
 mod topic;
 mod types;
+mod unusual_reports;
 
 pub use case::Case;
 pub use topic::{TOPICS, Topic, cases};

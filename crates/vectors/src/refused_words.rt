@@ -7,7 +7,7 @@ pub(crate) fn all() -> &'static [Case] {
     &CASES
 }
 
-static CASES: [Case; 11] = [
+static CASES: [Case; 14] = [
     Case {
         name: "two indices",
         words: &["layers", "1", "0"],
@@ -96,6 +96,32 @@ static CASES: [Case; 11] = [
         name: "a layer type past the last",
         words: &["types", "layer", "81"],
         input: b"",
+        output: b"",
+        complaints: b"refused: usage\n",
+        status: 1,
+    },
+    Case {
+        name: "a third index that is not -(h+k)",
+        words: &["layers", "1", "0", "0", "0"],
+        input: INVERSION,
+        output: b"",
+        complaints: b"refused: third index is not -(h+k)\n",
+        status: 1,
+    },
+    Case {
+        name: "a third index that is wrong, of indices out of range",
+        words: &["layers", "100", "0", "100", "1"],
+        input: INVERSION,
+        output: b"",
+        complaints: b"refused: third index is not -(h+k)\n",
+        status: 1,
+    },
+    Case {
+        name: "the form before the frame",
+        words: &[
+            "layers", "0", "0", "1", "--json", "--frame", "1,0,0", "0,1,0", "0,0,1",
+        ],
+        input: INVERSION,
         output: b"",
         complaints: b"refused: usage\n",
         status: 1,

@@ -1,32 +1,6 @@
 // Reports of all heights of an orientation.
 use crate::case::Case;
-use crate::inputs::{C2M, FOURFOLD_SCREW, INVERSION};
-
-/// The report of P-1 along c.
-const INVERSION_REPORT: &[u8] = b"plane 0 0 1\n\
-    period 1\n\
-    a 1,0,0\n\
-    b 0,1,0\n\
-    tau 0,0,1\n\
-    c 0,0,1\n\
-    general planes 2\n\
-    type 1 p1\n\
-    basis 1,0,0 0,1,0 0,0,1\n\
-    origin 0,0,0 + s/d c\n\
-    op x,y,z\n\
-    height 0 orbit 1\n\
-    type 2 p-1\n\
-    basis 1,0,0 0,1,0 0,0,1\n\
-    origin 0,0,0\n\
-    op x,y,z\n\
-    op -x,-y,-z\n\
-    height 1/2 orbit 2\n\
-    type 2 p-1\n\
-    basis 1,0,0 0,1,0 0,0,1\n\
-    origin 0,0,1/2\n\
-    op x,y,z\n\
-    op -x,-y,-z+1\n\
-    end\n";
+use crate::inputs::{C2M, FOURFOLD_SCREW, INVERSION, INVERSION_REPORT};
 
 /// The report of C2/m along b.
 const C2M_REPORT: &[u8] = b"plane 0 1 0\n\
@@ -64,7 +38,7 @@ pub(crate) fn all() -> &'static [Case] {
     &CASES
 }
 
-static CASES: [Case; 14] = [
+static CASES: [Case; 10] = [
     Case {
         name: "P1 along c",
         words: &["layers", "0", "0", "1"],
@@ -363,104 +337,6 @@ static CASES: [Case; 14] = [
             op x+1/2,-y+3/2,-z-1/2\n\
             op x+1/2,y,-z-1/2\n\
             op x,-y+3/2,z\n\
-            end\n",
-        complaints: b"",
-        status: 0,
-    },
-    Case {
-        name: "P-1 along c, with labels, comments, capitals and CRLF",
-        words: &["layers", "0", "0", "1"],
-        input: b"(1) X, Y, Z\r\n# centre\r\n(2) -x, 0-y,-z\r\n\r\nx,y,z",
-        output: INVERSION_REPORT,
-        complaints: b"",
-        status: 0,
-    },
-    Case {
-        name: "the finest lattice along c",
-        words: &[
-            "layers", "0", "0", "1", "--frame", "1/4,0,0", "0,1/4,0", "0,0,1/4",
-        ],
-        input: b"(1/4,0,0)+ (0,1/4,0)+ (0,0,1/4)+\nx,y,z\n",
-        output: b"plane 0 0 1\n\
-            period 1/4\n\
-            a 1/4,0,0\n\
-            b 0,1/4,0\n\
-            tau 0,0,1/4\n\
-            c 0,0,1/4\n\
-            general planes 1\n\
-            type 1 p1\n\
-            basis 1/4,0,0 0,1/4,0 0,0,1/4\n\
-            origin 0,0,0 + s/d c\n\
-            op x,y,z\n\
-            end\n",
-        complaints: b"",
-        status: 0,
-    },
-    Case {
-        name: "P-1 along (99 98 97)",
-        words: &[
-            "layers",
-            "99",
-            "98",
-            "97",
-            "--frame",
-            "1,-2,1",
-            "49,-1,-49",
-            "1,-1,0",
-        ],
-        input: INVERSION,
-        output: b"plane 99 98 97\n\
-            period 1\n\
-            a 1,-2,1\n\
-            b 49,-1,-49\n\
-            tau 1,-1,0\n\
-            c 1,-1,0\n\
-            general planes 2\n\
-            type 1 p1\n\
-            basis 1,-2,1 49,-1,-49 1,-1,0\n\
-            origin 0,0,0 + s/d c\n\
-            op x,y,z\n\
-            height 0 orbit 1\n\
-            type 2 p-1\n\
-            basis 1,-2,1 49,-1,-49 1,-1,0\n\
-            origin 0,0,0\n\
-            op x,y,z\n\
-            op -x,-y,-z\n\
-            height 1/2 orbit 2\n\
-            type 2 p-1\n\
-            basis 1,-2,1 49,-1,-49 1,-1,0\n\
-            origin 1/2,-1/2,0\n\
-            op x,y,z\n\
-            op -x+1,-y-1,-z\n\
-            end\n",
-        complaints: b"",
-        status: 0,
-    },
-    Case {
-        name: "P2 with its axis along a, along c in an oblique frame",
-        words: &[
-            "layers", "0", "0", "1", "--frame", "1,0,0", "10,1,0", "0,0,1",
-        ],
-        input: b"x,y,z\nx,-y,-z\n",
-        output: b"plane 0 0 1\n\
-            period 1\n\
-            a 1,0,0\n\
-            b 10,1,0\n\
-            tau 0,0,1\n\
-            c 0,0,1\n\
-            general planes 2\n\
-            type 1 p1\n\
-            basis 1,0,0 10,1,0 0,0,1\n\
-            origin 0,0,0 + s/d c\n\
-            op x,y,z\n\
-            height 0 orbit 1\n\
-            type unrecognised\n\
-            op x,y,z\n\
-            op x,-y,-z\n\
-            height 1/2 orbit 2\n\
-            type unrecognised\n\
-            op x,y,z\n\
-            op x,-y,-z+1\n\
             end\n",
         complaints: b"",
         status: 0,

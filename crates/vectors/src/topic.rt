@@ -2,6 +2,7 @@
 use crate::case::Case;
 use crate::{
     heights, images, refused_frames, refused_groups, refused_lines, refused_words, reports, types,
+    unusual_reports,
 };
 
 /// What a case is about.
@@ -11,6 +12,8 @@ pub enum Topic {
     Heights,
     /// Reports of all heights of an orientation.
     Reports,
+    /// Reports of unusual texts, frames and words: labels, a fine lattice, large indices, an oblique frame, four indices, JSON.
+    UnusualReports,
     /// The images of an orientation.
     Images,
     /// The operations of a type, by its number.
@@ -26,9 +29,10 @@ pub enum Topic {
 }
 
 /// Every topic.
-pub const TOPICS: [Topic; 8] = [
+pub const TOPICS: [Topic; 9] = [
     Topic::Heights,
     Topic::Reports,
+    Topic::UnusualReports,
     Topic::Images,
     Topic::Types,
     Topic::RefusedWords,
@@ -44,6 +48,7 @@ pub fn cases(topic: Topic) -> &'static [Case] {
     match topic {
         Topic::Heights => heights::all(),
         Topic::Reports => reports::all(),
+        Topic::UnusualReports => unusual_reports::all(),
         Topic::Images => images::all(),
         Topic::Types => types::all(),
         Topic::RefusedWords => refused_words::all(),
