@@ -32,7 +32,7 @@ same_number p q x u e =
     (given (num (pos 1)) (num (pos 2) ⊗ var 0 ⊗ var 3) (var 1 ⊗ var 2) ∷ []) tt (sym e, tt)
 
 -- the half parts that there are
-half_parts : (s : Height) → IsInHalves s → s.den *ℤ int_div (pos 2 *ℤ s.num *ℤ UNIT) s.den ≡ pos 2 *ℤ s.num *ℤ UNIT
+pub half_parts : (s : Height) → IsInHalves s → s.den *ℤ int_div (pos 2 *ℤ s.num *ℤ UNIT) s.den ≡ pos 2 *ℤ s.num *ℤ UNIT
 half_parts s e =
     mul_comm_lem s.den _ ∙ sym (add_zero _) ∙ ap (λ r. int_div (pos 2 *ℤ s.num *ℤ UNIT) s.den *ℤ s.den +ℤ r) (sym e) ∙ quot-rem (pos 2 *ℤ s.num *ℤ UNIT) s.den
 

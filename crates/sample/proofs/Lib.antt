@@ -1,0 +1,11 @@
+pub mod Conjugates
+pub mod CountSteps
+pub mod FewHeights
+pub mod Frames
+pub mod Generators
+pub mod Inverses
+pub mod Lattices
+pub mod Listed
+pub mod SampleReports
+pub mod ShearSizes
+pub mod TypeGroups
