@@ -41,6 +41,10 @@ vector_text v = number_text v.x ++ codes "," ++ number_text v.y ++ codes "," ++ 
 abbrev pub fractions_text : Fractions → List ℕ
 fractions_text v = ratio_text v.x ++ codes "," ++ ratio_text v.y ++ codes "," ++ ratio_text v.z
 
+-- the vectors a, b and tau of a frame, in one line
+abbrev pub frame_line : Basis → List ℕ
+frame_line f = vector_text f.a ++ codes " " ++ vector_text f.b ++ codes " " ++ vector_text f.tau ++ codes "\n"
+
 -- the lines of the orientation, the period and the vectors of the frame
 unfoldable pub frame_text : Report → List ℕ
 frame_text report =

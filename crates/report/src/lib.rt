@@ -1,12 +1,13 @@
-// What the program writes: the operations at a height, the report of an orientation of planes, the images of an orientation,
-// and the types.
+// What the programs write: the operations at a height, the report of an orientation of planes, the images of an orientation,
+// the types, and the line of a frame.
 //
-// Promises to the crates above: `at_text`, `images_text` and `type_text` write exactly these texts; `Report::make` gives the
-// report of a group in a frame, `Report::text` writes its text, and `Report::json` its JSON. `report_says` is what a report
-// says of every height.
+// Promises to the crates above: `at_text`, `images_text`, `type_text` and `frame_line` write exactly these texts;
+// `Report::make` gives the report of a group in a frame, `Report::text` writes its text, and `Report::json` its JSON.
+// `report_says` is what a report says of every height.
 #![tactic(auto)]
 
 mod at;
+mod frame;
 #[cfg(test)]
 mod generator_tests;
 mod images;
@@ -30,6 +31,7 @@ mod types;
 mod written;
 
 pub use at::{NoMemory, at_text};
+pub use frame::frame_line;
 pub use images::images_text;
 pub use kind::Kind;
 pub use laws::{alike_reports, report_says};

@@ -51,7 +51,7 @@ module _ (input : List ℕ) (r r' : Refusal) where
   one_cause (of_group g) (of_group g') (short, (l, text, error)) (short', (l', text', error')) e e' =
       ap of_group (one_group_error l g g' (known g r e) (known g' r' e') error (subst (λ (l : Listing). IsGroupError l g') (one_listing input l' l text' text) error'))
 
-no_group_and_cause : (input : List ℕ) (r : Refusal) (g : Listing) (c : Cause) → IsShort input → ListsGroup input g → IsCause input c → obstacle_of c ≡ obstacles.Refused r → ⊥
+pub no_group_and_cause : (input : List ℕ) (r : Refusal) (g : Listing) (c : Cause) → IsShort input → ListsGroup input g → IsCause input c → obstacle_of c ≡ obstacles.Refused r → ⊥
 no_group_and_cause input r g too_long short lists p e = not_both input p short
 no_group_and_cause input r g (of_text f) short lists p e = no_listing_and_fault input g f p.1 lists.is_text
 no_group_and_cause input r g (of_group error) short lists (short', (l, text, is)) e =
