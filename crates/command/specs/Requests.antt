@@ -8,6 +8,7 @@ use Rattle.command.specs.At.{at_words}
 use Rattle.command.specs.Layers.{layers_words}
 use Rattle.command.specs.Images.{images_words}
 use Rattle.command.specs.Types.{types_words}
+use Rattle.command.specs.Sample.{sample_words}
 
 -- what a command asks for, or the first limit that it passes: its name, and its arguments behind it
 abbrev pub command_words : List (List ℕ) → Option (Result Asked Refusal)
@@ -16,7 +17,8 @@ command_words (name ∷ arguments) =
     if bytes_eq name (codes "at") then at_words arguments else
     if bytes_eq name (codes "layers") then layers_words arguments else
     if bytes_eq name (codes "images") then images_words arguments else
-    if bytes_eq name (codes "types") then types_words arguments else None
+    if bytes_eq name (codes "types") then types_words arguments else
+    if bytes_eq name (codes "sample") then sample_words arguments else None
 
 -- what is no command is refused
 abbrev pub or_usage : Option (Result Asked Refusal) → Result Asked Refusal

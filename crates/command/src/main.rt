@@ -9,6 +9,7 @@ mod layers;
 mod numbers;
 mod read_words;
 mod run;
+mod sample;
 #[cfg(test)]
 mod tests;
 mod types;

@@ -7,6 +7,7 @@ ghost use Rattle.requests.specs.Views.{asked_of};
 use crate::at::read_at;
 use crate::images::read_images;
 use crate::layers::read_layers;
+use crate::sample::read_sample;
 use crate::types::read_types;
 use requests::{Refusal, Request};
 
@@ -21,6 +22,7 @@ fn read_command(words: &[String]) -> Option<Result<Request, Refusal>>
             "layers" => read_layers(arguments),
             "images" => read_images(arguments),
             "types" => read_types(arguments),
+            "sample" => read_sample(arguments),
             _ => None,
         },
         [] => None,

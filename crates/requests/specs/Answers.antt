@@ -3,9 +3,12 @@ use Rattle.std.specs.Prelude.{◌≡◌, ℕ, ◌⊎◌, List, [], Option, Some}
 use Rattle.symmetry.specs.Groups.{Listing}
 use Rattle.orbits.specs.Orientations.{IsWide}
 use Rattle.report.specs.TypeTexts.{IsTypeText}
+use Rattle.sample.specs.Counted.{counts_text}
+use Rattle.sample.specs.Samples.{IsSample}
+use Rattle.sample.specs.declared.counts.Counts.{Counts}
 use Rattle.requests.specs.declared.refusal.Refusal.{Refusal}
 use Rattle.requests.specs.declared.refusal.Refusal.TheVariants.{Wide}
-use Rattle.requests.specs.Questions.{Asked, Question, Table, about, tabulate, at_height, all_heights, image_rows, of_type}
+use Rattle.requests.specs.Questions.{Asked, Question, Table, about, tabulate, at_height, all_heights, image_rows, of_type, of_sample}
 use Rattle.requests.specs.Obstacles.{IsFairFrame, RefusesFrame}
 use Rattle.requests.specs.Inputs.{IsRefusedInput, IsShort, ListsGroup}
 use Rattle.requests.specs.At.{IsHeightAnswer}
@@ -59,6 +62,7 @@ RefusesInput question input refusal =
 -- the text is that of the table
 abbrev pub IsTable : Table → List ℕ → Type 0
 IsTable (of_type kind n) text = IsTypeText kind n text
+IsTable (of_sample n) text = (counts : Counts) × IsSample n counts × (text ≡ counts_text counts)
 
 -- ---- to a request
 

@@ -1,5 +1,5 @@
 -- What is asked.
-use Rattle.std.specs.Prelude.{◌≡◌, ℕ, Result, Ok, Err}
+use Rattle.std.specs.Prelude.{◌≡◌, ◌≤◌, ℕ, Result, Ok, Err}
 use Rattle.fractions.specs.Fraction.{Fraction}
 use Rattle.symmetry.specs.Vectors.{Vector}
 use Rattle.symmetry.specs.Frames.{Basis}
@@ -15,9 +15,10 @@ pub data Question : Type 0 where
   all_heights : (row : Vector) (basis : Basis) (form : Form) → Question
   image_rows : (row : Vector) → Question
 
--- what is asked without an input: the table of a type
+-- what is asked without an input: the table of a type, or the counts of a sample
 pub data Table : Type 0 where
   of_type : (kind : Kind) (n : ℕ) → Table
+  of_sample : (n : ℕ) → Table
 
 -- what is asked: a question about the group of an input, or a table
 pub data Asked : Type 0 where
@@ -29,9 +30,10 @@ abbrev pub IsQuestionInRange : Question → Type 0
 IsQuestionInRange (at_height row basis height) = IsHeightInRange height
 IsQuestionInRange _ = Unit {0}
 
--- the number is one of the kind
+-- the number is one of the kind, or from 1 to 400
 abbrev pub IsTableInRange : Table → Type 0
 IsTableInRange (of_type kind n) = IsTypeNumber kind n
+IsTableInRange (of_sample n) = (1 ≤ n) × (n ≤ 400)
 
 -- what is asked is within its limits
 abbrev pub IsAskedInRange : Asked → Type 0

@@ -18,7 +18,7 @@ use Rattle.requests.specs.declared.request.Request.{Request}
 use Rattle.requests.specs.declared.request.Request.TheVariants as requests
 use Rattle.requests.specs.Words.{Fractions, FrameWords, Indices, Placed}
 use Rattle.requests.specs.Limits.{PlaneWords, Planes}
-use Rattle.requests.specs.Questions.{Question, Table, Asked, at_height, all_heights, image_rows, of_type, about, tabulate}
+use Rattle.requests.specs.Questions.{Question, Table, Asked, at_height, all_heights, image_rows, of_type, of_sample, about, tabulate}
 
 -- a ratio, and the place behind it
 abbrev pub placed : Ratio × ℕ → Placed
@@ -53,6 +53,7 @@ question_of (questions.Images plane) = image_rows (row_of plane)
 -- what a table asks
 abbrev pub table_of : ReadTable → Table
 table_of (tables.Type kind n) = of_type kind n
+table_of (tables.Sample n) = of_sample n
 
 -- what a request asks
 abbrev pub asked_of : Request → Asked

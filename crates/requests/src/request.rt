@@ -30,6 +30,8 @@ pub enum Question {
 pub enum Table {
     /// The operations of a type by its number: 1 to 80 for layer, 1 to 75 for rod and 1 to 7 for frieze types.
     Type { kind: Kind, n: u8 },
+    /// The counts over the reports of so many groups, 1 to 400, made from the layer types.
+    Sample { n: u32 },
 }
 
 /// What the words ask for, in range.

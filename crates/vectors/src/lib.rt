@@ -13,6 +13,7 @@ mod refused_groups;
 mod refused_lines;
 mod refused_words;
 mod reports;
+mod samples;
 mod topic;
 mod types;
 mod unusual_reports;

@@ -1,8 +1,8 @@
 // The cases, by topic.
 use crate::case::Case;
 use crate::{
-    heights, images, refused_frames, refused_groups, refused_lines, refused_words, reports, types,
-    unusual_reports,
+    heights, images, refused_frames, refused_groups, refused_lines, refused_words, reports,
+    samples, types, unusual_reports,
 };
 
 /// What a case is about.
@@ -18,6 +18,8 @@ pub enum Topic {
     Images,
     /// The operations of a type, by its number.
     Types,
+    /// Counts of the sample.
+    Samples,
     /// Words that are refused, whatever the input.
     RefusedWords,
     /// Inputs that are refused for a bad line.
@@ -29,12 +31,13 @@ pub enum Topic {
 }
 
 /// Every topic.
-pub const TOPICS: [Topic; 9] = [
+pub const TOPICS: [Topic; 10] = [
     Topic::Heights,
     Topic::Reports,
     Topic::UnusualReports,
     Topic::Images,
     Topic::Types,
+    Topic::Samples,
     Topic::RefusedWords,
     Topic::RefusedLines,
     Topic::RefusedGroups,
@@ -51,6 +54,7 @@ pub fn cases(topic: Topic) -> &'static [Case] {
         Topic::UnusualReports => unusual_reports::all(),
         Topic::Images => images::all(),
         Topic::Types => types::all(),
+        Topic::Samples => samples::all(),
         Topic::RefusedWords => refused_words::all(),
         Topic::RefusedLines => refused_lines::all(),
         Topic::RefusedGroups => refused_groups::all(),
