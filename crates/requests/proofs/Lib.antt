@@ -7,4 +7,5 @@ pub mod EntrySizes
 pub mod OneAnswer
 pub mod GroupAnswers
 pub mod Reading
+pub mod Pieces
 pub mod RunFacts

@@ -15,24 +15,29 @@ use Rattle.closure.specs.Groups.{IsGroupOf}
 use Rattle.requests.specs.Obstacles.{obstacle_of_group, obstacle_of_text}
 use Rattle.requests.specs.declared.refusal.Refusal.{Refusal}
 use Rattle.requests.specs.Questions.{Asked, Question, about, IsRequest}
-use Rattle.requests.specs.Inputs.{of_text, of_group, IsGroupOfInput, IsShort}
+use Rattle.requests.specs.Inputs.{of_text, of_group, IsCause, IsGroupOfInput, IsShort}
 use Rattle.requests.specs.Answers.{Answers}
-use Rattle.requests.specs.Causes.{HasAnswer, IsGroupObstacle, IsGroupsObstacle, IsObstacle}
+use Rattle.requests.specs.Causes.{HasAnswer, IsGroupsObstacle, IsObstacle, IsSourceObstacle}
 
 -- ---- the group of an input
 
--- the error of what is listed
-pub group_obstacle : (input : List ℕ) (g : Listing) (error : GroupError) → IsShort input → IsGroupText input g → IsGroupError g error
-    → IsGroupObstacle input (obstacle_of_group error)
-group_obstacle input g (groups.TooMany n) short text h = (of_group (groups.TooMany n), (short, (g, text, h)), refl)
-group_obstacle input g groups.TooFine short text h = (of_group groups.TooFine, (short, (g, text, h)), refl)
-group_obstacle input g (groups.Fault fault) short text h = (of_group (groups.Fault fault), (short, (g, text, h)), refl)
-group_obstacle input g groups.NoMemory short text h = tt
+module _ (left : Option (List ℕ)) (faults faults' : ℕ) (same : faults' ≡ faults) where
+  -- a bad text
+  pub text_obstacle : (fault : TextFault) → ((input : List ℕ) → left ≡ Some input → IsShort input × IsFaultOf input fault)
+      → IsSourceObstacle left faults faults' (obstacle_of_text fault)
+  text_obstacle (texts.At line column kind) bad = (λ input is. (of_text (record { line = line; column = column; kind = kind }), bad input is, refl), same)
+  text_obstacle texts.NoMemory bad = same
 
--- a bad text
-pub text_obstacle : (input : List ℕ) (fault : TextFault) → IsShort input → IsFaultOf input fault → IsGroupObstacle input (obstacle_of_text fault)
-text_obstacle input (texts.At line column kind) short is = (of_text (record { line = line; column = column; kind = kind }), (short, is), refl)
-text_obstacle input texts.NoMemory short is = tt
+  -- the error of what is listed
+  module _ (g : Listing) (lists : (input : List ℕ) → left ≡ Some input → IsShort input × IsGroupText input g) where
+    cause : (input : List ℕ) (error : GroupError) → IsGroupError g error → left ≡ Some input → IsCause input (of_group error)
+    cause input error h is = let text = lists input is in (text.0, (g, text.1, h))
+
+    pub group_obstacle : (error : GroupError) → IsGroupError g error → IsSourceObstacle left faults faults' (obstacle_of_group error)
+    group_obstacle (groups.TooMany n) h = (λ input is. (of_group (groups.TooMany n), cause input (groups.TooMany n) h is, refl), same)
+    group_obstacle groups.TooFine h = (λ input is. (of_group groups.TooFine, cause input groups.TooFine h is, refl), same)
+    group_obstacle (groups.Fault fault) h = (λ input is. (of_group (groups.Fault fault), cause input (groups.Fault fault) h is, refl), same)
+    group_obstacle groups.NoMemory h = same
 
 -- ---- the answer of a group that a source gave
 

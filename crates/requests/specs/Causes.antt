@@ -17,12 +17,6 @@ use Rattle.requests.specs.Runs.{IsCause}
 
 -- ---- the group of an input
 
--- what keeps the input from a group
-abbrev pub IsGroupObstacle : List ℕ → Obstacle → Type 0
-IsGroupObstacle input (obstacles.Refused refusal) = IsRefusedInput input refusal
-IsGroupObstacle input obstacles.ReadFault = ⊥
-IsGroupObstacle input obstacles.NoMemory = Unit {0}
-
 -- what keeps a source from a group; its count of faults rose where it failed alone
 abbrev pub IsSourceObstacle : Option (List ℕ) → ℕ → ℕ → Obstacle → Type 0
 IsSourceObstacle left faults faults' (obstacles.Refused refusal) =

@@ -4,8 +4,6 @@ use Rattle.symmetry.specs.Vectors.{Vector}
 use Rattle.symmetry.specs.Groups.{Listing}
 use Rattle.symmetry.specs.Frames.{Basis, IsFrame, IsSkewed}
 use Rattle.plane_lattice.specs.FrameOf.{IsFrameFault}
-use Rattle.devices.specs.declared.read.ReadFault.{ReadFault}
-use Rattle.devices.specs.declared.read.ReadFault.TheVariants as faults
 use Rattle.quotient.specs.declared.check.GroupFault.{GroupFault}
 use Rattle.quotient.specs.declared.check.GroupFault.TheVariants as group_faults
 use Rattle.motions.specs.declared.frame_fault.FrameFault.{FrameFault}
@@ -22,11 +20,6 @@ use Rattle.requests.specs.declared.refusal.Refusal.{Refusal}
 use Rattle.requests.specs.declared.refusal.Refusal.TheVariants as refusals
 use Rattle.requests.specs.declared.obstacle.Obstacle.{Obstacle}
 use Rattle.requests.specs.declared.obstacle.Obstacle.TheVariants as obstacles
-
--- that of a fault in reading
-abbrev pub obstacle_of_reading : ReadFault → Obstacle
-obstacle_of_reading faults.Failed = obstacles.ReadFault
-obstacle_of_reading faults.NoMemory = obstacles.NoMemory
 
 -- that of a text that is not read
 abbrev pub obstacle_of_text : TextFault → Obstacle

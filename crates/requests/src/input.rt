@@ -2,15 +2,22 @@
 ghost use Rattle.std.specs.Prelude.{◌≡◌, ◌≢◌, ℕ, List, Err, IfErr, IfOk, OnOk, Some};
 ghost use Rattle.std.specs.Io.KnownBytes.{IsAtEnd};
 ghost use Rattle.devices.specs.Transfers.{ReadsWithin};
-ghost use Rattle.requests.specs.Causes.{IsGroupObstacle, IsReadWhole, IsSourceObstacle};
+ghost use Rattle.motions.specs.ListedSizes.{IsListedSmall};
+ghost use Rattle.motions.specs.Views.{listing_of};
+ghost use Rattle.triplets.specs.Texts.{IsGroupText};
+ghost use Rattle.requests.specs.Causes.{IsReadWhole, IsSourceObstacle};
 ghost use Rattle.requests.specs.Inputs.{IsGroupOfInput, IsShort};
 
 use crate::obstacle::Obstacle;
 use crate::refusal::Refusal;
 use closure::Group;
-use devices::{Input, Source, read_all};
+use devices::Source;
+use motions::Listed;
 use std::alloc::Global;
-use triplets::{MOST_BYTES, read_group};
+use triplets::{LineReader, MOST_BYTES};
+
+// The source is asked for at most so many bytes at once.
+const PIECE: usize = 4096;
 
 /// Reads a source to its end: the group that it lists.
 pub fn group_of<S: Source>(alloc: Global, source: &mut S) -> Result<Group, Obstacle>
@@ -23,18 +30,36 @@ pub fn group_of<S: Source>(alloc: Global, source: &mut S) -> Result<Group, Obsta
     ensures whole { IsReadWhole result → IsAtEnd (S.left source.new) }
     ensures within { ReadsWithin (S.left source.old) (S.left source.new) 65537 }
 {
-    match read_all(alloc, source, MOST_BYTES)? {
-        Input::Whole(input) => group_of_text(alloc, &input),
-        Input::TooLong => Err(Obstacle::Refused(Refusal::TooLong)),
-    }
+    let listed = read_listed(alloc, source)?;
+    Ok(Group::make(alloc, listed)?)
 }
 
-/// The group that the text of an input lists.
-fn group_of_text(alloc: Global, input: &[u8]) -> Result<Group, Obstacle>
-    requires { IsShort input.now }
-    ensures group { IfOk result (IsGroupOfInput input.now) }
-    ensures obstacle { IfErr result (IsGroupObstacle input.now) }
+/// Reads a source to its end, piece by piece: what its text lists.
+fn read_listed<S: Source>(alloc: Global, source: &mut S) -> Result<Listed, Obstacle>
+    ensures text { IfOk result (λ listed. (input : List ℕ) →
+        S.left source.old ≡ Some input → IsShort input × IsGroupText input (listing_of listed)) }
+    ensures small { IfOk result (IsListedSmall 9) }
+    ensures obstacle { IfErr result
+        (IsSourceObstacle (S.left source.old) (S.faults source.old) (S.faults source.new)) }
+    ensures unfailed { OnOk result (S.faults source.new ≡ S.faults source.old) }
+    ensures steady { S.NeverFails source.old → result ≢ Err Obstacle.ReadFault }
+    ensures whole { IsReadWhole result → IsAtEnd (S.left source.new) }
+    ensures within { ReadsWithin (S.left source.old) (S.left source.new) 65537 }
 {
-    let listed = read_group(alloc, input)?;
-    Ok(Group::make(alloc, listed)?)
+    let mut reader = LineReader::make(alloc);
+    let mut room = MOST_BYTES;
+    let mut piece = [0; PIECE];
+    loop {
+        let wanted = room.min(PIECE - 1) + 1;
+        let given = source.next(&mut piece[..wanted])?;
+        if given == 0 {
+            return Ok(reader.finish()?);
+        }
+        if given > room {
+            return Err(Obstacle::Refused(Refusal::TooLong));
+        }
+        // A fault of the text is answered again by `finish`: a source that fails or gives too much comes first.
+        let _ = reader.feed(&piece[..given]);
+        room -= given;
+    }
 }

@@ -1,11 +1,11 @@
 // What keeps the program from an answer.
 ghost use Rattle.std.specs.Prelude.{◌≡◌};
-ghost use Rattle.requests.specs.declared.obstacle.Obstacle.TheVariants.{NoMemory, Refused};
-ghost use Rattle.requests.specs.Obstacles.{obstacle_of_group, obstacle_of_height, obstacle_of_orbits, obstacle_of_reading, obstacle_of_text, refusal_of_fault, refusal_of_frame};
+ghost use Rattle.requests.specs.declared.obstacle.Obstacle.TheVariants.{NoMemory, ReadFault, Refused};
+ghost use Rattle.requests.specs.Obstacles.{obstacle_of_group, obstacle_of_height, obstacle_of_orbits, obstacle_of_text, refusal_of_fault, refusal_of_frame};
 
 use crate::refusal::Refusal;
 use closure::GroupError;
-use devices::ReadFault;
+use devices::Failed;
 use motions::FrameFault;
 use orbits::OrbitFault;
 use quotient::GroupFault;
@@ -32,14 +32,11 @@ impl From<Refusal> for Obstacle {
     }
 }
 
-impl From<ReadFault> for Obstacle {
-    ghost from_gives = { λ fault obstacle. obstacle ≡ obstacle_of_reading fault };
+impl From<Failed> for Obstacle {
+    ghost from_gives = { λ _ obstacle. obstacle ≡ ReadFault };
 
-    fn from(fault: ReadFault) -> Obstacle {
-        match fault {
-            ReadFault::Failed => Obstacle::ReadFault,
-            ReadFault::NoMemory => Obstacle::NoMemory,
-        }
+    fn from(_failed: Failed) -> Obstacle {
+        Obstacle::ReadFault
     }
 }
 
