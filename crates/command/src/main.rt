@@ -4,6 +4,8 @@
 #![tactic(auto)]
 
 mod at;
+#[cfg(test)]
+mod device_tests;
 mod images;
 mod layers;
 mod numbers;

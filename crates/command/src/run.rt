@@ -7,7 +7,7 @@ ghost use Rattle.requests.specs.declared.refusal.Refusal.{Refusal};
 ghost use Rattle.requests.specs.Answers.{HasOutput, IsInput, IsInputRefusal};
 ghost use Rattle.requests.specs.Causes.{IsRefusedOr};
 ghost use Rattle.requests.specs.Questions.{Asked, AsksInput, IsRequest, IsWordsRefusal};
-ghost use Rattle.requests.specs.Runs.{Complains, FitsIn, HasCause, LeavesOut, ReadsWhole, Refuses, Succeeds};
+ghost use Rattle.requests.specs.Runs.{Complains, FitsIn, HasCause, LeavesOut, OffersLine, OffersOut, ReadsWhole, Refuses, Succeeds};
 ghost use Rattle.command.specs.Requests.{asked_by};
 
 use crate::read_words::read_words;
@@ -28,8 +28,12 @@ pub fn run<S: Source, K: Sink, E: Sink>(
 ) -> Outcome
     // A run that is done wrote the answer, and nothing else.
     ensures out { LeavesOut K.held result (asked_by (map string_bytes words.now)) (S.left source.old) out.old out.new }
+    // Each call of `out` was offered all that was left of the answer.
+    ensures offers { OffersOut K.IsPut result (asked_by (map string_bytes words.now)) (S.left source.old) out.old out.new }
     // A run that refuses wrote the line of its refusal, and nothing else.
     ensures complaint { Complains E.held E.faults result complaints.old complaints.new }
+    // Each call of `complaints` was offered all that was left of that line.
+    ensures offers_line { OffersLine E.IsPut result complaints.old complaints.new }
     // What is refused has that cause, and only a device that failed gives a fault.
     ensures cause { HasCause result (asked_by (map string_bytes words.now)) (S.left source.old)
         (S.faults source.old) (S.faults source.new) (K.faults out.old) (K.faults out.new) }

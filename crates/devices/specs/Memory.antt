@@ -1,5 +1,6 @@
 -- Devices in memory, as contracts see them.
-use Rattle.std.specs.Prelude.{ℕ, min, List, []}
+use Rattle.std.specs.Prelude.{◌≡◌, ◌⊎◌, ℕ, ◌-◌, ◌<◌, min, List, [], ◌++◌, length, take, Contains, Option, Some, None}
+use Rattle.devices.specs.Calls.{next_count}
 
 -- a source in memory
 pub record Supply : Type 0 where
@@ -30,3 +31,16 @@ new_store room piece failing =
 -- the least of three
 abbrev pub least : ℕ → ℕ → ℕ → ℕ
 least a b c = min a (min b c)
+
+-- a call of a sink that is offered this piece fails: it is listed, or the room is full and the piece is not empty
+abbrev pub PutFails : Store → List ℕ → Type 0
+PutFails old piece = Contains old.failing (next_count old.calls) ⊎ ((0 < length piece) × (length old.held ≡ old.room))
+
+-- a call of a sink that is offered this piece takes so many bytes of it, or fails, and leaves that sink
+abbrev pub IsStorePut : Store → List ℕ → Option ℕ → Store → Type 0
+IsStorePut old piece (Some n) new =
+    (¬ PutFails old piece)
+    × (n ≡ least (length piece) old.piece (old.room - length old.held))
+    × (new ≡ record old { held = old.held ++ take n piece; calls = next_count old.calls })
+IsStorePut old piece None new =
+    PutFails old piece × (new ≡ record old { calls = next_count old.calls; faults = next_count old.faults })

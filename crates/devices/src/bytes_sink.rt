@@ -1,7 +1,7 @@
 // A sink in memory.
-ghost use Rattle.std.specs.Prelude.{◌≡◌, ◌+◌, ◌-◌, ◌<◌, ◌≤◌, ◌↔◌, ◌⊎◌, [], ◌++◌, length, take, Some, Contains, IfOk, IsErr, OnErr};
-ghost use Rattle.devices.specs.Calls.{IsCount, next_count};
-ghost use Rattle.devices.specs.Memory.{new_store, least};
+ghost use Rattle.std.specs.Prelude.{◌≡◌, ◌+◌, ◌<◌, ◌≤◌, [], length, None, Some, IfOk, MatchResult};
+ghost use Rattle.devices.specs.Calls.{IsCount};
+ghost use Rattle.devices.specs.Memory.{IsStorePut, new_store};
 
 use crate::schedule::Schedule;
 use crate::traits::{Failed, Sink};
@@ -74,18 +74,14 @@ impl Sink for BytesSink {
 
     ghost Takes = { λ s n. (s.failing ≡ []) × (length s.held + n ≤ s.room) };
 
+    ghost IsPut = { IsStorePut };
+
     /// Fails exactly at the listed calls, and where the piece is not empty and the room is full. Each other call
     /// takes as many bytes as the least of the length of what is offered, the piece and the free room. The number of
     /// the call stays at 2^64 - 1.
     fn put(&mut self, piece: &[u8]) -> Result<usize, Failed>
-        ensures fails { IsErr result ↔ (Contains self.old.failing (next_count self.old.calls)
-            ⊎ ((0 < length piece.now) × (length self.old.held ≡ self.old.room))) }
-        ensures amount { IfOk result (λ n.
-            n ≡ least (length piece.now) self.old.piece (self.old.room - length self.old.held)) }
-        ensures more { IfOk result (λ n. self.new ≡ record self.old
-            { held = self.old.held ++ take n piece.now; calls = next_count self.old.calls }) }
-        ensures fault { OnErr result
-            (self.new ≡ record self.old { calls = next_count self.old.calls; faults = next_count self.old.faults }) }
+        ensures put { MatchResult result (λ n. IsStorePut self.old piece.now (Some n) self.new)
+            (λ _. IsStorePut self.old piece.now None self.new) }
         ensures some { IfOk result (λ n. 0 < length piece.now → 0 < n) }
         ensures most { IsCount self.old.faults × IsCount self.new.faults }
     {

@@ -1,5 +1,5 @@
 // The real devices: the trusted edge. They tell nothing of their bytes.
-ghost use Rattle.std.specs.Prelude.{◌≡◌, ◌<◌, ◌≤◌, length, take, None, IfOk, OnErr, OnOk};
+ghost use Rattle.std.specs.Prelude.{◌≡◌, ◌<◌, ◌≤◌, length, take, None, ⊤, IfOk, OnErr, OnOk};
 ghost use Rattle.std.specs.Io.{WritesAtMost};
 ghost use Rattle.std.specs.Io.KnownBytes.{Appends, ReadConsumes};
 ghost use Rattle.devices.specs.Calls.{IsCount, Rose};
@@ -78,6 +78,8 @@ impl<W: Write> Sink for RealSink<W> {
     ghost faults = { sink_faults };
 
     ghost Takes = { λ _ _. ⊥ };
+
+    ghost IsPut = { λ _ _ _ _. ⊤ };
 
     /// Each error of the writer is a fault, and so is a write that took nothing of a piece that is not empty.
     fn put(&mut self, piece: &[u8]) -> Result<usize, Failed>

@@ -1,5 +1,5 @@
 // What bytes come from and go to.
-ghost use Rattle.std.specs.Prelude.{◌≡◌, ℕ, ◌-◌, ◌<◌, ◌≤◌, Option, List, length, take, IfOk, IsOk, IsOkAnd, OnErr, OnOk};
+ghost use Rattle.std.specs.Prelude.{◌≡◌, ℕ, ◌-◌, ◌<◌, ◌≤◌, Option, List, length, take, IfOk, IsOk, IsOkAnd, MatchResult, None, OnErr, OnOk, Some};
 ghost use Rattle.std.specs.Io.KnownBytes.{prepend_known, append_known, IsAtEnd};
 ghost use Rattle.devices.specs.Calls.{IsCount, Rose};
 
@@ -42,6 +42,9 @@ pub trait Sink {
     // it will take this many more bytes, in any pieces, and not fail
     ghost Takes: { Self → ℕ → Type 0 };
 
+    // a call that is offered this piece takes so many bytes of it, or fails, and leaves this sink, where the sink tells
+    ghost IsPut: { Self → List ℕ → Option ℕ → Self → Type 0 };
+
     /// Takes some bytes from the front of the piece, and says how many: at least one where the piece is not empty.
     /// `Failed` comes only where the count of faults rose.
     fn put(&mut self, piece: &[u8]) -> Result<usize, Failed>
@@ -53,5 +56,7 @@ pub trait Sink {
         ensures failed { OnErr result (Rose (faults self.old) (faults self.new)) }
         ensures most { IsCount (faults self.old) × IsCount (faults self.new) }
         ensures steady { (n : ℕ) → Takes self.old n → length piece.now ≤ n →
-            IsOkAnd result (λ k. Takes self.new (n - k)) };
+            IsOkAnd result (λ k. Takes self.new (n - k)) }
+        ensures put { MatchResult result
+            (λ n. IsPut self.old piece.now (Some n) self.new) (λ _. IsPut self.old piece.now None self.new) };
 }

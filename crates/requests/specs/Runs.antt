@@ -1,8 +1,8 @@
 -- What a run of the program does.
-use Rattle.std.specs.Prelude.{◌≡◌, ◌≢◌, ◌⊎◌, ℕ, ◌≤◌, List, ◌++◌, length, codes, Option, Result}
+use Rattle.std.specs.Prelude.{◌≡◌, ◌≢◌, ◌⊎◌, ℕ, ◌≤◌, List, ◌++◌, length, codes, Option, Some, None, Result}
 use Rattle.std.specs.Io.KnownBytes.{append_known}
 use Rattle.devices.specs.Calls.{Rose}
-use Rattle.devices.specs.Transfers.{HoldsFront}
+use Rattle.devices.specs.Transfers.{HoldsFront, Offers}
 use Rattle.requests.specs.declared.refusal.Refusal.{Refusal}
 use Rattle.requests.specs.declared.refusal.Refusal.TheVariants.{TooLong}
 use Rattle.requests.specs.declared.outcome.Outcome.{Outcome}
@@ -21,25 +21,27 @@ exit_status NoMemory = 5
 
 -- ---- what it leaves in its sinks
 
--- the sink holds the whole answer more
-pub record WritesAnswer (read : Result Asked Refusal) (left held held' : Option (List ℕ)) : Type 0 where
+-- the words are a request, and P holds of its answer over the input
+pub record OfAnswer (read : Result Asked Refusal) (left : Option (List ℕ)) (P : List ℕ → Type 0) : Type 0 where
   pub asked : Asked
   pub asks : IsRequest read asked
-  pub writes : (input : List ℕ) → IsInput asked left input → (text : List ℕ) × IsOutput asked input text × (held' ≡ append_known held text)
-
--- the sink holds a front of the answer more
-pub record WritesFront (read : Result Asked Refusal) (left held held' : Option (List ℕ)) : Type 0 where
-  pub asked : Asked
-  pub asks : IsRequest read asked
-  pub writes : (input : List ℕ) → IsInput asked left input → (text : List ℕ) × IsOutput asked input text × HoldsFront held held' text
+  pub holds : (input : List ℕ) → IsInput asked left input → (text : List ℕ) × IsOutput asked input text × P text
 
 -- the sink holds the answer where the run is done, a front of it where the sink failed, and else it is as it was
 abbrev pub LeavesOut : {K : Type 0} → (K → Option (List ℕ)) → Outcome → Result Asked Refusal → Option (List ℕ) → K → K → Type 0
-LeavesOut held Done read left old new = WritesAnswer read left (held old) (held new)
-LeavesOut held WriteFault read left old new = WritesFront read left (held old) (held new)
+LeavesOut held Done read left old new = OfAnswer read left (λ text. held new ≡ append_known (held old) text)
+LeavesOut held WriteFault read left old new = OfAnswer read left (HoldsFront (held old) (held new))
 LeavesOut held (Refused r) read left old new = new ≡ old
 LeavesOut held ReadFault read left old new = new ≡ old
 LeavesOut held NoMemory read left old new = new ≡ old
+
+-- the sink was offered the answer, and in each call all that was left of it, up to its end where the run is done
+abbrev pub OffersOut : {K : Type 0} → (K → List ℕ → Option ℕ → K → Type 0) → Outcome → Result Asked Refusal → Option (List ℕ) → K → K → Type 0
+OffersOut IsPut Done read left old new = OfAnswer read left (λ text. Offers IsPut text old (Some (length text)) new)
+OffersOut IsPut WriteFault read left old new = OfAnswer read left (λ text. Offers IsPut text old None new)
+OffersOut IsPut (Refused r) read left old new = new ≡ old
+OffersOut IsPut ReadFault read left old new = new ≡ old
+OffersOut IsPut NoMemory read left old new = new ≡ old
 
 -- the line of a refusal, with its end
 abbrev pub refusal_line : Refusal → List ℕ
@@ -54,6 +56,15 @@ Complains held faults Done old new = new ≡ old
 Complains held faults ReadFault old new = new ≡ old
 Complains held faults WriteFault old new = new ≡ old
 Complains held faults NoMemory old new = new ≡ old
+
+-- the sink of complaints was offered the line of a refusal, and in each call all that was left of it
+abbrev pub OffersLine : {E : Type 0} → (E → List ℕ → Option ℕ → E → Type 0) → Outcome → E → E → Type 0
+OffersLine IsPut (Refused r) old new =
+    Offers IsPut (refusal_line r) old (Some (length (refusal_line r))) new ⊎ Offers IsPut (refusal_line r) old None new
+OffersLine IsPut Done old new = new ≡ old
+OffersLine IsPut ReadFault old new = new ≡ old
+OffersLine IsPut WriteFault old new = new ≡ old
+OffersLine IsPut NoMemory old new = new ≡ old
 
 -- ---- why it ends so
 

@@ -7,7 +7,7 @@ ghost use Rattle.requests.specs.Questions.{Asked, AsksInput, IsAskedInRange, IsR
 ghost use Rattle.requests.specs.Views.{asked_of};
 ghost use Rattle.requests.specs.Answers.{HasOutput, IsInput, IsInputRefusal};
 ghost use Rattle.requests.specs.Causes.{HasAnswer, IsObstacle, IsReadWhole, IsRefusedOr};
-ghost use Rattle.requests.specs.Runs.{Complains, FitsIn, HasCause, LeavesOut, ReadsWhole, Refuses, Succeeds};
+ghost use Rattle.requests.specs.Runs.{Complains, FitsIn, HasCause, LeavesOut, OffersLine, OffersOut, ReadsWhole, Refuses, Succeeds};
 
 use crate::input::group_of;
 use crate::obstacle::Obstacle;
@@ -33,8 +33,12 @@ pub fn carry_out<S: Source, K: Sink, E: Sink>(
     requires range { IfOk read (λ request. IsAskedInRange (asked_of request)) }
     // A run that is done wrote the answer, and nothing else.
     ensures out { LeavesOut K.held result (result_map asked_of read) (S.left source.old) out.old out.new }
+    // Each call of `out` was offered all that was left of the answer.
+    ensures offers { OffersOut K.IsPut result (result_map asked_of read) (S.left source.old) out.old out.new }
     // A run that refuses wrote the line of its refusal, and nothing else.
     ensures complaint { Complains E.held E.faults result complaints.old complaints.new }
+    // Each call of `complaints` was offered all that was left of that line.
+    ensures offers_line { OffersLine E.IsPut result complaints.old complaints.new }
     // What is refused has that cause, and only a device that failed gives a fault.
     ensures cause { HasCause result (result_map asked_of read) (S.left source.old)
         (S.faults source.old) (S.faults source.new) (K.faults out.old) (K.faults out.new) }
@@ -104,6 +108,7 @@ fn answer<S: Source>(
 pub fn refuse<E: Sink>(alloc: Global, refusal: Refusal, complaints: &mut E) -> Outcome
     ensures refused { IsRefusedOr refusal result }
     ensures complaint { Complains E.held E.faults result complaints.old complaints.new }
+    ensures offers_line { OffersLine E.IsPut result complaints.old complaints.new }
 {
     match format!(in alloc; "{refusal}\n") {
         Ok(line) => {

@@ -1,7 +1,7 @@
 // Inputs and outputs of several cases.
 
 /// P-1: the inversion.
-pub(crate) const INVERSION: &[u8] = b"x,y,z\n-x,-y,-z\n";
+pub const INVERSION: &[u8] = b"x,y,z\n-x,-y,-z\n";
 
 /// P4_1: a fourfold screw axis.
 pub(crate) const FOURFOLD_SCREW: &[u8] = b"x,y,z\n-x,-y,z+1/2\n-y,x,z+1/4\ny,-x,z+3/4\n";
@@ -10,7 +10,7 @@ pub(crate) const FOURFOLD_SCREW: &[u8] = b"x,y,z\n-x,-y,z+1/2\n-y,x,z+1/4\ny,-x,
 pub(crate) const C2M: &[u8] = b"(0,0,0)+ (1/2,1/2,0)+\nx,y,z\n-x,y,-z\n-x,-y,-z\nx,-y,z\n";
 
 /// The report of P-1 along c.
-pub(crate) const INVERSION_REPORT: &[u8] = b"plane 0 0 1\n\
+pub const INVERSION_REPORT: &[u8] = b"plane 0 0 1\n\
     period 1\n\
     a 1,0,0\n\
     b 0,1,0\n\

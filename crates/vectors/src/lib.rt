@@ -19,4 +19,5 @@ mod types;
 mod unusual_reports;
 
 pub use case::Case;
+pub use inputs::{INVERSION, INVERSION_REPORT};
 pub use topic::{TOPICS, Topic, cases};
