@@ -22,10 +22,6 @@ prepend_known-nothing : (known : Option (List ℕ)) → known ≡ prepend_known 
 prepend_known-nothing None = refl
 prepend_known-nothing (Some bytes) = refl
 
--- nothing was given yet
-pub nothing_fed : (left : Option (List ℕ)) (reader : LineReader) → bytes_fed reader ≡ 0 → Stands reader [] → HasFed left left reader
-nothing_fed left reader fed stands = record { text = []; given = prepend_known-nothing left; fed = fed; stands = inr stands }
-
 -- a fault that was answered is answered again
 answered_again : {A : Type 0} (fault : Option TextFault) (f : TextFault) (result : Result A TextFault) → fault ≡ Some f
     → IfSome fault (λ f. result ≡ Err f) → result ≡ Err f
