@@ -8,7 +8,7 @@ use Rattle.command.specs.At.{at_words}
 use Rattle.command.specs.Layers.{layers_words}
 use Rattle.command.specs.Images.{images_words}
 use Rattle.command.specs.Types.{types_words}
-use Rattle.command.specs.Sample.{sample_words}
+use Rattle.command.specs.Samples.{sample_words}
 
 -- what a command asks for, or the first limit that it passes: its name, and its arguments behind it
 abbrev pub command_words : List (List ℕ) → Option (Result Asked Refusal)

@@ -11,7 +11,7 @@ mod layers;
 mod numbers;
 mod read_words;
 mod run;
-mod sample;
+mod samples;
 #[cfg(test)]
 mod tests;
 mod types;

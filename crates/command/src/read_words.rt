@@ -7,7 +7,7 @@ ghost use Rattle.requests.specs.Views.{asked_of};
 use crate::at::read_at;
 use crate::images::read_images;
 use crate::layers::read_layers;
-use crate::sample::read_sample;
+use crate::samples::read_sample;
 use crate::types::read_types;
 use requests::{Refusal, Request};
 

@@ -2,7 +2,7 @@
 ghost use Rattle.std.specs.Prelude.{◌≡◌, IfOk, IfSome, map, option_map, string_bytes};
 ghost use Rattle.requests.specs.Questions.{IsAskedInRange, result_map};
 ghost use Rattle.requests.specs.Views.{asked_of};
-ghost use Rattle.command.specs.Sample.{sample_words};
+ghost use Rattle.command.specs.Samples.{sample_words};
 
 use crate::numbers::read_number;
 use requests::{Refusal, Request, Table};
