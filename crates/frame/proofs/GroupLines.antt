@@ -1,0 +1,36 @@
+-- The line that is made of the group that a source gave is what the words ask for.
+use Rattle.std.proofs.Common.{◌≡◌, ℕ, List, Option, Some, Result, Ok, Err, IfOk, IfErr, Vec, Global, inr}
+use Rattle.symmetry.specs.Vectors.{Vector}
+use Rattle.symmetry.specs.Groups.{Listing}
+use Rattle.closure.specs.declared.group.Group.{Group}
+use Rattle.closure.specs.Groups.{IsGroupOf}
+use Rattle.requests.specs.declared.obstacle.Obstacle.{Obstacle}
+use Rattle.requests.specs.declared.obstacle.Obstacle.TheVariants as obstacles
+use Rattle.requests.specs.declared.refusal.Refusal.{Refusal}
+use Rattle.requests.specs.Inputs.{IsGroupOfInput}
+use Rattle.frame.specs.Answers.{IsFrameAnswer}
+use Rattle.frame.specs.Causes.{HasAnswer, IsGroupsObstacle, IsObstacle}
+use Rattle.frame.specs.Runs.{AsksRow}
+
+module _ (read : Result Vector Refusal) (row : Vector) (asks : AsksRow read row) (left : Option (List ℕ))
+    (group : Group) (is_of : (input : List ℕ) → left ≡ Some input → IsGroupOfInput input group) where
+  pub answered : (result : Result (Vec ℕ Global) Obstacle)
+      → IfOk result (λ text. (g : Listing) → IsGroupOf g group → IsFrameAnswer g row text.items)
+      → IfOk result (λ text. HasAnswer read left text.items)
+  answered (Ok text) answers = record {
+    row = row;
+    asks = asks;
+    answers = λ input is.
+        let of = is_of input is in record { short = of.short; group = of.listing; lists = of.lists; answers = answers of.listing of.is_of };
+  }
+  answered (Err o) answers = tt
+
+  pub kept_from_answer : (result : Result (Vec ℕ Global) Obstacle) (faults faults' : ℕ) → faults' ≡ faults
+      → IfErr result (IsGroupsObstacle group row) → IfErr result (IsObstacle read left faults faults')
+  kept_from_answer (Ok text) faults faults' same o = tt
+  kept_from_answer (Err (obstacles.Refused r)) faults faults' same o = (
+    inr (row, asks, λ input is. let of = is_of input is in inr (of.short, (of.listing, of.lists, o of.listing of.is_of))),
+    same,
+  )
+  kept_from_answer (Err obstacles.ReadFault) faults faults' same o = absurd o
+  kept_from_answer (Err obstacles.NoMemory) faults faults' same o = same
