@@ -59,14 +59,14 @@ fn a_centred_lattice_has_a_tau_to_its_centre(rt: HostRuntime) -> Result<(), Fail
         &["0", "0", "1"],
         b"(0,0,0)+ (1/2,1/2,1/2)+\nx,y,z\n-x,-y,-z\n",
     )?;
-    assert!(rt; ran.ended(Outcome::Done, b"0,-1,0 1,0,0 1/2,1/2,1/2\n", b""));
+    assert!(rt; ran.ended(Outcome::Done, b"1,0,0 0,1,0 1/2,1/2,1/2\n", b""));
     Ok(())
 }
 
 #[test]
 fn four_indices_are_taken(rt: HostRuntime) -> Result<(), Fail> {
     let ran = run_whole(&rt, &["0", "0", "0", "1"], b"x,y,z\n-y,x-y,z\n-x+y,-x,z\n")?;
-    assert!(rt; ran.ended(Outcome::Done, b"0,-1,0 1,0,0 0,0,1\n", b""));
+    assert!(rt; ran.ended(Outcome::Done, b"1,0,0 0,1,0 0,0,1\n", b""));
     Ok(())
 }
 

@@ -156,7 +156,7 @@ module _ (g : Listing) (rs : List (List Part)) (listed : (v : Vector) → IsInLa
         (q, vector_path flat' flat_second' (sym is ∙ no_rest 2 third l u rest (omega (arith, ints)) (omega (arith, ints))))
 
     all_taken : (v a b c : Vector) (p q s : ℤ) → minus (minus (minus v (multiple p a)) (multiple q b)) (multiple s c) ≡ origin
-        → combination (record { a = c; b = b; tau = a }) (record { x = s; y = q; z = p }) ≡ v
+        → combination (record { a = a; b = c; tau = b }) (record { x = p; y = s; z = q }) ≡ v
     unfolding plus multiple
     all_taken v a b c p q s e =
         let x = ap (λ (u : Vector). u.x) e in
@@ -164,14 +164,14 @@ module _ (g : Listing) (rs : List (List Part)) (listed : (v : Vector) → IsInLa
         let z = ap (λ (u : Vector). u.z) e in
         vector_path (omega (arith, ints, x)) (omega (arith, ints, y)) (omega (arith, ints, z))
 
-    pub first_basis : IsLatticeBasis g (record { a = third; b = second; tau = first })
+    pub first_basis : IsLatticeBasis g (record { a = first; b = third; tau = second })
     first_basis = record {
-      a_in = third_in;
-      b_in = second_in;
-      tau_in = first_in;
+      a_in = first_in;
+      b_in = third_in;
+      tau_in = second_in;
       spans = λ t inside.
           let (p, in_p, flat) = without_first t inside in
           let (q, in_q, flat', flat_second) = without_second (minus t (multiple p first)) in_p flat in
           let (s, is) = without_third (minus (minus t (multiple p first)) (multiple q second)) in_q flat' flat_second in
-          (record { x = s; y = q; z = p }, all_taken t first second third p q s is);
+          (record { x = p; y = s; z = q }, all_taken t first second third p q s is);
     }

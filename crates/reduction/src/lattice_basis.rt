@@ -26,7 +26,9 @@ fn numbers(v: &[Part; 3]) -> [i64; 3]
     [v[0].0, v[1].0, v[2].0]
 }
 
-/// A basis of the lattice of the group, in triangular form: a lies along the third edge, and b has no first entry.
+/// A basis of the lattice of the group, in triangular form: b lies along the third edge, and tau has no first entry.
+///
+/// In this order the edges of a primitive cell become the frame of (001).
 pub(crate) fn triangular_basis(group: &Group) -> LatticeBasis
     ensures basis { IsLatticeBasis (group_listing group.now) (vectors_of result) }
     ensures a { IsVectorWithin largest_first (vector_of result.a) }
@@ -38,8 +40,8 @@ pub(crate) fn triangular_basis(group: &Group) -> LatticeBasis
     let second = least_along(residues, 1);
     let third = least_along(residues, 2);
     LatticeBasis {
-        a: numbers(&third),
-        b: numbers(&second),
-        tau: numbers(&first),
+        a: numbers(&first),
+        b: numbers(&third),
+        tau: numbers(&second),
     }
 }

@@ -29,7 +29,7 @@ use plane_lattice::Frame;
 /// Where several frames are such, it is one that depends on the group and the plane alone, and not on the order in which
 /// the operations and the centring vectors were listed: the basis that is reduced is made of the least vector of the
 /// lattice along each axis, the first in lexicographic order among its residues, and a vector is replaced only by a
-/// shorter one.
+/// shorter one. For (001) of a primitive lattice these are the cell edges, where they are reduced.
 ///
 /// The frame that was found is out of range where [`OutOfRange`](ReductionFault::OutOfRange) comes, and skewed where
 /// [`Skewed`](ReductionFault::Skewed) does.

@@ -77,6 +77,22 @@ fn the_shortest_vector_of_a_plane_is_a(rt: HostRuntime) -> Result<(), Fail> {
 }
 
 #[test]
+fn the_cell_edges_are_taken_for_001(rt: HostRuntime) -> Result<(), Fail> {
+    let plane = Miller::make(0, 0, 1)?;
+    let group = group_of(rt.alloc(), &[IDENTITY, INVERSION], &[])?;
+    let triclinic = reduced_frame(&group, plane)?;
+    assert_eq!(rt; triclinic.a, [EDGE, NONE, NONE]);
+    assert_eq!(rt; triclinic.b, [NONE, EDGE, NONE]);
+    assert_eq!(rt; triclinic.tau, [NONE, NONE, EDGE]);
+    let group = group_of(rt.alloc(), &[IDENTITY, THIRD_TURN, OTHER_THIRD_TURN], &[])?;
+    let trigonal = reduced_frame(&group, plane)?;
+    assert_eq!(rt; trigonal.a, [EDGE, NONE, NONE]);
+    assert_eq!(rt; trigonal.b, [NONE, EDGE, NONE]);
+    assert_eq!(rt; trigonal.tau, [NONE, NONE, EDGE]);
+    Ok(())
+}
+
+#[test]
 fn planes_of_a_centred_lattice_follow_at_half_an_edge(rt: HostRuntime) -> Result<(), Fail> {
     let group = group_of(rt.alloc(), &[IDENTITY, INVERSION], &[CENTRING])?;
     let frame = reduced_frame(&group, Miller::make(0, 0, 1)?)?;

@@ -31,20 +31,20 @@ returns-clause-basis c =
 pub returns-clause-a : goal.returns-clause-a
 returns-clause-a c =
     subst (IsVectorWithin largest_first) (sym c.numbers.ensures)
-    (least_small (group_listing c.args.group.now) c.residues-residues.result.now 2 (parts c.least_along-third.result)
-    (record { one = c.least_along-third.ensures.one; positive = c.least_along-third.ensures.positive; most = c.least_along-third.ensures.most; least = c.least_along-third.ensures.least })
+    (least_small (group_listing c.args.group.now) c.residues-residues.result.now 0 (parts c.least_along-first.result)
+    (record { one = c.least_along-first.ensures.one; positive = c.least_along-first.ensures.positive; most = c.least_along-first.ensures.most; least = c.least_along-first.ensures.least })
     c.residues-residues.ensures.reduced)
 
 pub returns-clause-b : goal.returns-clause-b
 returns-clause-b c =
     subst (IsVectorWithin largest_first) (sym c.numbers-2.ensures)
-    (least_small (group_listing c.args.group.now) c.residues-residues.result.now 1 (parts c.least_along-second.result)
-    (record { one = c.least_along-second.ensures.one; positive = c.least_along-second.ensures.positive; most = c.least_along-second.ensures.most; least = c.least_along-second.ensures.least })
+    (least_small (group_listing c.args.group.now) c.residues-residues.result.now 2 (parts c.least_along-third.result)
+    (record { one = c.least_along-third.ensures.one; positive = c.least_along-third.ensures.positive; most = c.least_along-third.ensures.most; least = c.least_along-third.ensures.least })
     c.residues-residues.ensures.reduced)
 
 pub returns-clause-tau : goal.returns-clause-tau
 returns-clause-tau c =
     subst (IsVectorWithin largest_first) (sym c.numbers-3.ensures)
-    (least_small (group_listing c.args.group.now) c.residues-residues.result.now 0 (parts c.least_along-first.result)
-    (record { one = c.least_along-first.ensures.one; positive = c.least_along-first.ensures.positive; most = c.least_along-first.ensures.most; least = c.least_along-first.ensures.least })
+    (least_small (group_listing c.args.group.now) c.residues-residues.result.now 1 (parts c.least_along-second.result)
+    (record { one = c.least_along-second.ensures.one; positive = c.least_along-second.ensures.positive; most = c.least_along-second.ensures.most; least = c.least_along-second.ensures.least })
     c.residues-residues.ensures.reduced)
