@@ -64,6 +64,13 @@ fn a_centred_lattice_has_a_tau_to_its_centre(rt: HostRuntime) -> Result<(), Fail
 }
 
 #[test]
+fn a_begins_with_a_positive_entry(rt: HostRuntime) -> Result<(), Fail> {
+    let ran = run_whole(&rt, &["1", "0", "0"], INVERSION)?;
+    assert!(rt; ran.ended(Outcome::Done, b"0,0,1 0,-1,0 1,0,0\n", b""));
+    Ok(())
+}
+
+#[test]
 fn four_indices_are_taken(rt: HostRuntime) -> Result<(), Fail> {
     let ran = run_whole(&rt, &["0", "0", "0", "1"], b"x,y,z\n-y,x-y,z\n-x+y,-x,z\n")?;
     assert!(rt; ran.ended(Outcome::Done, b"1,0,0 0,1,0 0,0,1\n", b""));

@@ -106,7 +106,7 @@ adapted_swapped g r a b tau h = record {
     exchanged : (a b tau c : Vector) → combination (record { a = b; b = a; tau = tau }) (record { x = c.y; y = c.x; z = c.z }) ≡ combination (record { a = a; b = b; tau = tau }) c
     exchanged a b tau c = ap (λ (u : Vector). plus u (multiple c.z tau)) (plus_comm (multiple c.y b) (multiple c.x a))
 
--- ---- the opposite of b
+-- ---- the opposite of b, or of a
 
 entry_opposite : (c d e a b t : ℤ) → c *ℤ a +ℤ (negsuc 0 *ℤ d) *ℤ (negsuc 0 *ℤ b) +ℤ e *ℤ t ≡ c *ℤ a +ℤ d *ℤ b +ℤ e *ℤ t
 entry_opposite c d e a b t =
@@ -132,6 +132,10 @@ adapted_opposite g r a b tau h u e = subst (λ (t : Vector). IsAdapted g r (reco
   b_in_plane = dot-multiple r (negsuc 0) b ∙ ap (λ z. negsuc 0 *ℤ z) h.b_in_plane;
   tau_above = h.tau_above;
 })
+
+pub adapted_opposite_first : (g : Listing) (r a b tau : Vector) → IsAdapted g r (record { a = a; b = b; tau = tau }) → (u : Vector) → u ≡ opposite a
+    → IsAdapted g r (record { a = u; b = b; tau = tau })
+adapted_opposite_first g r a b tau h u e = adapted_swapped g r b u tau (adapted_opposite g r b a tau (adapted_swapped g r a b tau h) u e)
 
 pub cross-opposite : (a b : Vector) → cross a (opposite b) ≡ opposite (cross a b)
 unfolding cross multiple

@@ -1,5 +1,5 @@
 -- A pair that neither vector shortens, with a tau that four vectors do not shorten, is reduced.
-use Rattle.std.proofs.Common.{◌≡◌, ℕ, zero, suc, ◌*◌, ℤ, pos, negsuc, ◌+ℤ◌, ◌*ℤ◌, ◌≤ℤ◌, nat_abs, [], ◌∷◌, sym, ap, subst, ◌∙◌, arith}
+use Rattle.std.proofs.Common.{◌≡◌, ℕ, zero, suc, ◌*◌, ℤ, pos, negsuc, ◌+ℤ◌, ◌*ℤ◌, ◌≤ℤ◌, nat_abs, [], ◌∷◌, sym, subst, arith}
 use Rattle.std.proofs.lemmas.Int.{ints}
 use Rattle.integers.specs.Size.{IsWithin}
 use Rattle.integers.proofs.Solver.{Expr.{var, num, ◌⊕◌, ◌⊗◌}, ring}
@@ -10,6 +10,7 @@ use Rattle.reduction.specs.Forms.{by_form, IsForm, IsUnshortened}
 use Rattle.reduction.specs.LatticeBases.{combined}
 use Rattle.reduction.specs.Reduced.{IsReduced, tau_and}
 use Rattle.reduction.proofs.Shortening.{form-multiple, multiple-form}
+use Rattle.reduction.proofs.TurnedPassed.{of_opposite, opposite_within}
 use Rattle.reduction.proofs.Unshortened.{above, below, no_shorter_sum, no_shorter_difference}
 
 -- i a + j b + tau, as tau and a multiple of one of a, b, a + b and a - b
@@ -93,13 +94,13 @@ module _ (g : Matrix) (form : IsForm g) (f : Basis) where
       tau = shortest;
     }
 
--- ---- the opposite of b
+-- ---- the opposite of b, or of a
 
 abbrev pub with_opposite_b : Basis → Basis
 with_opposite_b f = record { a = f.a; b = opposite f.b; tau = f.tau }
 
-opposite_within : (j : ℤ) → IsWithin 1 j → IsWithin 1 (negsuc 0 *ℤ j)
-opposite_within j h = let m = h.most in record { most = omega (arith, ints) }
+abbrev pub with_opposite_a : Basis → Basis
+with_opposite_a f = record { a = opposite f.a; b = f.b; tau = f.tau }
 
 opposite_combination : (f : Basis) (i j : ℤ) → tau_and f i (negsuc 0 *ℤ j) ≡ tau_and (with_opposite_b f) i j
 unfolding plus multiple
@@ -110,18 +111,35 @@ opposite_combination f i j = vector_path (go i j f.a.x f.b.x f.tau.x) (go i j f.
         ring (i ∷ j ∷ a ∷ b ∷ t ∷ []) (var 0 ⊗ var 2 ⊕ (num (negsuc 0) ⊗ var 1) ⊗ var 3 ⊕ num (pos 1) ⊗ var 4)
         (var 0 ⊗ var 2 ⊕ var 1 ⊗ (num (negsuc 0) ⊗ var 3) ⊕ num (pos 1) ⊗ var 4) tt
 
+opposite_combination_first : (f : Basis) (i j : ℤ) → tau_and f (negsuc 0 *ℤ i) j ≡ tau_and (with_opposite_a f) i j
+unfolding plus multiple
+opposite_combination_first f i j = vector_path (go i j f.a.x f.b.x f.tau.x) (go i j f.a.y f.b.y f.tau.y) (go i j f.a.z f.b.z f.tau.z)
+  where
+    go : (i j a b t : ℤ) → (negsuc 0 *ℤ i) *ℤ a +ℤ j *ℤ b +ℤ pos 1 *ℤ t ≡ i *ℤ (negsuc 0 *ℤ a) +ℤ j *ℤ b +ℤ pos 1 *ℤ t
+    go i j a b t =
+        ring (i ∷ j ∷ a ∷ b ∷ t ∷ []) ((num (negsuc 0) ⊗ var 0) ⊗ var 2 ⊕ var 1 ⊗ var 3 ⊕ num (pos 1) ⊗ var 4)
+        (var 0 ⊗ (num (negsuc 0) ⊗ var 2) ⊕ var 1 ⊗ var 3 ⊕ num (pos 1) ⊗ var 4) tt
+
+same_size : (p q r : ℤ) → q ≡ negsuc 0 *ℤ p → pos (2 * nat_abs p) ≤ℤ r → pos (2 * nat_abs q) ≤ℤ r
+same_size (pos zero) q r e h = subst (λ z. pos (2 * nat_abs z) ≤ℤ r) (sym e) h
+same_size (pos (suc n)) q r e h = subst (λ z. pos (2 * nat_abs z) ≤ℤ r) (sym e) (omega (arith, ints))
+same_size (negsuc n) q r e h = subst (λ z. pos (2 * nat_abs z) ≤ℤ r) (sym e) (omega (arith, ints))
+
 pub reduced_opposite : (g : Matrix) (f : Basis) → IsReduced (by_form g) f → IsReduced (by_form g) (with_opposite_b f)
 reduced_opposite g f h = record {
   pair = let p = h.pair in let e = form-multiple g f.a (negsuc 0) f.b in same_size (by_form g f.a f.b) (by_form g f.a (opposite f.b)) (by_form g f.a f.a) e p;
-  order = subst (λ z. by_form g f.a f.a ≤ℤ z) (sym (multiple-form g (negsuc 0) f.b (opposite f.b) ∙ ap (λ z. negsuc 0 *ℤ z) (form-multiple g f.b (negsuc 0) f.b) ∙ twice_turned (by_form g f.b f.b))) h.order;
+  order = subst (λ z. by_form g f.a f.a ≤ℤ z) (sym (of_opposite g f.b f.b)) h.order;
   tau = λ i j k l. subst (λ (v : Vector). by_form g f.tau f.tau ≤ℤ by_form g v v) (opposite_combination f i j)
-      (h.tau i (negsuc 0 *ℤ j) k (opposite_within j l));
+      (h.tau i (negsuc 0 *ℤ j) k (opposite_within 1 j l));
 }
-  where
-    same_size : (p q r : ℤ) → q ≡ negsuc 0 *ℤ p → pos (2 * nat_abs p) ≤ℤ r → pos (2 * nat_abs q) ≤ℤ r
-    same_size (pos zero) q r e h = subst (λ z. pos (2 * nat_abs z) ≤ℤ r) (sym e) h
-    same_size (pos (suc n)) q r e h = subst (λ z. pos (2 * nat_abs z) ≤ℤ r) (sym e) (omega (arith, ints))
-    same_size (negsuc n) q r e h = subst (λ z. pos (2 * nat_abs z) ≤ℤ r) (sym e) (omega (arith, ints))
 
-    twice_turned : (p : ℤ) → negsuc 0 *ℤ (negsuc 0 *ℤ p) ≡ p
-    twice_turned p = omega (arith, ints)
+pub reduced_opposite_first : (g : Matrix) (f : Basis) → IsReduced (by_form g) f → IsReduced (by_form g) (with_opposite_a f)
+reduced_opposite_first g f h = record {
+  pair = let p = h.pair in
+      let e = multiple-form g (negsuc 0) f.a f.b in
+      subst (λ z. pos (2 * nat_abs (by_form g (opposite f.a) f.b)) ≤ℤ z) (sym (of_opposite g f.a f.a))
+      (same_size (by_form g f.a f.b) (by_form g (opposite f.a) f.b) (by_form g f.a f.a) e p);
+  order = subst (λ z. z ≤ℤ by_form g f.b f.b) (sym (of_opposite g f.a f.a)) h.order;
+  tau = λ i j k l. subst (λ (v : Vector). by_form g f.tau f.tau ≤ℤ by_form g v v) (opposite_combination_first f i j)
+      (h.tau (negsuc 0 *ℤ i) j (opposite_within 1 i k) l);
+}

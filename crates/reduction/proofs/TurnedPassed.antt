@@ -1,10 +1,11 @@
 -- The opposite of a vector, and what shortens by it.
-use Rattle.std.proofs.Common.{◌≡◌, ◌*◌, ℤ, pos, negsuc, ◌-ℤ◌, ◌*ℤ◌, ◌≤ℤ◌, [], ◌∷◌, sym, ap, subst, ◌∙◌, arith}
+use Rattle.std.proofs.Common.{◌≡◌, ◌*◌, ℕ, ℤ, pos, negsuc, ◌-ℤ◌, ◌*ℤ◌, ◌≤ℤ◌, [], ◌∷◌, sym, ap, subst, ◌∙◌, arith}
 use Rattle.std.specs.Prelude.{Option, Some, None, MatchOption}
 use Rattle.std.proofs.lemmas.Int.{ints}
 use Rattle.integers.specs.Size.{IsWithin}
 use Rattle.integers.proofs.Coded.{again, code_is}
 use Rattle.integers.proofs.Solver.{Expr.{var, num, ◌⊝◌}}
+use Rattle.symmetry.specs.Sizes.{IsVectorWithin}
 use Rattle.symmetry.specs.Vectors.{Vector, Matrix, plus, multiple, opposite}
 use Rattle.symmetry.proofs.VectorLaws.{multiple-multiple}
 use Rattle.reduction.specs.Bounds.{largest_short}
@@ -15,11 +16,18 @@ use Rattle.reduction.proofs.Shortening.{form-multiple, multiple-form}
 pub neg_short : (x : ℤ) → IsWithin largest_short x → again (pos 0 -ℤ again x) ≡ negsuc 0 *ℤ x
 neg_short x h = code_is (largest_short ∷ []) (x ∷ []) (num (pos 0) ⊝ var 0) tt (h, tt) ∙ omega (arith, ints)
 
+pub opposite_within : (n : ℕ) (x : ℤ) → IsWithin n x → IsWithin n (negsuc 0 *ℤ x)
+opposite_within n x h = let m = h.most in record { most = omega (arith, ints) }
+
+pub opposite_vector_within : (n : ℕ) (v : Vector) → IsVectorWithin n v → IsVectorWithin n (opposite v)
+unfolding multiple
+opposite_vector_within n v h = record { x = opposite_within n v.x h.x; y = opposite_within n v.y h.y; z = opposite_within n v.z h.z }
+
 module _ (g : Matrix) (v w : Vector) where
   to_opposite : by_form g v (opposite w) ≡ negsuc 0 *ℤ by_form g v w
   to_opposite = form-multiple g v (negsuc 0) w
 
-  of_opposite : by_form g (opposite w) (opposite w) ≡ by_form g w w
+  pub of_opposite : by_form g (opposite w) (opposite w) ≡ by_form g w w
   of_opposite = multiple-form g (negsuc 0) w (opposite w) ∙ ap (λ z. negsuc 0 *ℤ z) (form-multiple g w (negsuc 0) w) ∙ omega (arith, ints)
 
   pub opposite_short : IsShort g w → (t : Vector) → t ≡ opposite w → IsShort g t

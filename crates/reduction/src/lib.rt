@@ -14,6 +14,7 @@ mod lattice_basis;
 mod leading;
 mod reduced;
 mod reduction_fault;
+mod sense;
 mod shorten;
 #[cfg(test)]
 mod tests;

@@ -15,6 +15,7 @@ use crate::form::form_of;
 use crate::handedness::right_handed;
 use crate::lattice_basis::LatticeBasis;
 use crate::reduction_fault::ReductionFault;
+use crate::sense::with_forward_first;
 use crate::shorten::{with_short_pair, with_short_tau, with_shorter_first};
 use closure::Group;
 use fractions::{Part, UNIT};
@@ -29,7 +30,8 @@ use plane_lattice::Frame;
 /// Where several frames are such, it is one that depends on the group and the plane alone, and not on the order in which
 /// the operations and the centring vectors were listed: the basis that is reduced is made of the least vector of the
 /// lattice along each axis, the first in lexicographic order among its residues, and a vector is replaced only by a
-/// shorter one. For (001) of a primitive lattice these are the cell edges, where they are reduced.
+/// shorter one. In the end a and b take the signs with which the first entry of a that is not 0 is positive and the
+/// frame is right-handed. For (001) of a primitive lattice the frame is the cell edges, where they are reduced.
 ///
 /// The frame that was found is out of range where [`OutOfRange`](ReductionFault::OutOfRange) comes, and skewed where
 /// [`Skewed`](ReductionFault::Skewed) does.
@@ -56,7 +58,8 @@ fn reduced_basis(group: &Group, plane: &Miller) -> LatticeBasis
     let pair = with_short_pair(&form, &adapted);
     let ordered = with_shorter_first(&form, &pair);
     let short = with_short_tau(&form, &ordered);
-    right_handed(plane, &short)
+    let forward = with_forward_first(&short);
+    right_handed(plane, &forward)
 }
 
 /// The same three vectors. None comes exactly where an entry is above 1000 cell edges in size.

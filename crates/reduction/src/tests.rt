@@ -93,6 +93,25 @@ fn the_cell_edges_are_taken_for_001(rt: HostRuntime) -> Result<(), Fail> {
 }
 
 #[test]
+fn the_first_entry_of_a_that_is_not_0_is_positive(rt: HostRuntime) -> Result<(), Fail> {
+    let opposite_edge = Part(-UNIT);
+    let group = group_of(rt.alloc(), &[IDENTITY, INVERSION], &[])?;
+    let along_a = reduced_frame(&group, Miller::make(1, 0, 0)?)?;
+    assert_eq!(rt; along_a.a, [NONE, NONE, EDGE]);
+    assert_eq!(rt; along_a.b, [NONE, opposite_edge, NONE]);
+    assert_eq!(rt; along_a.tau, [EDGE, NONE, NONE]);
+    let along_b = reduced_frame(&group, Miller::make(0, 1, 0)?)?;
+    assert_eq!(rt; along_b.a, [NONE, NONE, EDGE]);
+    assert_eq!(rt; along_b.b, [EDGE, NONE, NONE]);
+    assert_eq!(rt; along_b.tau, [NONE, EDGE, NONE]);
+    let downward = reduced_frame(&group, Miller::make(0, 0, -1)?)?;
+    assert_eq!(rt; downward.a, [EDGE, NONE, NONE]);
+    assert_eq!(rt; downward.b, [NONE, opposite_edge, NONE]);
+    assert_eq!(rt; downward.tau, [NONE, NONE, opposite_edge]);
+    Ok(())
+}
+
+#[test]
 fn planes_of_a_centred_lattice_follow_at_half_an_edge(rt: HostRuntime) -> Result<(), Fail> {
     let group = group_of(rt.alloc(), &[IDENTITY, INVERSION], &[CENTRING])?;
     let frame = reduced_frame(&group, Miller::make(0, 0, 1)?)?;

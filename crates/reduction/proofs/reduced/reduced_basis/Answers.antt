@@ -31,13 +31,13 @@ returns c g of =
     let h = group_listing c.args.group.now in
     let r = row_of c.args.plane.now in
     let f = vectors_of c.right_handed.result in
-    let adapted = c.right_handed.ensures.adapted h r (c.with_short_tau-short.ensures.adapted h r
-    (c.with_shorter_first-ordered.ensures.adapted h r (c.with_short_pair-pair.ensures.adapted h r c.adapted_basis-adapted.ensures.adapted))) in
+    let adapted = c.right_handed.ensures.adapted h r (c.with_forward_first-forward.ensures.adapted h r (c.with_short_tau-short.ensures.adapted h r
+    (c.with_shorter_first-ordered.ensures.adapted h r (c.with_short_pair-pair.ensures.adapted h r c.adapted_basis-adapted.ensures.adapted)))) in
     let q = form_matrix c.form_of-form.result in
     let sum = c.form_of-form.ensures.value g of in
     record {
       is_frame = frame_from g h of.alike r f (frame h r f c.args.plane.now.coprime adapted c.right_handed.ensures.oriented);
       scanning = sum.scanning;
       are_scanning = sum.are_scanning;
-      reduced = subst (λ (Q : Vector → Vector → ℤ). IsReduced Q f) (λ i u v. sum.is u v i) (c.right_handed.ensures.reduced q c.with_short_tau-short.ensures.reduced);
+      reduced = subst (λ (Q : Vector → Vector → ℤ). IsReduced Q f) (λ i u v. sum.is u v i) (c.right_handed.ensures.reduced q (c.with_forward_first-forward.ensures.reduced q c.with_short_tau-short.ensures.reduced));
     }
