@@ -100,7 +100,11 @@ fn group_of(alloc: Global, ops: &[Motion3], centrings: &[[Part; 3]]) -> Result<G
 {
     let ops = Vec::from_slice(alloc, ops)?;
     let centrings = Vec::from_slice(alloc, centrings)?;
-    Group::make(alloc, Listed { ops, centrings })
+    Group::make(alloc, Listed {
+        ops,
+        centrings,
+        generated: false,
+    })
 }
 
 // How many operations the group has, modulo its lattice.

@@ -8,7 +8,7 @@ ghost use Rattle.fractions.specs.Parts.{reduced_parts, IsReduced};
 use crate::ratio::Ratio;
 
 /// How many parts a cell edge has: translations are counted in these.
-pub const UNIT: i64 = 24;
+pub const UNIT: i64 = 48;
 
 /// A whole number of parts, each of which is 1/[`UNIT`] of a cell edge.
 #[derive(Clone, Copy, PartialEq, Eq, PartialOrd, Ord, Debug)]

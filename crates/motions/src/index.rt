@@ -1,4 +1,4 @@
 // The range of Miller indices.
 
 /// How large a Miller index may be.
-pub const INDEX: i64 = 99;
+pub const INDEX: i64 = 255;

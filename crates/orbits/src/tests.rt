@@ -104,6 +104,7 @@ fn group_of(alloc: Global, ops: &[Motion3]) -> Result<Group, GroupError>
         Listed {
             ops,
             centrings: Vec::new(alloc),
+            generated: false,
         },
     )
 }
@@ -130,7 +131,7 @@ fn a_fourfold_axis_makes_one_row_of_the_plane_across_it(rt: HostRuntime) -> Resu
 #[test]
 fn a_threefold_axis_makes_a_row_that_is_too_wide(rt: HostRuntime) -> Result<(), Fail> {
     let group = group_of(rt.alloc(), &THREEFOLD)?;
-    let wide = orientations(rt.alloc(), &group, Miller::make(99, 98, 0)?);
+    let wide = orientations(rt.alloc(), &group, Miller::make(255, 254, 0)?);
     assert_eq!(rt; wide.err(), Some(OrbitFault::Wide));
     Ok(())
 }

@@ -60,7 +60,11 @@ fn group_of(alloc: Global, ops: &[Motion3], centrings: &[[Part; 3]]) -> Result<G
 {
     let ops = Vec::from_slice(alloc, ops)?;
     let centrings = Vec::from_slice(alloc, centrings)?;
-    Group::make(alloc, Listed { ops, centrings })
+    Group::make(alloc, Listed {
+        ops,
+        centrings,
+        generated: false,
+    })
 }
 
 #[test]
@@ -139,9 +143,9 @@ fn the_listing_of_a_group_does_not_matter(rt: HostRuntime) -> Result<(), Fail> {
 #[test]
 fn large_indices_have_a_frame(rt: HostRuntime) -> Result<(), Fail> {
     let group = group_of(rt.alloc(), &[IDENTITY, INVERSION], &[CENTRING])?;
-    let frame = reduced_frame(&group, Miller::make(99, 98, 97)?)?;
+    let frame = reduced_frame(&group, Miller::make(255, 254, 253)?)?;
     assert_eq!(rt; frame.period, EDGE);
-    let frame = reduced_frame(&group, Miller::make(-99, 98, 97)?)?;
+    let frame = reduced_frame(&group, Miller::make(-255, 254, 253)?)?;
     assert_eq!(rt; frame.period, EDGE);
     Ok(())
 }

@@ -56,7 +56,11 @@ fn listed(alloc: Global, layer_type: &LayerType, j: i64) -> Result<Listed, NoMem
 {
     let ops = operations(alloc, layer_type.ops, j)?;
     let centrings = centrings(alloc, layer_type.centred)?;
-    Ok(Listed { ops, centrings })
+    Ok(Listed {
+        ops,
+        centrings,
+        generated: false,
+    })
 }
 
 /// The operations of a layer in the block form, in the coordinates x + j z, y, z.

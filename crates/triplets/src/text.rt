@@ -43,6 +43,7 @@ impl LineReader {
             listed: Listed {
                 ops: Vec::new(alloc),
                 centrings: Vec::new(alloc),
+                generated: false,
             },
             fed: 0,
             line: 1,
