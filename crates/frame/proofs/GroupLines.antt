@@ -21,7 +21,8 @@ module _ (read : Result Vector Refusal) (row : Vector) (asks : AsksRow read row)
     row = row;
     asks = asks;
     answers = λ input is.
-        let of = is_of input is in record { short = of.short; group = of.listing; lists = of.lists; answers = answers of.listing of.is_of };
+        let of = is_of input is in
+        record { short = of.short; group = of.some.0; lists = of.some.1; answers = answers of.some.0 (of.is_of of.some.0 of.some.1) };
   }
   answered (Err o) answers = tt
 
@@ -29,7 +30,7 @@ module _ (read : Result Vector Refusal) (row : Vector) (asks : AsksRow read row)
       → IfErr result (IsGroupsObstacle group row) → IfErr result (IsObstacle read left faults faults')
   kept_from_answer (Ok text) faults faults' same o = tt
   kept_from_answer (Err (obstacles.Refused r)) faults faults' same o = (
-    inr (row, asks, λ input is. let of = is_of input is in inr (of.short, (of.listing, of.lists, o of.listing of.is_of))),
+    inr (row, asks, λ input is. let of = is_of input is in inr (of.short, (of.some, λ g lists. o g (of.is_of g lists)))),
     same,
   )
   kept_from_answer (Err obstacles.ReadFault) faults faults' same o = absurd o

@@ -10,7 +10,7 @@ use Rattle.reduction.specs.declared.reduction_fault.ReductionFault.TheVariants.{
 use Rattle.report.specs.Texts.{frame_line}
 use Rattle.requests.specs.declared.refusal.Refusal.{Refusal}
 use Rattle.requests.specs.declared.refusal.Refusal.TheVariants.{FrameLimit, SkewFrame}
-use Rattle.requests.specs.Inputs.{IsRefusedInput, IsShort, ListsGroup}
+use Rattle.requests.specs.Inputs.{IsRefusedInput, IsShort, ListsGroup, ListsSome}
 
 -- ---- of a group
 
@@ -44,4 +44,4 @@ pub record AnswersInput (row : Vector) (input text : List ℕ) : Type 0 where
 abbrev pub RefusesInput : Vector → List ℕ → Refusal → Type 0
 RefusesInput row input refusal =
     IsRefusedInput input refusal
-    ⊎ (IsShort input × ((g : Listing) × ListsGroup input g × RefusesReduced g row refusal))
+    ⊎ (IsShort input × ListsSome input × ((g : Listing) → ListsGroup input g → RefusesReduced g row refusal))

@@ -148,10 +148,10 @@ fn an_odd_number_of_half_parts_has_no_block_form(rt: HostRuntime) {
 
 #[test]
 fn indices_are_in_range_not_all_zero_and_coprime(rt: HostRuntime) {
-    assert!(rt; Miller::make(100, 0, 0) == Err(PlaneFault::OutOfRange));
+    assert!(rt; Miller::make(256, 0, 0) == Err(PlaneFault::OutOfRange));
     assert!(rt; Miller::make(0, 0, 0) == Err(PlaneFault::AllZero));
     assert!(rt; Miller::make(6, -4, 0) == Err(PlaneFault::NotCoprime(2)));
-    assert!(rt; Miller::make(-99, 98, 0).is_ok());
+    assert!(rt; Miller::make(-255, 254, 0).is_ok());
 }
 
 #[test]

@@ -5,6 +5,7 @@ ghost use Rattle.symmetry.specs.Sizes.{IsSmall, IsVectorWithin};
 ghost use Rattle.symmetry.specs.Vectors.{dot, image, minus};
 ghost use Rattle.motions.specs.BasisView.{basis_of};
 ghost use Rattle.motions.specs.Views.{motion_of, row_of};
+ghost use Rattle.plane_lattice.specs.Bounds.{largest_home};
 ghost use Rattle.plane_lattice.specs.Coordinates.{IsPlaneCombination, volume};
 ghost use Rattle.plane_lattice.specs.FrameView.{basis_of_frame};
 ghost use Rattle.plane_lattice.specs.PlaneLattice.{IsPlaneShift, home_of_motion};
@@ -42,7 +43,7 @@ impl Quotient for Frame {
         ensures matrix { (motion_of result).matrix ≡ (motion_of m.now).matrix }
         ensures differs { IsPlaneCombination (basis_of_frame self.now) (minus (motion_of m.now).shift (motion_of result).shift) }
         ensures level { dot (row_of self.now.plane) (motion_of result).shift ≡ dot (row_of self.now.plane) (motion_of m.now).shift }
-        ensures small { IsVectorWithin (2 ^ 44) (motion_of result).shift }
+        ensures small { IsVectorWithin largest_home (motion_of result).shift }
     {
         let dual = self.dual();
         let whole = whole_part(&dual.scaled(&m.t), dual.volume);

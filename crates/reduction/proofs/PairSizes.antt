@@ -6,7 +6,7 @@ use Rattle.symmetry.specs.Vectors.{Vector, Matrix}
 use Rattle.symmetry.specs.Sizes.{IsVectorWithin}
 use Rattle.symmetry.specs.Frames.{Basis}
 use Rattle.plane_lattice.proofs.Sizes.{dot_within, image_within}
-use Rattle.reduction.specs.Bounds.{largest_short, largest_twice}
+use Rattle.reduction.specs.Bounds.{largest_begun, largest_short, largest_twice}
 use Rattle.reduction.specs.Forms.{by_form, IsForm, IsShort, IsUnshortened, Shortens}
 use Rattle.reduction.specs.LatticeBases.{combined}
 use Rattle.reduction.specs.Pairs.{IsShortPair}
@@ -14,23 +14,23 @@ use Rattle.reduction.proofs.Shortening.{form-combined}
 use Rattle.reduction.proofs.Unshortened.{above, below}
 
 module _ (g : Matrix) where
-  pub short : (v : Vector) → by_form g v v ≤ℤ pos (2 ^ 90) → IsShort g v
-  short v h = record { most = at_most (by_form g v v) (2 ^ 90) (largest_short * largest_short) h (lit≤ tt) }
+  pub short : (v : Vector) → by_form g v v ≤ℤ pos largest_begun → IsShort g v
+  short v h = record { most = at_most (by_form g v v) largest_begun (largest_short * largest_short) h (lit≤ tt) }
     where
       at_most : (x : ℤ) (m n : ℕ) → x ≤ℤ pos m → m ≤ n → x ≤ℤ pos n
       at_most x m n h k = omega (arith, ints)
 
   -- a shorter vector is as short
-  pub shorter : (v w u : Vector) → by_form g v v ≤ℤ pos (2 ^ 90) → Shortens g v w u → by_form g u u ≤ℤ pos (2 ^ 90)
-  shorter v w u h s = let l = s.less in go (by_form g u u) (by_form g v v) (2 ^ 90) l h
+  pub shorter : (v w u : Vector) → by_form g v v ≤ℤ pos largest_begun → Shortens g v w u → by_form g u u ≤ℤ pos largest_begun
+  shorter v w u h s = let l = s.less in go (by_form g u u) (by_form g v v) largest_begun l h
     where
       go : (x y : ℤ) (n : ℕ) → x <ℤ y → y ≤ℤ pos n → x ≤ℤ pos n
       go x y n h k = omega (arith, ints)
 
 -- the sum and the difference of a pair of which the first does not shorten the second
 module _ (g : Matrix) (form : IsForm g) (f : Basis) (pair : IsShortPair g f) (first : IsUnshortened g f.b f.a) where
-  three : (x : ℤ) → x ≤ℤ pos (3 * 2 ^ 90) → x ≤ℤ pos (largest_short * largest_short)
-  three x h = go x (3 * 2 ^ 90) (largest_short * largest_short) h (lit≤ tt)
+  three : (x : ℤ) → x ≤ℤ pos (3 * largest_begun) → x ≤ℤ pos (largest_short * largest_short)
+  three x h = go x (3 * largest_begun) (largest_short * largest_short) h (lit≤ tt)
     where
       go : (x : ℤ) (m n : ℕ) → x ≤ℤ pos m → m ≤ n → x ≤ℤ pos n
       go x m n h k = omega (arith, ints)
@@ -39,23 +39,23 @@ module _ (g : Matrix) (form : IsForm g) (f : Basis) (pair : IsShortPair g f) (fi
       → ((p +ℤ pos 1 *ℤ (pos 2 *ℤ q +ℤ pos 1 *ℤ r)) ≤ℤ pos (3 * n)) × ((p +ℤ negsuc 0 *ℤ (pos 2 *ℤ q +ℤ negsuc 0 *ℤ r)) ≤ℤ pos (3 * n))
   within_three p q r n hp hr h k = (omega (arith, ints), omega (arith, ints))
 
-  both : ((by_form g f.a f.a +ℤ pos 1 *ℤ (pos 2 *ℤ by_form g f.a f.b +ℤ pos 1 *ℤ by_form g f.b f.b)) ≤ℤ pos (3 * 2 ^ 90))
-      × ((by_form g f.a f.a +ℤ negsuc 0 *ℤ (pos 2 *ℤ by_form g f.a f.b +ℤ negsuc 0 *ℤ by_form g f.b f.b)) ≤ℤ pos (3 * 2 ^ 90))
+  both : ((by_form g f.a f.a +ℤ pos 1 *ℤ (pos 2 *ℤ by_form g f.a f.b +ℤ pos 1 *ℤ by_form g f.b f.b)) ≤ℤ pos (3 * largest_begun))
+      × ((by_form g f.a f.a +ℤ negsuc 0 *ℤ (pos 2 *ℤ by_form g f.a f.b +ℤ negsuc 0 *ℤ by_form g f.b f.b)) ≤ℤ pos (3 * largest_begun))
   both =
-      within_three (by_form g f.a f.a) (by_form g f.a f.b) (by_form g f.b f.b) (2 ^ 90) pair.a pair.b
+      within_three (by_form g f.a f.a) (by_form g f.a f.b) (by_form g f.b f.b) largest_begun pair.a pair.b
       (subst (λ z. (pos 2 *ℤ z) ≤ℤ by_form g f.a f.a) (form.symmetric f.b f.a) (above g form f.b f.a first))
       (subst (λ z. (negsuc 1 *ℤ z) ≤ℤ by_form g f.a f.a) (form.symmetric f.b f.a) (below g form f.b f.a first))
 
   pub short_sum : IsShort g (combined (pos 1) f.a (pos 1) f.b)
-  short_sum = record { most = three _ (subst (λ z. z ≤ℤ pos (3 * 2 ^ 90)) (sym (form-combined g form f.a f.b (pos 1))) both.0) }
+  short_sum = record { most = three _ (subst (λ z. z ≤ℤ pos (3 * largest_begun)) (sym (form-combined g form f.a f.b (pos 1))) both.0) }
 
   pub short_difference : IsShort g (combined (pos 1) f.a (negsuc 0) f.b)
-  short_difference = record { most = three _ (subst (λ z. z ≤ℤ pos (3 * 2 ^ 90)) (sym (form-combined g form f.a f.b (negsuc 0))) both.1) }
+  short_difference = record { most = three _ (subst (λ z. z ≤ℤ pos (3 * largest_begun)) (sym (form-combined g form f.a f.b (negsuc 0))) both.1) }
 
 -- ---- the vectors that the reduction begins with
 
-pub begins_short : (g : Matrix) (v : Vector) → IsForm g → IsVectorWithin largest_twice v → by_form g v v ≤ℤ pos (2 ^ 90)
-begins_short g v form h = go _ _ (2 ^ 90) (dot_within h (image_within form.small h)) (lit≤ tt)
+pub begins_short : (g : Matrix) (v : Vector) → IsForm g → IsVectorWithin largest_twice v → by_form g v v ≤ℤ pos largest_begun
+begins_short g v form h = go _ _ largest_begun (dot_within h (image_within form.small h)) (lit≤ tt)
   where
     go : (m : ℕ) (x : ℤ) (n : ℕ) → IsWithin m x → m ≤ n → x ≤ℤ pos n
     go m x n h k = let l = h.most in omega (arith, ints)

@@ -1,5 +1,5 @@
 -- How large the numbers become.
-use Rattle.std.specs.Prelude.{ℕ, ◌+◌, ◌*◌, ◌^◌, unsigned_abs}
+use Rattle.std.specs.Prelude.{ℕ, ◌+◌, ◌*◌, unsigned_abs}
 use Rattle.fractions.specs.declared.part.TheConstants.{UNIT}
 use Rattle.motions.specs.declared.index.TheConstants.{INDEX}
 
@@ -27,9 +27,13 @@ largest_columns = 3 * (50 * 50)
 abbrev pub largest_form : ℕ
 largest_form = 192 * largest_columns
 
+-- the form at a vector that the reduction begins with
+abbrev pub largest_begun : ℕ
+largest_begun = 3 * (largest_twice * (3 * (largest_form * largest_twice)))
+
 -- an entry of a vector that is shortened
 abbrev pub largest_short : ℕ
-largest_short = 2 ^ 46
+largest_short = 6 * (1200 * largest_twice)
 
 -- a row of the form times such a vector, and the form at two of them
 abbrev pub largest_along : ℕ

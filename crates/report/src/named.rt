@@ -130,9 +130,9 @@ fn numerator(num: i64, den: i64, period: Part, tau: Part, v: Part) -> i64
     requires period { IsWithin largest_period period.0 }
     requires tau { IsWithin largest_entry tau.0 }
     requires v { IsWithin (2 * (grid * largest_entry)) v.0 }
-    ensures { result ≡ pos grid *ℤ UNIT *ℤ (num *ℤ UNIT *ℤ tau.0) +ℤ den *ℤ period.0 *ℤ UNIT *ℤ v.0 }
+    ensures { result ≡ pos grid *ℤ UNIT *ℤ (num *ℤ tau.0) +ℤ den *ℤ period.0 *ℤ v.0 }
 {
-    OVER * (num * UNIT * tau.0) + den * period.0 * UNIT * v.0
+    OVER * (num * tau.0) + den * period.0 * v.0
 }
 
 fn denominator(den: i64, period: Part) -> i64
@@ -140,10 +140,10 @@ fn denominator(den: i64, period: Part) -> i64
     requires above { pos 1 ≤ℤ den }
     requires period { IsWithin largest_period period.0 }
     requires period_above { pos 1 ≤ℤ period.0 }
-    ensures is { result ≡ den *ℤ period.0 *ℤ UNIT *ℤ (pos grid *ℤ UNIT) }
+    ensures is { result ≡ den *ℤ period.0 *ℤ (pos grid *ℤ UNIT) }
     ensures above { pos 1 ≤ℤ result }
 {
-    den * period.0 * UNIT * OVER
+    den * period.0 * OVER
 }
 
 // A ratio in lowest terms.

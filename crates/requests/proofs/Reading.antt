@@ -1,9 +1,12 @@
 -- What is made of a source is what the words ask for.
-use Rattle.std.proofs.Common.{◌≡◌, ℕ, List, Option, Some, Result, Ok, Err, IfOk, IfErr, Vec, Global, refl, inr}
+use Rattle.std.proofs.Common.{◌≡◌, true, false, ℕ, List, Option, Some, Result, Ok, Err, IfOk, IfErr, Vec, Global, refl, inr}
 use Rattle.symmetry.specs.Groups.{Listing}
 use Rattle.closure.specs.declared.group_error.GroupError.{GroupError}
 use Rattle.closure.specs.declared.group_error.GroupError.TheVariants as groups
 use Rattle.closure.specs.GroupErrors.{IsGroupError}
+use Rattle.closure.specs.declared.generated_error.GeneratedError.{GeneratedError}
+use Rattle.closure.specs.declared.generated_error.GeneratedError.TheVariants as generators
+use Rattle.closure.specs.Derived.{IsGeneratedError}
 use Rattle.closure.specs.declared.group.Group.{Group}
 use Rattle.triplets.specs.Texts.{IsGroupText}
 use Rattle.triplets.specs.TextAnswers.{IsFaultOf}
@@ -12,10 +15,10 @@ use Rattle.triplets.specs.declared.fault.TextFault.TheVariants as texts
 use Rattle.requests.specs.declared.obstacle.Obstacle.{Obstacle}
 use Rattle.requests.specs.declared.obstacle.Obstacle.TheVariants as obstacles
 use Rattle.closure.specs.Groups.{IsGroupOf}
-use Rattle.requests.specs.Obstacles.{obstacle_of_group, obstacle_of_text}
+use Rattle.requests.specs.Obstacles.{obstacle_of_generators, obstacle_of_group, obstacle_of_text}
 use Rattle.requests.specs.declared.refusal.Refusal.{Refusal}
 use Rattle.requests.specs.Questions.{Asked, Question, about, IsRequest}
-use Rattle.requests.specs.Inputs.{of_text, of_group, IsCause, IsGroupOfInput, IsShort}
+use Rattle.requests.specs.Inputs.{of_text, of_group, of_generators, IsCause, IsGroupOfInput, IsRefusedInput, IsShort}
 use Rattle.requests.specs.Answers.{Answers}
 use Rattle.requests.specs.Causes.{HasAnswer, IsGroupsObstacle, IsObstacle, IsSourceObstacle}
 
@@ -29,7 +32,7 @@ module _ (left : Option (List ℕ)) (faults faults' : ℕ) (same : faults' ≡ f
   text_obstacle texts.NoMemory bad = same
 
   -- the error of what is listed
-  module _ (g : Listing) (lists : (input : List ℕ) → left ≡ Some input → IsShort input × IsGroupText input g) where
+  module _ (g : Listing) (lists : (input : List ℕ) → left ≡ Some input → IsShort input × IsGroupText input false g) where
     cause : (input : List ℕ) (error : GroupError) → IsGroupError g error → left ≡ Some input → IsCause input (of_group error)
     cause input error h is = let text = lists input is in (text.0, (g, text.1, h))
 
@@ -38,6 +41,22 @@ module _ (left : Option (List ℕ)) (faults faults' : ℕ) (same : faults' ≡ f
     group_obstacle groups.TooFine h = (λ input is. (of_group groups.TooFine, cause input groups.TooFine h is, refl), same)
     group_obstacle (groups.Fault fault) h = (λ input is. (of_group (groups.Fault fault), cause input (groups.Fault fault) h is, refl), same)
     group_obstacle groups.NoMemory h = same
+
+  -- the error of listed generators
+  module _ (g : Listing) (lists : (input : List ℕ) → left ≡ Some input → IsShort input × IsGroupText input true g) where
+    cause_of_generators : (input : List ℕ) (error : GeneratedError) → IsGeneratedError g error → left ≡ Some input → IsCause input (of_generators error)
+    cause_of_generators input error h is = let text = lists input is in (text.0, (g, text.1, h))
+
+    known_cause : (error : GeneratedError) (r : Refusal) → obstacle_of_generators error ≡ obstacles.Refused r → IsGeneratedError g error
+        → (input : List ℕ) → left ≡ Some input → IsRefusedInput input r
+    known_cause error r e h input is = (of_generators error, cause_of_generators input error h is, e)
+
+    pub generators_obstacle : (error : GeneratedError) → IsGeneratedError g error → IsSourceObstacle left faults faults' (obstacle_of_generators error)
+    generators_obstacle (generators.TooMany n) h = (known_cause (generators.TooMany n) _ refl h, same)
+    generators_obstacle (generators.NoInverse i) h = (known_cause (generators.NoInverse i) _ refl h, same)
+    generators_obstacle generators.TooLarge h = (known_cause generators.TooLarge _ refl h, same)
+    generators_obstacle generators.TooFine h = (known_cause generators.TooFine _ refl h, same)
+    generators_obstacle generators.NoMemory h = same
 
 -- ---- the answer of a group that a source gave
 
@@ -50,7 +69,8 @@ module _ (read : Result Asked Refusal) (question : Question) (asks : IsRequest r
     asked = about question;
     asks = asks;
     answers = λ input is.
-        let of = is_of input is in record { short = of.short; group = of.listing; lists = of.lists; answers = answers of.listing of.is_of };
+        let of = is_of input is in
+        record { short = of.short; group = of.some.0; lists = of.some.1; answers = answers of.some.0 (of.is_of of.some.0 of.some.1) };
   }
   answered (Err o) answers = tt
 
@@ -58,7 +78,7 @@ module _ (read : Result Asked Refusal) (question : Question) (asks : IsRequest r
       → IfErr result (IsGroupsObstacle group question) → IfErr result (IsObstacle read left faults faults')
   kept_from_answer (Ok text) faults faults' same o = tt
   kept_from_answer (Err (obstacles.Refused r)) faults faults' same o = (
-    inr (about question, asks, λ input is. let of = is_of input is in inr (of.short, (of.listing, of.lists, o of.listing of.is_of))),
+    inr (about question, asks, λ input is. let of = is_of input is in inr (of.short, (of.some, λ g lists. o g (of.is_of g lists)))),
     same,
   )
   kept_from_answer (Err obstacles.ReadFault) faults faults' same o = absurd o

@@ -10,7 +10,7 @@ use Rattle.requests.specs.declared.refusal.Refusal.{Refusal}
 use Rattle.requests.specs.declared.refusal.Refusal.TheVariants.{Wide}
 use Rattle.requests.specs.Questions.{Asked, Question, Table, about, tabulate, at_height, all_heights, image_rows, of_type, of_sample}
 use Rattle.requests.specs.Obstacles.{IsFairFrame, RefusesFrame}
-use Rattle.requests.specs.Inputs.{IsRefusedInput, IsShort, ListsGroup}
+use Rattle.requests.specs.Inputs.{IsRefusedInput, IsShort, ListsGroup, ListsSome}
 use Rattle.requests.specs.At.{IsHeightAnswer}
 use Rattle.requests.specs.Layers.{IsReportAnswer}
 use Rattle.requests.specs.Images.{IsImagesAnswer}
@@ -55,7 +55,7 @@ pub record IsFairInput (question : Question) (input : List ℕ) : Type 0 where
 abbrev pub RefusesInput : Question → List ℕ → Refusal → Type 0
 RefusesInput question input refusal =
     IsRefusedInput input refusal
-    ⊎ (IsShort input × ((g : Listing) × ListsGroup input g × RefusesQuestion g question refusal))
+    ⊎ (IsShort input × ListsSome input × ((g : Listing) → ListsGroup input g → RefusesQuestion g question refusal))
 
 -- ---- without an input
 

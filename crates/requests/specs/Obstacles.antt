@@ -12,6 +12,8 @@ use Rattle.triplets.specs.declared.fault.TextFault.{TextFault}
 use Rattle.triplets.specs.declared.fault.TextFault.TheVariants as texts
 use Rattle.closure.specs.declared.group_error.GroupError.{GroupError}
 use Rattle.closure.specs.declared.group_error.GroupError.TheVariants as groups
+use Rattle.closure.specs.declared.generated_error.GeneratedError.{GeneratedError}
+use Rattle.closure.specs.declared.generated_error.GeneratedError.TheVariants as generators
 use Rattle.scanning.specs.declared.at_fault.AtFault.{AtFault}
 use Rattle.scanning.specs.declared.at_fault.AtFault.TheVariants as at_faults
 use Rattle.orbits.specs.declared.orbit_fault.OrbitFault.{OrbitFault}
@@ -39,6 +41,14 @@ obstacle_of_group (groups.TooMany n) = obstacles.Refused (refusals.TooMany n)
 obstacle_of_group groups.TooFine = obstacles.Refused refusals.TooFine
 obstacle_of_group (groups.Fault fault) = obstacles.Refused (refusal_of_fault fault)
 obstacle_of_group groups.NoMemory = obstacles.NoMemory
+
+-- that of what generates no group
+abbrev pub obstacle_of_generators : GeneratedError → Obstacle
+obstacle_of_generators (generators.TooMany n) = obstacles.Refused (refusals.TooMany n)
+obstacle_of_generators (generators.NoInverse i) = obstacles.Refused (refusals.NoInverse i)
+obstacle_of_generators generators.TooLarge = obstacles.Refused refusals.TooLarge
+obstacle_of_generators generators.TooFine = obstacles.Refused refusals.TooFine
+obstacle_of_generators generators.NoMemory = obstacles.NoMemory
 
 -- the refusal of vectors that make no frame
 abbrev pub refusal_of_frame : FrameFault → Refusal

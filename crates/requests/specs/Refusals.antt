@@ -4,7 +4,7 @@ use Rattle.std.specs.Fmt.{signed_decimal}
 use Rattle.triplets.specs.declared.fault.TextKind.{TextKind}
 use Rattle.triplets.specs.declared.fault.TextKind.TheVariants.{UnknownSign, Repeated, Coefficient, Denominator, MissingPart, ExtraPart, Empty}
 use Rattle.requests.specs.declared.refusal.Refusal.{Refusal}
-use Rattle.requests.specs.declared.refusal.Refusal.TheVariants.{Usage, FourIndex, OutOfRange, AllZero, NotCoprime, FrameLimit, HeightLimit, TooLong, Text, TooMany, TooFine, NoIdentity, ShiftMoved, NotClosed, NoInverse, NotFrame, SkewFrame, Wide}
+use Rattle.requests.specs.declared.refusal.Refusal.TheVariants.{Usage, FourIndex, OutOfRange, AllZero, NotCoprime, FrameLimit, HeightLimit, TooLong, Text, TooMany, TooFine, NoIdentity, ShiftMoved, NotClosed, NoInverse, TooLarge, NotFrame, SkewFrame, Wide}
 
 -- the printed name of a kind of faults of a text
 abbrev pub kind_text : TextKind → List ℕ
@@ -33,6 +33,7 @@ refusal_text NoIdentity = codes "refused: no identity"
 refusal_text (ShiftMoved i) = codes "refused: operation " ++ decimal i ++ codes " moves the lattice"
 refusal_text (NotClosed i j) = codes "refused: product of " ++ decimal i ++ codes " and " ++ decimal j ++ codes " missing"
 refusal_text (NoInverse i) = codes "refused: operation " ++ decimal i ++ codes " has no inverse"
+refusal_text TooLarge = codes "refused: too many or too large matrices"
 refusal_text NotFrame = codes "refused: no frame"
 refusal_text SkewFrame = codes "refused: frame too skewed"
 refusal_text Wide = codes "refused: image too wide"

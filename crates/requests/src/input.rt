@@ -31,13 +31,18 @@ pub fn group_of<S: Source>(alloc: Global, source: &mut S) -> Result<Group, Obsta
     ensures within { ReadsWithin (S.left source.old) (S.left source.new) 65537 }
 {
     let listed = read_listed(alloc, source)?;
-    Ok(Group::make(alloc, listed)?)
+    let group = if listed.generated {
+        Group::generated(alloc, listed)?
+    } else {
+        Group::make(alloc, listed)?
+    };
+    Ok(group)
 }
 
 /// Reads a source to its end, piece by piece: what its text lists.
 fn read_listed<S: Source>(alloc: Global, source: &mut S) -> Result<Listed, Obstacle>
     ensures text { IfOk result (λ listed. (input : List ℕ) →
-        S.left source.old ≡ Some input → IsShort input × IsGroupText input (listing_of listed)) }
+        S.left source.old ≡ Some input → IsShort input × IsGroupText input listed.generated (listing_of listed)) }
     ensures small { IfOk result (IsListedSmall 9) }
     ensures obstacle { IfErr result
         (IsSourceObstacle (S.left source.old) (S.faults source.old) (S.faults source.new)) }

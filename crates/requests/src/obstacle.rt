@@ -1,10 +1,10 @@
 // What keeps the program from an answer.
 ghost use Rattle.std.specs.Prelude.{◌≡◌};
 ghost use Rattle.requests.specs.declared.obstacle.Obstacle.TheVariants.{NoMemory, ReadFault, Refused};
-ghost use Rattle.requests.specs.Obstacles.{obstacle_of_group, obstacle_of_height, obstacle_of_orbits, obstacle_of_text, refusal_of_fault, refusal_of_frame};
+ghost use Rattle.requests.specs.Obstacles.{obstacle_of_generators, obstacle_of_group, obstacle_of_height, obstacle_of_orbits, obstacle_of_text, refusal_of_fault, refusal_of_frame};
 
 use crate::refusal::Refusal;
-use closure::GroupError;
+use closure::{GeneratedError, GroupError};
 use devices::Failed;
 use motions::FrameFault;
 use orbits::OrbitFault;
@@ -72,6 +72,20 @@ impl From<GroupError> for Obstacle {
             GroupError::TooFine => Obstacle::Refused(Refusal::TooFine),
             GroupError::Fault(fault) => Obstacle::Refused(Refusal::from(fault)),
             GroupError::NoMemory => Obstacle::NoMemory,
+        }
+    }
+}
+
+impl From<GeneratedError> for Obstacle {
+    ghost from_gives = { λ error obstacle. obstacle ≡ obstacle_of_generators error };
+
+    fn from(error: GeneratedError) -> Obstacle {
+        match error {
+            GeneratedError::TooMany(count) => Obstacle::Refused(Refusal::TooMany(count)),
+            GeneratedError::NoInverse(i) => Obstacle::Refused(Refusal::NoInverse(i)),
+            GeneratedError::TooLarge => Obstacle::Refused(Refusal::TooLarge),
+            GeneratedError::TooFine => Obstacle::Refused(Refusal::TooFine),
+            GeneratedError::NoMemory => Obstacle::NoMemory,
         }
     }
 }

@@ -41,8 +41,10 @@ pub enum Refusal {
     ShiftMoved(usize),
     /// The first two operations whose product, first the one and then the other, is the same as no listed operation.
     NotClosed(usize, usize),
-    /// The first operation without a listed inverse.
+    /// The first operation without a listed inverse; of generators, that whose matrix has no inverse of whole numbers.
     NoInverse(usize),
+    /// The generators make too many matrices, or one with an entry that is too large.
+    TooLarge,
     /// The frame vectors are no frame of the group and the plane.
     NotFrame,
     /// A scanning operation, written in the frame, has a matrix entry above 500 in size.
@@ -77,6 +79,7 @@ impl fmt::Display for Refusal {
             Refusal::ShiftMoved(i) => write!(f, "refused: operation {i} moves the lattice"),
             Refusal::NotClosed(i, j) => write!(f, "refused: product of {i} and {j} missing"),
             Refusal::NoInverse(i) => write!(f, "refused: operation {i} has no inverse"),
+            Refusal::TooLarge => write!(f, "refused: too many or too large matrices"),
             Refusal::NotFrame => write!(f, "refused: no frame"),
             Refusal::SkewFrame => write!(f, "refused: frame too skewed"),
             Refusal::Wide => write!(f, "refused: image too wide"),

@@ -1,10 +1,11 @@
 // Motions moved from one plane to another.
-ghost use Rattle.std.specs.Prelude.{◌≡◌, ◌*◌, ◌^◌, ◌+ℤ◌, ◌*ℤ◌, unsigned_abs};
+ghost use Rattle.std.specs.Prelude.{◌≡◌, ◌*◌, ◌+ℤ◌, ◌*ℤ◌, unsigned_abs};
 ghost use Rattle.fractions.specs.declared.part.TheConstants.{UNIT};
 ghost use Rattle.integers.specs.Size.{IsWithin};
 ghost use Rattle.symmetry.specs.Sizes.{IsVectorWithin};
 ghost use Rattle.symmetry.specs.Vectors.{multiple, plus};
 ghost use Rattle.motions.specs.Views.{motion_of, parts};
+ghost use Rattle.plane_lattice.specs.Bounds.{largest_home};
 ghost use Rattle.scanning.specs.Bounds.{largest_count};
 
 use fractions::Part;
@@ -13,7 +14,7 @@ use motions::Motion3;
 /// First the motion, and then the translation by a multiple of a vector.
 #[tactic(auto, unfolding(symmetry::specs::Vectors::multiple, symmetry::specs::Vectors::plus))]
 pub(crate) fn raised(m: &Motion3, count: i64, vector: &[Part; 3]) -> Motion3
-    requires motion { IsVectorWithin (2 ^ 44) (motion_of m.now).shift }
+    requires motion { IsVectorWithin largest_home (motion_of m.now).shift }
     requires count { IsWithin largest_count count }
     requires vector { IsVectorWithin (1000 * unsigned_abs UNIT) (parts vector.now) }
     ensures { motion_of result ≡ record {
@@ -33,7 +34,7 @@ pub(crate) fn raised(m: &Motion3, count: i64, vector: &[Part; 3]) -> Motion3
 
 /// A number of parts and a multiple of another.
 fn sum(part: Part, count: i64, step: Part) -> Part
-    requires part { IsWithin (2 ^ 44) part.0 }
+    requires part { IsWithin largest_home part.0 }
     requires count { IsWithin largest_count count }
     requires step { IsWithin (1000 * unsigned_abs UNIT) step.0 }
     ensures { result.0 ≡ part.0 +ℤ count *ℤ step.0 }

@@ -26,7 +26,7 @@ static CASES: [Case; 14] = [
     },
     Case {
         name: "an index out of range",
-        words: &["layers", "100", "0", "1"],
+        words: &["layers", "256", "0", "1"],
         input: INVERSION,
         output: b"",
         complaints: b"refused: index out of range\n",
@@ -110,7 +110,7 @@ static CASES: [Case; 14] = [
     },
     Case {
         name: "a third index that is wrong, of indices out of range",
-        words: &["layers", "100", "0", "100", "1"],
+        words: &["layers", "256", "0", "256", "1"],
         input: INVERSION,
         output: b"",
         complaints: b"refused: third index is not -(h+k)\n",

@@ -1,8 +1,8 @@
 // The cases, by topic.
 use crate::case::Case;
 use crate::{
-    heights, images, refused_frames, refused_groups, refused_lines, refused_words, reports,
-    samples, types, unusual_reports,
+    generators, heights, images, refused_frames, refused_groups, refused_lines, refused_words,
+    reports, samples, types, unusual_reports,
 };
 
 /// What a case is about.
@@ -14,6 +14,8 @@ pub enum Topic {
     Reports,
     /// Reports of unusual texts, frames and words: labels, a fine lattice, large indices, an oblique frame, four indices, JSON.
     UnusualReports,
+    /// Reports of groups from generators, and such texts that are refused.
+    Generators,
     /// The images of an orientation.
     Images,
     /// The operations of a type, by its number.
@@ -31,10 +33,11 @@ pub enum Topic {
 }
 
 /// Every topic.
-pub const TOPICS: [Topic; 10] = [
+pub const TOPICS: [Topic; 11] = [
     Topic::Heights,
     Topic::Reports,
     Topic::UnusualReports,
+    Topic::Generators,
     Topic::Images,
     Topic::Types,
     Topic::Samples,
@@ -52,6 +55,7 @@ pub fn cases(topic: Topic) -> &'static [Case] {
         Topic::Heights => heights::all(),
         Topic::Reports => reports::all(),
         Topic::UnusualReports => unusual_reports::all(),
+        Topic::Generators => generators::all(),
         Topic::Images => images::all(),
         Topic::Types => types::all(),
         Topic::Samples => samples::all(),

@@ -10,7 +10,7 @@ pub(crate) fn all() -> &'static [Case] {
 /// A twofold axis along a.
 const TWOFOLD_ALONG_A: &[u8] = b"x,y,z\nx,-y,-z\n";
 
-static CASES: [Case; 7] = [
+static CASES: [Case; 9] = [
     Case {
         name: "P-1 along c, with labels, comments, capitals and CRLF",
         words: &["layers", "0", "0", "1"],
@@ -34,6 +34,48 @@ static CASES: [Case; 7] = [
             general planes 1\n\
             type 1 p1\n\
             basis 1/4,0,0 0,1/4,0 0,0,1/4\n\
+            origin 0,0,0 + s/d c\n\
+            op x,y,z\n\
+            end\n",
+        complaints: b"",
+        status: 0,
+    },
+    Case {
+        name: "sixteenths of an edge",
+        words: &[
+            "layers", "0", "0", "1", "--frame", "1/16,0,0", "0,1,0", "0,0,1",
+        ],
+        input: b"(1/16,0,0)+\nx,y,z\n",
+        output: b"plane 0 0 1\n\
+            period 1\n\
+            a 1/16,0,0\n\
+            b 0,1,0\n\
+            tau 0,0,1\n\
+            c 0,0,1\n\
+            general planes 1\n\
+            type 1 p1\n\
+            basis 1/16,0,0 0,1,0 0,0,1\n\
+            origin 0,0,0 + s/d c\n\
+            op x,y,z\n\
+            end\n",
+        complaints: b"",
+        status: 0,
+    },
+    Case {
+        name: "P1 along (255 0 1)",
+        words: &[
+            "layers", "255", "0", "1", "--frame", "0,1,0", "-1,0,255", "0,0,1",
+        ],
+        input: b"x,y,z\n",
+        output: b"plane 255 0 1\n\
+            period 1\n\
+            a 0,1,0\n\
+            b -1,0,255\n\
+            tau 0,0,1\n\
+            c 0,0,1\n\
+            general planes 1\n\
+            type 1 p1\n\
+            basis 0,1,0 -1,0,255 0,0,1\n\
             origin 0,0,0 + s/d c\n\
             op x,y,z\n\
             end\n",

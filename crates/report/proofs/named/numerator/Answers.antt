@@ -3,8 +3,8 @@ use Rattle.integers.proofs.Coded.{code_fits, code_is}
 use Rattle.report.proofs.NamedSizes.{in_plane_part, numerator, origin_bounds}
 use Rattle.report.proofs.named.numerator.Goals as goal
 
-pub overflow_mul-result-6 : goal.overflow_mul-result-6
-overflow_mul-result-6 c =
+pub overflow_mul-result-4 : goal.overflow_mul-result-4
+overflow_mul-result-4 c =
     code_fits origin_bounds (c.args.num ∷ c.args.den ∷ c.args.period.0 ∷ c.args.tau.0 ∷ c.args.v.0 ∷ []) in_plane_part tt
     (c.requires.num, (c.requires.den, (c.requires.period, (c.requires.tau, (c.requires.v, tt)))))
 

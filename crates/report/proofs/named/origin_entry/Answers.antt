@@ -8,6 +8,7 @@ use Rattle.integers.proofs.Coded.{again}
 use Rattle.plane_lattice.specs.Bounds.{largest_period}
 use Rattle.plane_lattice.proofs.Wide.{wide}
 use Rattle.recognition.specs.Grid.{grid}
+use Rattle.report.proofs.NamedSizes.{without_unit}
 use Rattle.report.proofs.StepNumbers.{word_is}
 use Rattle.report.proofs.named.origin_entry.Goals as goal
 
@@ -18,7 +19,8 @@ returns c =
     let num : again (wide c.num-num.result) ≡ q.num = word_is (2 * largest_period) c.num-num.result q.num (lit< tt) c.requires.s.num c.num-num.ensures in
     let den : again (wide c.den-den.result) ≡ q.den = word_is (2 * unsigned_abs UNIT) c.den-den.result q.den (lit< tt) c.requires.s.den c.den-den.ensures in
     let numerator = to_z-of_z w64 c.numerator.result (record { sfits = c.numerator.type_inv }) ∙ c.numerator.ensures
-    ∙ (λ i. pos grid *ℤ UNIT *ℤ (num i *ℤ UNIT *ℤ c.args.tau.0) +ℤ den i *ℤ d *ℤ UNIT *ℤ c.args.v.0) in
+    ∙ (λ i. pos grid *ℤ UNIT *ℤ (num i *ℤ c.args.tau.0) +ℤ den i *ℤ d *ℤ c.args.v.0) in
     let denominator = to_z-of_z w64 c.denominator.result (record { sfits = c.denominator.type_inv }) ∙ c.denominator.ensures.is
-    ∙ (λ i. den i *ℤ d *ℤ UNIT *ℤ (pos grid *ℤ UNIT)) in
+    ∙ (λ i. den i *ℤ d *ℤ (pos grid *ℤ UNIT)) in
     c.lowest.ensures ∙ (λ i. lowest_terms (numerator i) (denominator i))
+    ∙ without_unit q.num q.den d c.args.tau.0 c.args.v.0 c.requires.s.above c.requires.above
