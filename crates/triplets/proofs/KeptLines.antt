@@ -127,7 +127,7 @@ pub reader_keeps : (r : LineReader) (bytes : List ℕ) → text_run (Ok kept_sta
 reader_keeps r bytes e = is_kept bytes (kept r) e
 
 -- what is kept of a text is one thing
-pub one_kept : (text : List ℕ) (g g' : Listing) (l l' c c' : ℕ) → IsKept text g l c → IsKept text g' l' c' → (g ≡ g') × ((l ≡ l') × (c ≡ c'))
+pub one_kept : (text : List ℕ) (g g' : Listing) (l l' c c' : ℕ) → IsKept text g l c → IsKept text g' l' c' → (g ≡ g') × (l ≡ l') × (c ≡ c')
 one_kept text g g' l l' c c' h i =
     let e = same_from_push h.ended i.ended h.begun i.begun (sym h.lines ∙ i.lines) in
     let ended = e.0 in

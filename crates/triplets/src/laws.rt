@@ -30,7 +30,7 @@ pub fn one_begun_row()
 
 /// What is kept of a text is one listing, and its next byte has one place.
 pub fn one_kept()
-    ensures { (text : List ℕ) (g g' : Listing) (l l' c c' : ℕ) → IsKept text g l c → IsKept text g' l' c' → (g ≡ g') × ((l ≡ l') × (c ≡ c')) }
+    ensures { (text : List ℕ) (g g' : Listing) (l l' c c' : ℕ) → IsKept text g l c → IsKept text g' l' c' → (g ≡ g') × (l ≡ l') × (c ≡ c') }
 {}
 
 /// The limit that contracts name by its number.
