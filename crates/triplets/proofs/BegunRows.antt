@@ -210,7 +210,7 @@ all_count (Some rs) c = length-append (centrings_value rs) (centring_value c ∷
 no_further : (r : Option Centrings) (rest : List ℕ) (s : LineState) → line_run (Ok line_start) (prior_text r ++ rest) ≡ line_going s → s.vectors ≡ prior_value r → AreBegunVectors rest []
 no_further r rest s h v c more e =
     let g = run_grows (centrings_text (all_of r c)) more (state_of places.Behind (centrings_value (all_of r c))) s (centrings_run (all_of r c))
-        (ap (line_run (Ok line_start)) (sym (all_more r c more)) ∙ (ap (λ (x : List ℕ). line_run (Ok line_start) (prior_text r ++ x)) (sym e) ∙ h)) in
+    (ap (line_run (Ok line_start)) (sym (all_more r c more)) ∙ (ap (λ (x : List ℕ). line_run (Ok line_start) (prior_text r ++ x)) (sym e) ∙ h)) in
     let grown : length (centrings_value (all_of r c)) ≤ length s.vectors = g in
     let same : length s.vectors ≡ length (prior_value r) = ap (λ (x : List Vector). length x) v in
     omega (arith, grown, same, all_count r c)

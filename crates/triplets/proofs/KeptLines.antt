@@ -1,9 +1,11 @@
 -- What the reader keeps of a text is what its lines list.
-use Rattle.std.proofs.Common.{◌≡◌, ℕ, ◌+◌, Bool, true, false, cond, List, [], ◌∷◌, ◌++◌, length, Option, Some, None, Result, Ok, Err, refl, sym, ◌∙◌, ap, subst, arith, append_assoc}
+use Rattle.std.proofs.Common.{◌≡◌, ℕ, ◌+◌, Bool, true, false, cond, List, [], ◌∷◌, ◌++◌, length, map, Option, Some, None, Result, Ok, Err, refl, sym, ◌∙◌, ap, subst, arith, append_assoc}
 use Rattle.std.specs.Prelude.{◌==◌}
 use Rattle.std.proofs.lemmas.List.{append-nil, same_from_push}
 use Rattle.symmetry.specs.Vectors.{Vector}
 use Rattle.symmetry.specs.Groups.{Listing}
+use Rattle.motions.specs.Views.{motion_of, parts}
+use Rattle.fractions.specs.declared.part.Part.{Part}
 use Rattle.triplets.specs.declared.fault.TextKind.{TextKind}
 use Rattle.triplets.specs.declared.fault.TextKind.TheVariants as kinds
 use Rattle.motions.specs.declared.motion.Motion3.{Motion3}
@@ -126,6 +128,10 @@ is_kept bytes k e =
 pub reader_keeps : (r : LineReader) (bytes : List ℕ) → text_run (Ok kept_start) bytes ≡ keeping (kept r) → Keeps r bytes
 reader_keeps r bytes e = is_kept bytes (kept r) e
 
+-- before the first byte
+pub keeps_nothing : (xs : List Motion3) (ys : List (List Part)) → xs ≡ [] → ys ≡ [] → IsKept [] (make_listing (map motion_of xs) (map parts ys)) 1 1
+keeps_nothing xs ys e f = subst (λ (g : Listing). IsKept [] g 1 1) (listing_path nothing_listed (make_listing (map motion_of xs) (map parts ys)) (ap (map motion_of) (sym e)) (ap (map parts) (sym f))) (is_kept [] kept_start refl)
+
 -- what is kept of a text is one thing
 pub one_kept : (text : List ℕ) (g g' : Listing) (l l' c c' : ℕ) → IsKept text g l c → IsKept text g' l' c' → (g ≡ g') × (l ≡ l') × (c ≡ c')
 one_kept text g g' l l' c c' h i =
@@ -133,8 +139,7 @@ one_kept text g g' l l' c c' h i =
     let ended = e.0 in
     let begun = e.1 in
     let said : h.said ≡ i.said = are_lines_one i.ended h.said i.said (subst (λ (x : List (List ℕ)). AreLines x h.said) ended h.ended_say) i.ended_say in
-    let vectors : h.vectors ≡ i.vectors = one_begun_row i.begun h.vectors i.vectors (subst (λ (x : List ℕ). AreBegunVectors x h.vectors) begun h.begun_says) i.begun_says in
-    (
+    let vectors : h.vectors ≡ i.vectors = one_begun_row i.begun h.vectors i.vectors (subst (λ (x : List ℕ). AreBegunVectors x h.vectors) begun h.begun_says) i.begun_says in (
       h.listing_is ∙ (ap (λ (x : Listing). with_begun x h.vectors) said ∙ (ap (with_begun i.said) vectors ∙ sym i.listing_is)),
       h.line_is ∙ (ap (λ (x : List (List ℕ)). length x + 1) ended ∙ sym i.line_is),
       h.column_is ∙ (ap (λ (x : List ℕ). length x + 1) begun ∙ sym i.column_is),
