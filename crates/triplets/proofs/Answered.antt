@@ -16,7 +16,7 @@ use Rattle.triplets.proofs.Sizes.{text_small, listed_small}
 use Rattle.triplets.proofs.TextEnds.{IsOutcome, outcome_is}
 use Rattle.triplets.proofs.TextShown.{fault_shown, none_shown, shown_fault}
 
-are_lines_one : (ls : List (List ℕ)) (a b : Listing) → AreLines ls a → AreLines ls b → a ≡ b
+pub are_lines_one : (ls : List (List ℕ)) (a b : Listing) → AreLines ls a → AreLines ls b → a ≡ b
 are_lines_one [] a b h i = h ∙ sym i
 are_lines_one (l ∷ ls) a b h i =
     let e = one_line_value l h.0 i.0 h.2 i.2 in

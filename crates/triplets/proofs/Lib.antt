@@ -23,6 +23,8 @@ pub mod TextEnds
 pub mod TextShown
 pub mod Answered
 pub mod OneFault
+pub mod BegunRows
+pub mod KeptLines
 mod RowTexts
 mod Terms
 mod NumberTrees

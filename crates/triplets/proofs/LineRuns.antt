@@ -350,7 +350,7 @@ inside_run l v vs =
 abbrev inside_text : Centring → List ℕ
 inside_text v = coordinate_text v.one ++ (44 ∷ (coordinate_text v.two ++ (44 ∷ (coordinate_text v.three ++ (41 ∷ (blanks_text v.between ++ 43 ∷ []))))))
 
-centrings_run : (r : Centrings) → line_run (Ok line_start) (centrings_text r) ≡ line_going (state_of places.Behind (centrings_value r))
+pub centrings_run : (r : Centrings) → line_run (Ok line_start) (centrings_text r) ≡ line_going (state_of places.Behind (centrings_value r))
 centrings_run (one v) =
     line_then line_start line_start (state_of places.Behind (centrings_value (one v))) (blanks_text v.before) (40 ∷ inside_text v) (still_start [] v.before) (inside_run true v [])
 centrings_run (further r v) =

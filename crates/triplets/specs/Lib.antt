@@ -12,7 +12,9 @@ pub mod LineFaults
 pub mod LineReading
 pub mod Texts
 pub mod TextAnswers
+pub mod BegunLines
 pub mod PlaceBounds
 pub mod TextReading
+pub mod KeptTexts
 pub mod Writing
 pub mod Writable

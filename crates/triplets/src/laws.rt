@@ -1,7 +1,10 @@
 // What a text says is one thing, for a text of any length, and the limit of what is read, in numbers. A call does nothing:
 // its contract is the law.
 ghost use Rattle.std.specs.Prelude.{◌≡◌, ℕ, List};
+ghost use Rattle.symmetry.specs.Vectors.{Vector};
 ghost use Rattle.symmetry.specs.Groups.{Listing};
+ghost use Rattle.triplets.specs.BegunLines.{AreBegunVectors};
+ghost use Rattle.triplets.specs.KeptTexts.{IsKept};
 ghost use Rattle.triplets.specs.Texts.{Fault, IsGroupText, IsTextFault};
 ghost use Rattle.triplets.specs.declared.group.TheConstants.{MOST_BYTES};
 
@@ -18,6 +21,16 @@ pub fn one_fault()
 /// A text with a fault lists nothing.
 pub fn no_listing_and_fault()
     ensures { (text : List ℕ) (g : Listing) (f : Fault) → IsTextFault text f → IsGroupText text g → ⊥ }
+{}
+
+/// The vectors that stand whole at the beginning of a line are one list.
+pub fn one_begun_row()
+    ensures { (line : List ℕ) (vs vs' : List Vector) → AreBegunVectors line vs → AreBegunVectors line vs' → vs ≡ vs' }
+{}
+
+/// What is kept of a text is one listing, and its next byte has one place.
+pub fn one_kept()
+    ensures { (text : List ℕ) (g g' : Listing) (l l' c c' : ℕ) → IsKept text g l c → IsKept text g' l' c' → (g ≡ g') × (l ≡ l') × (c ≡ c') }
 {}
 
 /// The limit that contracts name by its number.

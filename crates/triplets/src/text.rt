@@ -31,11 +31,13 @@ impl LineReader {
     ghost use Rattle.triplets.specs.declared.fault.TextFault.TheVariants.{At, NoMemory};
     ghost use Rattle.triplets.specs.TextReading.{Stands, Gives, AreAlike, kept, finished, byte_step, bytes_fed, fault_answered};
     ghost use Rattle.triplets.specs.TextAnswers.{IsAnswer, IsAnswerSoFar};
+    ghost use Rattle.triplets.specs.KeptTexts.{Keeps};
     ghost use Rattle.motions.specs.ListedSizes.{IsListedSmall};
 
     /// A reader that was fed nothing. It takes no memory.
     pub fn make(alloc: Global) -> Self
         ensures stands { Stands result [] }
+        ensures told { Keeps result [] }
         ensures fed { bytes_fed result ≡ 0 }
         ensures fault { fault_answered result ≡ None }
     {
@@ -117,6 +119,7 @@ impl LineReader {
         ensures fed { bytes_fed self.new ≡ bytes_fed self.old + length piece.now }
         ensures stands { (result ≡ Err NoMemory) ⊎ ((text : List ℕ) → Stands self.old text → Stands self.new (text ++ piece.now)) }
         ensures answer { (text : List ℕ) → Stands self.old text → IsAnswerSoFar (text ++ piece.now) result }
+        ensures told { (text : List ℕ) → Stands self.old text → IfOk result (λ _. Keeps self.new (text ++ piece.now)) }
         ensures again { IfSome (fault_answered self.old) (λ fault. result ≡ Err fault) }
         ensures kept { IfErr result (λ fault. fault_answered self.new ≡ Some fault) }
     {
