@@ -15,7 +15,7 @@ use Rattle.closure.specs.Spans.{AreResiduesOf}
 use Rattle.closure.specs.Laws.ListLaws.{distinct_from_apart}
 use Rattle.closure.specs.Laws.ResidueLaws.{whole_from_residues}
 
-different : (m n : ℕ) → ¬ (m ≡ n) → eqb m n ≡ false
+pub different : (m n : ℕ) → ¬ (m ≡ n) → eqb m n ≡ false
 different m n ne = go (eqb m n) refl
   where
     go : (b : Bool) → eqb m n ≡ b → b ≡ false

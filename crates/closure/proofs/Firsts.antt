@@ -43,7 +43,7 @@ module _ (g : Listing) (vectors : List Vector) (same : (v : Vector) → Generate
 -- ---- the first operations
 
 -- the same by another relation that holds of the same pairs
-AreFirst-by : {A : Type 0} (Same Other : A → A → Type 0) → ((x y : A) → Same x y ↔ Other x y) → (list firsts : List A) → AreFirst Same list firsts → AreFirst Other list firsts
+pub AreFirst-by : {A : Type 0} (Same Other : A → A → Type 0) → ((x y : A) → Same x y ↔ Other x y) → (list firsts : List A) → AreFirst Same list firsts → AreFirst Other list firsts
 AreFirst-by Same Other e _ _ none = none
 AreFirst-by Same Other e _ _ (kept list firsts x f new) =
     kept list firsts x (AreFirst-by Same Other e list firsts f) (λ (k, y, within, is, s). new (k, y, within, is, (e x y).1 s))

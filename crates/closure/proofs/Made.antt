@@ -32,7 +32,7 @@ from_origin : (v : Vector) → minus v origin ≡ v
 unfolding multiple
 from_origin v = plus-origin v
 
-edge-whole : (v : Vector) → Contains edges v → IsWhole v
+pub edge-whole : (v : Vector) → Contains edges v → IsWhole v
 edge-whole v (zero, within, is) = subst IsWhole is (record { x = Divides-self (unsigned_abs UNIT); y = Divides-zero (unsigned_abs UNIT); z = Divides-zero (unsigned_abs UNIT) })
 edge-whole v (suc zero, within, is) = subst IsWhole is (record { x = Divides-zero (unsigned_abs UNIT); y = Divides-self (unsigned_abs UNIT); z = Divides-zero (unsigned_abs UNIT) })
 edge-whole v (suc (suc zero), within, is) = subst IsWhole is (record { x = Divides-zero (unsigned_abs UNIT); y = Divides-zero (unsigned_abs UNIT); z = Divides-self (unsigned_abs UNIT) })

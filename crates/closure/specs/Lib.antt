@@ -8,3 +8,8 @@ pub mod Operations
 pub mod FromLattice
 pub mod GroupErrors
 pub mod Groups
+pub mod Generated
+pub mod ClosedLists
+pub mod Searches
+pub mod Derived
+pub mod FromLatticeFault

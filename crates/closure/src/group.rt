@@ -1,15 +1,20 @@
 // A space group: operations, each once modulo the translation lattice.
 ghost use Rattle.std.specs.Prelude.{◌≡◌, ◌≤◌, ◌↔◌, All, IfErr, IfOk, IsTrue, length, map, vec_len};
 ghost use Rattle.quotient.specs.Lists.{AreFirst};
-ghost use Rattle.symmetry.specs.Groups.{IsGroup, IsInLattice, SameModulo};
+ghost use Rattle.symmetry.specs.Groups.{IsGroup, IsInLattice, IsMember, SameModulo};
+ghost use Rattle.symmetry.specs.Motions.{Motion as MotionOfSpace};
 ghost use Rattle.motions.specs.ListedSizes.{IsListedSmall};
 ghost use Rattle.motions.specs.Views.{listing_of, motion_of, parts};
 ghost use Rattle.closure.specs.Lattices.{IsLatticeOf};
 ghost use Rattle.closure.specs.Operations.{listing_with, AreApart, HasSmallEntries, HoldsTranslations};
 
+use crate::derived::{first_singular, in_order};
+use crate::generated_error::GeneratedError;
+use crate::generated_lattice::generated_lattice;
 use crate::group_error::GroupError;
 use crate::lattice::Lattice;
 use crate::limits::MAX_OPERATIONS;
+use crate::matrices::generated_matrices;
 use crate::residues::lists_residue;
 use crate::translations::listed_lattice;
 use fractions::Part;
@@ -34,6 +39,9 @@ pub struct Group {
 
 impl Group {
     ghost use Rattle.closure.specs.declared.group_error.GroupError.TheVariants.{NoMemory};
+    ghost use Rattle.closure.specs.declared.generated_error.GeneratedError.TheVariants.{NoMemory as NothingLeft};
+    ghost use Rattle.closure.specs.Derived.{GeneratesWithinLimits, IsGeneratedError};
+    ghost use Rattle.closure.specs.Generated.{IsDerivedListing, IsGenerated};
     ghost use Rattle.closure.specs.GroupErrors.{IsGroupError, IsWithinLimits};
     ghost use Rattle.closure.specs.Fineness.{IsTooFine};
     ghost use Rattle.closure.specs.Groups.{group_listing, lattice_of, IsGroupOf};
@@ -62,6 +70,36 @@ impl Group {
         let ops = first_operations(alloc, &lattice, &listed)?;
         let at_home = homes(alloc, &lattice, &ops)?;
         check_group_by_homes(&lattice, &ops, &at_home)?;
+        Ok(Group { ops, lattice })
+    }
+
+    /// The group that the listed operations generate, with the translations by cell edges and centring vectors.
+    ///
+    /// The motions are small, with matrix entries at most 9 in size, and the centring vectors have entries of at most
+    /// 2^40 parts. The operations of the group have one for each matrix, the identity first and the others with the
+    /// lexicographically greatest matrix first, each with the lexicographically least translation from 0 to below
+    /// [`UNIT`](fractions::UNIT).
+    ///
+    /// The error is the first that stands in [`GeneratedError`], and it comes exactly where it says.
+    pub fn generated(alloc: Global, listed: Listed) -> Result<Group, GeneratedError>
+        requires { IsListedSmall 9 listed }
+        ensures limits { IfOk result (λ _. GeneratesWithinLimits (listing_of listed)) }
+        ensures listing { IfOk result (λ group. IsDerivedListing (listing_of listed) (group_listing group)) }
+        ensures members { IfOk result (λ group. (m : MotionOfSpace)
+            → IsGenerated (listing_of listed) m ↔ IsMember (group_listing group) m) }
+        ensures accepted { GeneratesWithinLimits (listing_of listed) → IfErr result (λ error. error ≡ NothingLeft) }
+        ensures refused { IfErr result (IsGeneratedError (listing_of listed)) }
+    {
+        let given = listed.ops.len();
+        if given > MAX_OPERATIONS {
+            return Err(GeneratedError::TooMany(given));
+        }
+        if let Some(i) = first_singular(&listed.ops) {
+            return Err(GeneratedError::NoInverse(i));
+        }
+        let list = generated_matrices(alloc, &listed)?;
+        let lattice = generated_lattice(alloc, &list, &listed)?;
+        let ops = in_order(alloc, &lattice, &list)?;
         Ok(Group { ops, lattice })
     }
 

@@ -2,8 +2,16 @@
 //
 // Promises to the crates above: a `Lattice` has exactly the residues of the lattice that its vectors make, and a
 // `Group` is a group modulo its lattice, made exactly from the lists that are one, and else the first cause is named.
+// `Group::generated` makes the group that listed operations generate, with one operation for each of its matrices, in
+// order; or it names the first cause why there is none.
 #![tactic(auto)]
 
+mod derived;
+mod generated_error;
+mod generated_lattice;
+mod generated_laws;
+#[cfg(test)]
+mod generated_tests;
 mod group;
 mod group_error;
 mod group_shifts;
@@ -11,15 +19,21 @@ mod lattice;
 mod lattice_fault;
 mod laws;
 mod limits;
+mod matrices;
 mod residues;
 mod shifts;
 #[cfg(test)]
 mod tests;
 mod translations;
 
+pub use generated_error::GeneratedError;
+pub use generated_laws::{
+    derived_listing, generated_by_single_shifts, generated_is_group, generated_translations,
+    group_of_derived_listing, no_generated_and_error, one_derived_list, one_generated_error,
+};
 pub use group::Group;
 pub use group_error::GroupError;
 pub use lattice::Lattice;
 pub use lattice_fault::LatticeFault;
 pub use laws::{no_group_and_error, one_group_error, own_group};
-pub use limits::{MAX_ENTRY, MAX_OPERATIONS, MAX_RESIDUES};
+pub use limits::{MAX_ENTRY, MAX_MATRICES, MAX_OPERATIONS, MAX_RESIDUES};

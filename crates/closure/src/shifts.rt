@@ -2,7 +2,7 @@
 ghost use Rattle.std.specs.Prelude.{◌≡◌, ◌↔◌, ◌^◌, All, IsTrue, map, pos};
 ghost use Rattle.quotient.specs.Kind.{Keeps};
 ghost use Rattle.symmetry.specs.Sizes.{IsSmall, IsVectorWithin};
-ghost use Rattle.symmetry.specs.Vectors.{image};
+ghost use Rattle.symmetry.specs.Vectors.{image, origin};
 ghost use Rattle.motions.specs.Views.{motion_of, parts};
 ghost use Rattle.closure.specs.Residues.{has_residue, is_before, IsResidue};
 ghost use Rattle.closure.specs.Lattices.{first_with, lattice_home, IsHome, IsLatticeShift};
@@ -56,6 +56,23 @@ impl Quotient for Lattice {
     ghost home_is_same = { home_is_same_lem };
 
     ghost homes = { homes_lem };
+}
+
+/// Whether two motions have one matrix.
+pub(crate) fn has_same_matrix(m: &Motion3, n: &Motion3) -> bool
+    ensures { IsTrue result ↔ ((motion_of m.now).matrix ≡ (motion_of n.now).matrix) }
+{
+    linear_part(m) == linear_part(n)
+}
+
+/// The motion with the same matrix that leaves the origin where it is.
+fn linear_part(m: &Motion3) -> Motion3
+    ensures { motion_of result ≡ record { matrix = (motion_of m.now).matrix; shift = origin } }
+{
+    Motion3 {
+        w: m.w,
+        t: [Part(0), Part(0), Part(0)],
+    }
 }
 
 /// Whether the matrix of a motion takes each residue to a vector whose residue is listed.

@@ -21,7 +21,7 @@ abbrev pub modulo : Lattice → Kind
 modulo lattice = kind_of motion_of followed_by identity (IsLatticeShift lattice)
 
 -- a translation after a motion
-followed_by-translation : (m : Motion) (v : Vector) → followed_by m (translation v) ≡ record { matrix = m.matrix; shift = plus m.shift v }
+pub followed_by-translation : (m : Motion) (v : Vector) → followed_by m (translation v) ≡ record { matrix = m.matrix; shift = plus m.shift v }
 followed_by-translation m v = motion_path (product-unit_left m.matrix) (ap (λ u. plus u v) (image-unit m.shift))
 
 -- the code's form of a translation
