@@ -6,7 +6,8 @@ use Rattle.closure.specs.Generated.{IsDerivedListing}
 use Rattle.closure.specs.GroupErrors.{IsWithinLimits}
 use Rattle.closure.specs.Groups.{group_listing, IsGroupOf}
 use Rattle.closure.specs.declared.group.Group.{Group}
-use Rattle.closure.proofs.OneGroup.{group_of_derived, derived_within}
+use Rattle.closure.proofs.DerivedListings.{derived_within}
+use Rattle.closure.proofs.OneGroup.{group_of_derived}
 use Rattle.triplets.specs.Texts.{IsGroupText}
 use Rattle.triplets.proofs.OneFault.{one_kind, one_listing}
 use Rattle.requests.specs.Inputs.{IsGeneratedBy, IsGroupOfInput, IsShort, ListsGroup}
@@ -33,7 +34,7 @@ module _ (input : List ℕ) (group : Group) (short : IsShort input) where
       record {
         is_text = inr (record { generators = g; is_text = text; limits = limits; derived = derived });
         within = derived_within g (group_listing group) limits derived;
-        is_group = let of = group_of_derived g group limits derived (group_listing group) derived in of.is_group;
+        is_group = let of = group_of_derived g (group_listing group) group limits.invertible derived derived in of.is_group;
       },
     );
     is_of = λ h lists. go h lists.is_text;
@@ -41,4 +42,6 @@ module _ (input : List ℕ) (group : Group) (short : IsShort input) where
     where
       go : (h : Listing) → IsGroupText input false h ⊎ IsGeneratedBy input h → IsGroupOf h group
       go h (inl text') = let same = one_kind input false true h g text' text in absurd cc
-      go h (inr of) = group_of_derived g group limits derived h (subst (λ (l : Listing). IsDerivedListing l h) (one_listing input true of.generators g of.is_text text) of.derived)
+      go h (inr of) =
+          group_of_derived g h group limits.invertible
+          (subst (λ (l : Listing). IsDerivedListing l h) (one_listing input true of.generators g of.is_text text) of.derived) derived
