@@ -1,5 +1,5 @@
 -- What is generated is one group: its listings are alike, and a Group with such a listing is the group of each of them.
-use Rattle.std.proofs.Common.{◌≡◌, sym, subst, ◌∙◌, List}
+use Rattle.std.proofs.Common.{◌≡◌, sym, subst, List}
 use Rattle.quotient.specs.Lists.{AreFirst}
 use Rattle.symmetry.specs.Motions.{Motion}
 use Rattle.symmetry.specs.Groups.{Listing, SameModulo}
