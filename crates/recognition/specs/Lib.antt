@@ -4,5 +4,13 @@ pub mod Classes
 pub mod Grid
 pub mod Listed
 pub mod Order
+pub mod RationalRods
+pub mod RodChanges
+pub mod RodKinds
+pub mod RodOrder
+pub mod RodOrigins
+pub mod RodSearch
+pub mod RodTests
+pub mod RodTypes
 pub mod Search
 pub mod Sections

@@ -1,0 +1,131 @@
+-- The operations of a rod type are what the table of types lists, but for whole multiples of the axis.
+use Rattle.std.proofs.Common.{◌≡◌, ℕ, ◌<◌, ℤ, pos, ◌+ℤ◌, ◌-ℤ◌, ◌*ℤ◌, refl, sym, ◌∙◌, ap, subst, List, length, map, slice_index_or, [], ◌∷◌}
+use Rattle.std.specs.Prelude.{All, Contains}
+use Rattle.std.proofs.lemmas.List.{get_or-map, get_or_default, length-map}
+use Rattle.fractions.specs.declared.part.TheConstants.{UNIT}
+use Rattle.integers.proofs.Solver.{Expr.{var, num, ◌⊕◌, ◌⊝◌, ◌⊗◌}, linear, given}
+use Rattle.quotient.specs.Kind.{Kind, IsSame}
+use Rattle.motions.specs.declared.rod.RodMotion.{RodMotion}
+use Rattle.motions.specs.PlaneMatrices.{Matrix2}
+use Rattle.motions.specs.RodMotions.{IsRodSmall, RodOperation, rod_of}
+use Rattle.line_types.specs.declared.rods.RodType.{RodType}
+use Rattle.line_types.specs.Lines.{modulo_lattice}
+use Rattle.line_types.specs.Rods.{rod_line, IsRodType}
+use Rattle.line_types.specs.Laws.RodLaws.{rod_line_laws}
+use Rattle.recognition.specs.RationalRods.{RationalRod, IsListedRod, multiple2}
+use Rattle.recognition.specs.RodChanges.{CarriesOnto, Carries, grid_part}
+use Rattle.recognition.specs.RodSearch.{IsFirstMatrix, IsOfNoMatrix}
+use Rattle.recognition.specs.RodTests.{IsSmallRod}
+use Rattle.recognition.specs.RodTypes.{HasChangeOnto, IsOfRodType}
+
+abbrev some_motion : RodMotion
+some_motion = rod_line.translation (pos 0)
+
+abbrev K : Kind
+K = modulo_lattice rod_line
+
+-- two operations of rods that are the same modulo the axis
+pub same_rod : (m n : RodOperation) → IsSame K m n → (k : ℤ) × (m ≡ record n { shift = n.shift +ℤ k *ℤ UNIT })
+same_rod m n same =
+    let (s, lattice, e) = same.is_shift in (
+      lattice.times,
+      same.is ∙ ap (rod_line.then n) (sym e ∙ lattice.is) ∙ rod_line_laws.after n (lattice.times *ℤ UNIT),
+    )
+
+pub moved_same : (n : RodOperation) (k : ℤ) → IsSame K (record n { shift = n.shift +ℤ k *ℤ UNIT }) n
+moved_same n k = record {
+  shift = rod_of (rod_line.translation (k *ℤ UNIT));
+  is_shift = (rod_line.translation (k *ℤ UNIT), record { times = k; is = refl }, refl);
+  is = sym (rod_line_laws.after n (k *ℤ UNIT));
+}
+
+-- a motion of the list is an operation of its meanings, and the other way round
+pub contains_rod : (ops : List RodMotion) (n : RodMotion) → Contains ops n → Contains (map rod_of ops) (rod_of n)
+contains_rod ops n (k, within, is) =
+    (k, subst (λ l. k < l) (sym (length-map ops rod_of)) within, get_or-map rod_of ops k n (rod_of n) within ∙ ap rod_of is)
+
+pub motion_of_rod : (ops : List RodMotion) (o : RodOperation) → Contains (map rod_of ops) o → (n : RodMotion) × Contains ops n × (rod_of n ≡ o)
+motion_of_rod ops o (k, within, is) =
+    let below : k < length ops = subst (λ l. k < l) (length-map ops rod_of) within in
+    let n = slice_index_or ops k some_motion in
+    (n, (k, below, get_or_default ops k n some_motion below), sym (get_or-map rod_of ops k some_motion o below) ∙ is)
+
+pub to_list : (c s t d k : ℤ) → t *ℤ c ≡ (s +ℤ k *ℤ c) *ℤ d → t *ℤ c -ℤ s *ℤ d ≡ k *ℤ (d *ℤ c)
+to_list c s t d k e =
+    linear (c ∷ s ∷ t ∷ d ∷ k ∷ []) (var 2 ⊗ var 0 ⊝ var 1 ⊗ var 3) (var 4 ⊗ (var 3 ⊗ var 0))
+    (given (num (pos 1)) (var 2 ⊗ var 0) ((var 1 ⊕ var 4 ⊗ var 0) ⊗ var 3) ∷ []) tt (e, tt)
+
+pub from_list : (c s t d k : ℤ) → t *ℤ c -ℤ s *ℤ d ≡ k *ℤ (d *ℤ c) → t *ℤ c ≡ (s +ℤ k *ℤ c) *ℤ d
+from_list c s t d k e =
+    linear (c ∷ s ∷ t ∷ d ∷ k ∷ []) (var 2 ⊗ var 0) ((var 1 ⊕ var 4 ⊗ var 0) ⊗ var 3)
+    (given (num (pos 1)) (var 2 ⊗ var 0 ⊝ var 1 ⊗ var 3) (var 4 ⊗ (var 3 ⊗ var 0)) ∷ []) tt (e, tt)
+
+module _ (n : ℕ) (t : RodType) (is : IsRodType n t) where
+  abbrev ops : List RodMotion
+  ops = t.ops.now
+
+  to_listed : (op : RationalRod) → IsOfRodType n op → IsListedRod ops op
+  to_listed op h =
+      let listed = is.closure.covers h.operation h.product in
+      let (m, in_ops, e) = motion_of_rod ops listed.of listed.listed in
+      let (k, same) = same_rod h.operation listed.of listed.same in
+      let o : h.operation ≡ record (rod_of m) { shift = (rod_of m).shift +ℤ k *ℤ UNIT } = same ∙ ap (λ (o : RodOperation). record o { shift = o.shift +ℤ k *ℤ UNIT }) (sym e) in
+      record {
+        motion = m;
+        listed = in_ops;
+        matrix = h.matrix ∙ ap (λ (o : RodOperation). multiple2 op.over o.matrix) o;
+        along = h.along ∙ ap (λ (o : RodOperation). o.along) o;
+        shift = (k, to_list UNIT (rod_of m).shift op.shift.num op.shift.den k (h.shift ∙ ap (λ (o : RodOperation). o.shift *ℤ op.shift.den) o));
+      }
+
+  from_listed : (op : RationalRod) → IsListedRod ops op → IsOfRodType n op
+  from_listed op h =
+      let (k, e) = h.shift in
+      let m = rod_of h.motion in
+      record {
+        operation = record m { shift = m.shift +ℤ k *ℤ UNIT };
+        product = is.closure.within (record m { shift = m.shift +ℤ k *ℤ UNIT })
+            (record { of = m; listed = contains_rod ops h.motion h.listed; same = moved_same m k });
+        matrix = h.matrix;
+        along = h.along;
+        shift = from_list UNIT m.shift op.shift.num op.shift.den k e;
+      }
+
+  module _ (section : List RodMotion) (p : Matrix2) (z : ℕ) where
+    pub carries_type : Carries section ops p z → CarriesOnto (IsListedRod section) (IsOfRodType n) p (grid_part z)
+    carries_type h = record {
+      crossed = h.crossed;
+      operations = λ op rational. (
+        λ in_it. let (like, high, i, c) = (h.operations op rational).0 in_it in (like, high, from_listed like i, c),
+        λ (like, high, i, c). (h.operations op rational).1 (like, high, to_listed like i, c),
+      );
+    }
+
+    pub carries_list : CarriesOnto (IsListedRod section) (IsOfRodType n) p (grid_part z) → Carries section ops p z
+    carries_list h = record {
+      crossed = h.crossed;
+      operations = λ op rational. (
+        λ in_it. let (like, high, i, c) = (h.operations op rational).0 in_it in (like, high, to_listed like i, c),
+        λ (like, high, i, c). (h.operations op rational).1 (like, high, from_listed like i, c),
+      );
+    }
+
+  -- the listed operations of a type are small
+  pub small_ops : All IsSmallRod ops
+  small_ops k d within =
+      subst IsRodSmall (get_or-map rod_of ops k d (rod_of d) within) (is.small k (rod_of d) (subst (λ l. k < l) (sym (length-map ops rod_of)) within))
+
+  module _ (section : List RodMotion) where
+    pub of_no_matrix : IsOfNoMatrix (Carries section ops) → IsOfNoMatrix (HasChangeOnto section n)
+    of_no_matrix none q bounded v below h = none q bounded v below (carries_list section q v h)
+
+    pub of_first_matrix : (p : Matrix2) (z : ℕ) → IsFirstMatrix (Carries section ops) p z → IsFirstMatrix (HasChangeOnto section n) p z
+    of_first_matrix p z f = record {
+      bounded = f.bounded;
+      point = record {
+        within = f.point.within;
+        has = carries_type section p z f.point.has;
+        least = λ v less h. f.point.least v less (carries_list section p v h);
+      };
+      first = λ q bounded before v below h. f.first q bounded before v below (carries_list section q v h);
+    }
