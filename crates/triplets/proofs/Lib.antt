@@ -11,6 +11,7 @@ pub mod Bounds
 pub mod Sizes
 pub mod Ends
 pub mod LineBounds
+pub mod TextBounds
 pub mod TextRuns
 pub mod TextFacts
 pub mod LineBegun
@@ -21,6 +22,11 @@ pub mod LineKinds
 pub mod LinePlaces
 pub mod TextEnds
 pub mod TextShown
+pub mod Headings
+pub mod HeadingKinds
+pub mod FirstLines
+pub mod FirstTexts
+pub mod FirstShown
 pub mod Answered
 pub mod OneFault
 pub mod BegunRows

@@ -1,7 +1,8 @@
 -- The value of a good line, and the place of a bad one.
-use Rattle.std.proofs.Common.{◌≡◌, ℕ, ◌+◌, List, [], ◌∷◌, ◌++◌, length, take, Option, Some, Result, Ok, refl, sym, ◌∙◌, ap, subst, arith, append_assoc, length-append}
+use Rattle.std.proofs.Common.{◌≡◌, ℕ, ◌+◌, List, [], ◌∷◌, ◌++◌, length, take, drop, Option, Some, Result, Ok, refl, sym, ◌∙◌, ap, subst, arith, append_assoc, length-append}
 use Rattle.std.specs.Prelude.{slice_get}
 use Rattle.std.proofs.Math.Seq.{take-length, take-append_seam, take-append-add}
+use Rattle.std.proofs.lemmas.List.{take-append-drop}
 use Rattle.std.proofs.lemmas.Option.{slice_get_past}
 use Rattle.symmetry.specs.Groups.{Listing}
 use Rattle.triplets.specs.declared.fault.TextKind.{TextKind}
@@ -9,7 +10,8 @@ use Rattle.triplets.specs.declared.fault.TextKind.TheVariants as kinds
 use Rattle.triplets.specs.Marks.{mark}
 use Rattle.triplets.specs.Lines.{IsLine}
 use Rattle.triplets.specs.LineReading.{LineState, line_start, line_step, line_advance, line_run, line_value}
-use Rattle.triplets.specs.LineFaults.{IsGoodLine, IsPrefixOfGoodLine, IsLineFault, HasLineKindAt}
+use Rattle.triplets.specs.Places.{IsPrefixIn}
+use Rattle.triplets.specs.LineFaults.{IsGoodLine, IsPrefixOfGoodLine, IsFaultIn, IsLineFault, HasLineKind, HasLineKindAt}
 use Rattle.triplets.proofs.LineBegun.{line_going, line_stopped, lists, lists_nothing, line_run-append, run_line_stopped}
 use Rattle.triplets.proofs.LineEnds.{is_line_prefix}
 use Rattle.triplets.proofs.LineRuns.{is_line_read}
@@ -28,8 +30,9 @@ no_line_prefix bytes k e h =
     let z : line_going r.last ≡ line_stopped k = sym r.run_is ∙ (line_run-append (Ok line_start) bytes h.0 ∙ g) in
     cc
 
-pub good_line_prefix : (bytes rest : List ℕ) → IsGoodLine (bytes ++ rest) → IsPrefixOfGoodLine bytes
-good_line_prefix bytes rest h = (rest, h)
+-- a shorter beginning of a good text is one
+pub shorter : (Good : List ℕ → Type 0) (l : List ℕ) (m : ℕ) → IsPrefixIn Good l → IsPrefixIn Good (take m l)
+shorter Good l m h = (drop m l ++ h.0, subst Good (ap (λ (x : List ℕ). x ++ h.0) (sym (take-append-drop m l)) ∙ append_assoc (take m l) (drop m l) h.0) h.1)
 
 pub not_good_line : (bytes : List ℕ) (s : LineState) → line_run (Ok line_start) bytes ≡ line_going s → line_value s ≡ lists_nothing → IsGoodLine bytes → ⊥
 not_good_line bytes s w v h =
@@ -47,16 +50,19 @@ one_line_value bytes a b h i =
     cc
 
 -- the fault at the end of a line
-pub end_fault : (bytes : List ℕ) (s : LineState) → line_run (Ok line_start) bytes ≡ line_going s → line_value s ≡ lists_nothing → IsLineFault bytes (length bytes) kinds.MissingPart
-end_fault bytes s w v = record {
+pub end_from : (Good : List ℕ → Type 0) (bytes : List ℕ) → (Good bytes → ⊥) → IsPrefixIn Good bytes → IsFaultIn Good bytes (length bytes) kinds.MissingPart
+end_from Good bytes good prefix = record {
   place = record {
     within = omega arith;
-    good = not_good_line bytes s w v;
-    prefix = subst IsPrefixOfGoodLine (sym (take-length bytes)) (is_line_prefix bytes s w);
+    good = good;
+    prefix = subst (IsPrefixIn Good) (sym (take-length bytes)) prefix;
     here = λ z. absurd (omega arith);
   };
   kind_is = subst (λ x. HasLineKindAt (take (length bytes) bytes) x kinds.MissingPart) (sym (slice_get_past bytes (length bytes) (omega arith))) refl;
 }
+
+pub end_fault : (bytes : List ℕ) (s : LineState) → line_run (Ok line_start) bytes ≡ line_going s → line_value s ≡ lists_nothing → IsLineFault bytes (length bytes) kinds.MissingPart
+end_fault bytes s w v = end_from IsGoodLine bytes (not_good_line bytes s w v) (is_line_prefix bytes s w)
 
 pub take_front : (xs ys : List ℕ) → take (length xs) (xs ++ ys) ≡ xs
 take_front xs ys = take-append_seam xs ys
@@ -72,16 +78,18 @@ get_front [] ys b = refl
 get_front (x ∷ xs) ys b = get_front xs ys b
 
 -- the fault at a byte
+pub fault_from : (Good : List ℕ → Type 0) (before rest : List ℕ) (b : ℕ) (k : TextKind) → IsPrefixIn Good before → (IsPrefixIn Good (before ++ b ∷ []) → ⊥) → HasLineKind before b k → IsFaultIn Good (before ++ b ∷ rest) (length before) k
+fault_from Good before rest b k prefix dead kind = record {
+  place = record {
+    within = omega (arith, length-append before (b ∷ rest));
+    good = λ h. dead (rest, subst Good (sym (append_assoc before (b ∷ []) rest)) h);
+    prefix = subst (IsPrefixIn Good) (sym (take_front before (b ∷ rest))) prefix;
+    here = λ z h. dead (subst (IsPrefixIn Good) (take_front_one before rest b) h);
+  };
+  kind_is = subst (λ x. HasLineKindAt x (slice_get (before ++ b ∷ rest) (length before)) k) (sym (take_front before (b ∷ rest)))
+      (subst (λ x. HasLineKindAt before x k) (sym (get_front before rest b)) kind);
+}
+
 pub byte_fault : (before rest : List ℕ) (b : ℕ) (s : LineState) (k : TextKind) → line_run (Ok line_start) before ≡ line_going s → line_step (mark b) s ≡ line_stopped k → IsLineFault (before ++ b ∷ rest) (length before) k
 byte_fault before rest b s k w e =
-    let dead = no_line_prefix (before ++ b ∷ []) k (line_more before b s (line_stopped k) w e) in
-    record {
-      place = record {
-        within = omega (arith, length-append before (b ∷ rest));
-        good = λ h. dead (rest, subst IsGoodLine (sym (append_assoc before (b ∷ []) rest)) h);
-        prefix = subst IsPrefixOfGoodLine (sym (take_front before (b ∷ rest))) (is_line_prefix before s w);
-        here = λ z h. dead (subst IsPrefixOfGoodLine (take_front_one before rest b) h);
-      };
-      kind_is = subst (λ x. HasLineKindAt x (slice_get (before ++ b ∷ rest) (length before)) k) (sym (take_front before (b ∷ rest)))
-          (subst (λ x. HasLineKindAt before x k) (sym (get_front before rest b)) (line_kind before b s k w e));
-    }
+    fault_from IsGoodLine before rest b k (is_line_prefix before s w) (no_line_prefix (before ++ b ∷ []) k (line_more before b s (line_stopped k) w e)) (line_kind before b s k w e)

@@ -1,32 +1,41 @@
 -- A text lists one thing or has one fault.
-use Rattle.std.proofs.Common.{◌≡◌, ℕ, zero, suc, ◌+◌, ◌<◌, List, [], ◌∷◌, take, Option, Some, None, Result, Ok, refl, sym, ◌∙◌, ap, subst, arith, inl, inr}
+use Rattle.std.proofs.Common.{◌≡◌, ℕ, zero, suc, ◌+◌, ◌<◌, Bool, List, [], ◌∷◌, take, Option, Some, None, Result, Ok, refl, sym, ◌∙◌, ap, subst, arith, inl, inr}
 use Rattle.std.specs.Prelude.{slice_get}
 use Rattle.std.proofs.lemmas.List.{take-take}
 use Rattle.symmetry.specs.Groups.{Listing}
 use Rattle.triplets.specs.declared.fault.TextKind.{TextKind}
 use Rattle.triplets.specs.Faults.{TableRow}
-use Rattle.triplets.specs.LineFaults.{IsPrefixOfGoodLine, IsLinePlace, HasLineKind, HasLineKindAt, IsLineFault}
+use Rattle.triplets.specs.Places.{IsPrefixIn, IsPlaceIn}
+use Rattle.triplets.specs.LineFaults.{IsGoodLine, IsGoodFirstLine, HasLineKind, HasLineKindAt, IsFaultIn}
 use Rattle.triplets.specs.Texts.{lines_of, IsGroupText, IsFirstBad, Fault, IsTextFault}
-use Rattle.triplets.proofs.TextShown.{shorter}
-use Rattle.triplets.proofs.Answered.{only_group, bad_lines}
+use Rattle.triplets.specs.TextReading.{Said}
+use Rattle.triplets.proofs.LinePlaces.{shorter}
+use Rattle.triplets.proofs.TextEnds.{make_said}
+use Rattle.triplets.proofs.Answered.{only_group, bad_text_lines}
 
-abbrev given : Listing → Result Listing Fault
-given g = Ok g
+said_one : (a a' : Said) → (let x : Result Said Fault = Ok a in x) ≡ Ok a' → a ≡ a'
+said_one a a' e = cc
 
-pub one_listing : (text : List ℕ) (g g' : Listing) → IsGroupText text g → IsGroupText text g' → g ≡ g'
-one_listing text g g' h h' = let e : given g ≡ given g' = sym (only_group text g h) ∙ only_group text g' h' in cc
+one_said : (text : List ℕ) (b b' : Bool) (g g' : Listing) → IsGroupText text b g → IsGroupText text b' g' → make_said b g ≡ make_said b' g'
+one_said text b b' g g' h h' = said_one (make_said b g) (make_said b' g') (sym (only_group text b g h) ∙ only_group text b' g' h')
+
+pub one_flag : (text : List ℕ) (b b' : Bool) (g g' : Listing) → IsGroupText text b g → IsGroupText text b' g' → b ≡ b'
+one_flag text b b' g g' h h' = ap (λ (x : Said). x.generated) (one_said text b b' g g' h h')
+
+pub one_listing : (text : List ℕ) (b b' : Bool) (g g' : Listing) → IsGroupText text b g → IsGroupText text b' g' → g ≡ g'
+one_listing text b b' g g' h h' = ap (λ (x : Said). x.listing) (one_said text b b' g g' h h')
 
 -- ---- the place
 
 -- the beginning of a good line stops before the place of its fault
-not_behind : (l : List ℕ) (m n : ℕ) → IsLinePlace l m → IsLinePlace l n → m < n → ⊥
-not_behind l m n h h' lt =
-    h.here (omega (arith, h'.within)) (subst IsPrefixOfGoodLine (take-take (m + 1) n l (omega arith)) (shorter (take n l) (m + 1) h'.prefix))
+not_behind : (Good : List ℕ → Type 0) (l : List ℕ) (m n : ℕ) → IsPlaceIn Good l m → IsPlaceIn Good l n → m < n → ⊥
+not_behind Good l m n h h' lt =
+    h.here (omega (arith, h'.within)) (subst (IsPrefixIn Good) (take-take (m + 1) n l (omega arith)) (shorter Good (take n l) (m + 1) h'.prefix))
 
-one_place : (l : List ℕ) (m n : ℕ) → IsLinePlace l m → IsLinePlace l n → m ≡ n
-one_place l m n h h' =
-    let a : m < n → ⊥ = not_behind l m n h h' in
-    let b : n < m → ⊥ = not_behind l n m h' h in
+one_place : (Good : List ℕ → Type 0) (l : List ℕ) (m n : ℕ) → IsPlaceIn Good l m → IsPlaceIn Good l n → m ≡ n
+one_place Good l m n h h' =
+    let a : m < n → ⊥ = not_behind Good l m n h h' in
+    let b : n < m → ⊥ = not_behind Good l n m h' h in
     omega arith
 
 -- ---- the kind
@@ -47,29 +56,29 @@ one_kind_at before (Some b) k k' h h' = one_line_kind before b k k' h h'
 
 -- ---- the first bad line
 
-one_line_fault : (l : List ℕ) (m n : ℕ) (k k' : TextKind) → IsLineFault l m k → IsLineFault l n k' → (m ≡ n) × (k ≡ k')
-one_line_fault l m n k k' h h' =
-    let e = one_place l m n h.place h'.place in
+one_line_fault : (Good : List ℕ → Type 0) (l : List ℕ) (m n : ℕ) (k k' : TextKind) → IsFaultIn Good l m k → IsFaultIn Good l n k' → (m ≡ n) × (k ≡ k')
+one_line_fault Good l m n k k' h h' =
+    let e = one_place Good l m n h.place h'.place in
     (e, one_kind_at (take m l) (slice_get l m) k k' h.kind_is (subst (λ i. HasLineKindAt (take i l) (slice_get l i) k') (sym e) h'.kind_is))
 
-one_bad : (ls : List (List ℕ)) (i j m n : ℕ) (k k' : TextKind) → IsFirstBad ls i m k → IsFirstBad ls j n k' → (i ≡ j) × ((m ≡ n) × (k ≡ k'))
-one_bad [] i j m n k k' h h' = absurd h
-one_bad (l ∷ ls) zero zero m n k k' h h' = (refl, one_line_fault l m n k k' h h')
-one_bad (l ∷ ls) zero (suc j) m n k k' h h' = absurd (h.place.good h'.0)
-one_bad (l ∷ ls) (suc i) zero m n k k' h h' = absurd (h'.place.good h.0)
-one_bad (l ∷ ls) (suc i) (suc j) m n k k' h h' = let e = one_bad ls i j m n k k' h.1 h'.1 in (ap suc e.0, e.1)
+one_bad : (Good : List ℕ → Type 0) (ls : List (List ℕ)) (i j m n : ℕ) (k k' : TextKind) → IsFirstBad Good ls i m k → IsFirstBad Good ls j n k' → (i ≡ j) × ((m ≡ n) × (k ≡ k'))
+one_bad Good [] i j m n k k' h h' = absurd h
+one_bad Good (l ∷ ls) zero zero m n k k' h h' = (refl, one_line_fault Good l m n k k' h h')
+one_bad Good (l ∷ ls) zero (suc j) m n k k' h h' = absurd (h.place.good h'.0)
+one_bad Good (l ∷ ls) (suc i) zero m n k k' h h' = absurd (h'.place.good h.0)
+one_bad Good (l ∷ ls) (suc i) (suc j) m n k k' h h' = let e = one_bad IsGoodLine ls i j m n k k' h.1 h'.1 in (ap suc e.0, e.1)
 
 abbrev fault_with : ℕ → ℕ → TextKind → Fault
 fault_with line column kind = record { line = line; column = column; kind = kind }
 
 pub one_fault : (text : List ℕ) (f f' : Fault) → IsTextFault text f → IsTextFault text f' → f ≡ f'
 one_fault text f f' h h' =
-    let e = one_bad (lines_of text) h.0 h'.0 h.1 h'.1 f.kind f'.kind h.4 h'.4 in
+    let e = one_bad IsGoodFirstLine (lines_of text) h.0 h'.0 h.1 h'.1 f.kind f'.kind h.4 h'.4 in
     let line : f.line ≡ f'.line = cc in
     let column : f.column ≡ f'.column = cc in
     let kind : f.kind ≡ f'.kind = e.1.1 in
     let same : fault_with f.line f.column f.kind ≡ fault_with f'.line f'.column f'.kind = cc in
     same
 
-pub no_listing_and_fault : (text : List ℕ) (g : Listing) (f : Fault) → IsTextFault text f → IsGroupText text g → ⊥
-no_listing_and_fault text g f h h' = bad_lines (lines_of text) h.0 h.1 f.kind g h.4 h'
+pub no_listing_and_fault : (text : List ℕ) (b : Bool) (g : Listing) (f : Fault) → IsTextFault text f → IsGroupText text b g → ⊥
+no_listing_and_fault text b g f h h' = bad_text_lines b (lines_of text) h.0 h.1 f.kind g h.4 h'

@@ -16,7 +16,7 @@ use Rattle.triplets.specs.Rows.{signed, with_entry, with_shift, zero_row, matrix
 use Rattle.triplets.specs.Denominators.{unit, parts as parts_over}
 use Rattle.triplets.specs.Grammar.{Digit, digit_value, Numerator, decimal, numerator_value, Term, letter, multiple, whole, fraction, term_text, with_term, Lead, bare, sign, more, lead_text, lead_row, lead_sign, sign_byte, blanks_text, Written, part_text, part_row, IsTriplet}
 use Rattle.triplets.specs.Lines.{coordinate_text, Centring, centring_text, centring_value, Centrings, one, further, centrings_text, centrings_value, Form, empty, operation, row, form_text, form_value, label_text, comment_text, IsLine}
-use Rattle.triplets.specs.Texts.{lines_of, with_front, listed_then, nothing_listed, AreLines, IsGroupText}
+use Rattle.triplets.specs.Texts.{lines_of, with_front, listed_then, nothing_listed, AreLines, AreTextLines, IsGroupText}
 use Rattle.motions.specs.ListedSizes.{IsSmallWithin, IsListedSmall}
 use Rattle.motions.specs.declared.listed.Listed.{Listed}
 use Rattle.motions.specs.Views.{motion_of, parts, listing_of}
@@ -204,5 +204,11 @@ listed_small l h = record {
   centrings = all_of_map (IsVectorWithin (2 ^ 40)) (λ v. parts v) l.centrings.items h.centrings;
 }
 
-pub text_small : (bytes : List ℕ) (g : Listing) → length bytes ≤ 16777216 → IsGroupText bytes g → IsListingSmall g
-text_small bytes g h t = lines_small (lines_of bytes) g (length bytes) h (lines_short bytes) t
+text_lines_small : (b : Bool) (ls : List (List ℕ)) (g : Listing) (n : ℕ) → n ≤ 16777216 → AreShort n ls → AreTextLines b ls g → IsListingSmall g
+unfolding AreShort
+text_lines_small true [] g n h i e = absurd e
+text_lines_small true (l ∷ ls) g n h i e = lines_small ls g n h i.1 e.1
+text_lines_small false ls g n h i e = lines_small ls g n h i e
+
+pub text_small : (bytes : List ℕ) (b : Bool) (g : Listing) → length bytes ≤ 16777216 → IsGroupText bytes b g → IsListingSmall g
+text_small bytes b g h t = text_lines_small b (lines_of bytes) g (length bytes) h (lines_short bytes) t

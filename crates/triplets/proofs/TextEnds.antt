@@ -15,26 +15,35 @@ use Rattle.triplets.specs.declared.line.LinePlace.TheVariants as places
 use Rattle.triplets.specs.Marks.{mark}
 use Rattle.triplets.specs.Lines.{IsLine}
 use Rattle.triplets.specs.LineReading.{LineState, line_start, line_step, line_run, place_step, completed, with_vector, ending, operations_of, at_place, listing_by}
-use Rattle.triplets.specs.LineFaults.{IsLineFault}
+use Rattle.triplets.specs.LineFaults.{IsGoodLine, IsLineFault}
+use Rattle.triplets.specs.declared.place.TextPlace.{TextPlace}
+use Rattle.triplets.specs.declared.place.TextPlace.TheVariants as texts
+use Rattle.triplets.specs.HeadingReading.{in_line, text_step, text_completed, text_ending, is_heading}
 use Rattle.triplets.specs.Texts.{with_front, lines_of, nothing_listed, listed_then, AreLines, IsFirstBad, Fault}
-use Rattle.triplets.specs.TextReading.{Kept, kept_start, moved, new_line, ended, finished, fault_here, with_operation, text_run, outcome, group_of}
+use Rattle.triplets.specs.TextReading.{Said, Kept, said_vector, moved, new_line, ended, fault_here, with_operation, text_run, outcome}
 use Rattle.triplets.proofs.TextRuns.{run_faulty}
 use Rattle.triplets.proofs.LineBegun.{line_going, line_stopped}
 use Rattle.triplets.proofs.LineEnds.{is_line}
 use Rattle.triplets.proofs.LinePlaces.{line_more, end_fault, byte_fault}
 
--- what a text gives whose lines before list this
-abbrev pub IsOutcome : Result Listing Fault → Listing → ℕ → List (List ℕ) → Type 0
-IsOutcome (Ok listing) base n lines = (a : Listing) × AreLines lines a × (listing ≡ listed_then base a)
-IsOutcome (Err f) base n lines = (i : ℕ) × (before : ℕ) × (f.line ≡ n + i) × (f.column ≡ before + 1) × IsFirstBad lines i before f.kind
+-- what is said with these lines behind
+abbrev pub said_then : Said → Listing → Said
+said_then base a = record { generated = base.generated; listing = listed_then base.listing a }
 
--- what is kept in a line: the lines before list base, and the line lists its vectors so far
-pub record InLine (k : Kept) (base : Listing) (n : ℕ) (before : List ℕ) (vs : List Vector) : Type 0 where
-  pub ops : k.listing.ops ≡ base.ops
-  pub centrings : k.listing.centrings ≡ base.centrings ++ vs
+-- what a text gives whose lines before say this
+abbrev pub IsOutcome : Result Said Fault → Said → ℕ → List (List ℕ) → Type 0
+IsOutcome (Ok said) base n lines = (a : Listing) × AreLines lines a × (said ≡ said_then base a)
+IsOutcome (Err f) base n lines = (i : ℕ) × (before : ℕ) × (f.line ≡ n + i) × (f.column ≡ before + 1) × IsFirstBad IsGoodLine lines i before f.kind
+
+-- what is kept in a line: the lines before say base, and the line lists its vectors so far
+pub record InLine (k : Kept) (here : LinePlace) (base : Said) (n : ℕ) (before : List ℕ) (vs : List Vector) : Type 0 where
+  pub place : k.place ≡ texts.Line here
+  pub generated : k.said.generated ≡ base.generated
+  pub ops : k.said.listing.ops ≡ base.listing.ops
+  pub centrings : k.said.listing.centrings ≡ base.listing.centrings ++ vs
   pub line : k.line ≡ n
   pub column : k.column ≡ length before + 1
-  pub run : line_run (Ok line_start) before ≡ line_going (record { place = k.place; vectors = vs })
+  pub run : line_run (Ok line_start) before ≡ line_going (record { place = here; vectors = vs })
 
 abbrev pub make_listing : List Motion → List Vector → Listing
 make_listing x y = record { ops = x; centrings = y }
@@ -42,9 +51,18 @@ make_listing x y = record { ops = x; centrings = y }
 pub listing_path : (a b : Listing) → a.ops ≡ b.ops → a.centrings ≡ b.centrings → a ≡ b
 listing_path a b e f = ap (λ (x : List Motion). make_listing x a.centrings) e ∙ ap (λ (y : List Vector). make_listing b.ops y) f
 
-outcome_more : (r : Result Listing Fault) (base a : Listing) (n : ℕ) (l : List ℕ) (lines : List (List ℕ)) → IsLine l a → IsOutcome r (listed_then base a) (n + 1) lines → IsOutcome r base n (l ∷ lines)
-outcome_more (Ok listing) base a n l lines h t =
-    (listed_then a t.0, (a, t.0, h, t.1, refl), t.2 ∙ listing_path _ _ (append_assoc base.ops a.ops t.0.ops) (append_assoc base.centrings a.centrings t.0.centrings))
+abbrev pub make_said : Bool → Listing → Said
+make_said b g = record { generated = b; listing = g }
+
+pub said_path : (a b : Said) → a.generated ≡ b.generated → a.listing ≡ b.listing → a ≡ b
+said_path a b e f = ap (λ (x : Bool). make_said x a.listing) e ∙ ap (make_said b.generated) f
+
+pub outcome_more : (r : Result Said Fault) (base : Said) (a : Listing) (n : ℕ) (l : List ℕ) (lines : List (List ℕ)) → IsLine l a → IsOutcome r (said_then base a) (n + 1) lines → IsOutcome r base n (l ∷ lines)
+outcome_more (Ok said) base a n l lines h t = (
+  listed_then a t.0,
+  (a, t.0, h, t.1, refl),
+  t.2 ∙ ap (make_said base.generated) (listing_path _ _ (append_assoc base.listing.ops a.ops t.0.ops) (append_assoc base.listing.centrings a.centrings t.0.centrings)),
+)
 outcome_more (Err f) base a n l lines h t = (t.0 + 1, t.1, omega (arith, t.2), t.3, rw add-one ((a, h), t.4))
 
 abbrev pub stepped : LinePlace → Result LinePlace TextKind
@@ -57,32 +75,36 @@ abbrev pub no_ending : Option (Option Motion3)
 no_ending = None
 
 -- the line ends
-pub a_line : (k : Kept) (base : Listing) (n : ℕ) (before : List ℕ) (vs : List Vector) (o : Option Motion3) → InLine k base n before vs → ending k.place ≡ an_ending o → IsLine before (make_listing (operations_of o) vs)
-a_line k base n before vs o h e = is_line before (record { place = k.place; vectors = vs }) (make_listing (operations_of o) vs) h.run (ap (λ (x : Option (Option Motion3)). listing_by x vs) e)
+pub a_line : (k : Kept) (here : LinePlace) (base : Said) (n : ℕ) (before : List ℕ) (vs : List Vector) (o : Option Motion3) → InLine k here base n before vs → ending here ≡ an_ending o → IsLine before (make_listing (operations_of o) vs)
+a_line k here base n before vs o h e = is_line before (record { place = here; vectors = vs }) (make_listing (operations_of o) vs) h.run (ap (λ (x : Option (Option Motion3)). listing_by x vs) e)
 
-pub bad_line : (k : Kept) (base : Listing) (n : ℕ) (before : List ℕ) (vs : List Vector) → InLine k base n before vs → ending k.place ≡ no_ending → IsLineFault (before ++ []) (length before) kinds.MissingPart
-bad_line k base n before vs h e =
+pub bad_line : (k : Kept) (here : LinePlace) (base : Said) (n : ℕ) (before : List ℕ) (vs : List Vector) → InLine k here base n before vs → ending here ≡ no_ending → IsLineFault (before ++ []) (length before) kinds.MissingPart
+bad_line k here base n before vs h e =
     subst (λ (x : List ℕ). IsLineFault x (length before) kinds.MissingPart) (sym (append-nil before))
-    (end_fault before (record { place = k.place; vectors = vs }) h.run (ap (λ (x : Option (Option Motion3)). listing_by x vs) e))
+    (end_fault before (record { place = here; vectors = vs }) h.run (ap (λ (x : Option (Option Motion3)). listing_by x vs) e))
 
-bad_end : (k : Kept) (base : Listing) (n : ℕ) (before : List ℕ) (vs : List Vector) (ls : List (List ℕ)) → InLine k base n before vs → ending k.place ≡ no_ending → IsOutcome (Err (fault_here k kinds.MissingPart)) base n ((before ++ []) ∷ ls)
-bad_end k base n before vs ls h e = (
+bad_end : (k : Kept) (here : LinePlace) (base : Said) (n : ℕ) (before : List ℕ) (vs : List Vector) (ls : List (List ℕ)) → InLine k here base n before vs → ending here ≡ no_ending → IsOutcome (Err (fault_here k kinds.MissingPart)) base n ((before ++ []) ∷ ls)
+bad_end k here base n before vs ls h e = (
   0,
   length before,
   omega (arith, h.line),
   h.column,
-  bad_line k base n before vs h e,
+  bad_line k here base n before vs h e,
 )
 
-pub ended_is : (k : Kept) (base : Listing) (n : ℕ) (before : List ℕ) (vs : List Vector) (o : Option Motion3) → InLine k base n before vs → with_operation o k.listing ≡ listed_then base (make_listing (operations_of o) vs)
-ended_is k base n before vs o h = listing_path _ _ (ap (λ (x : List Motion). x ++ operations_of o) h.ops) h.centrings
+-- what is said where the line ends
+abbrev pub said_line : Option Motion3 → Kept → Said
+said_line o k = record { generated = k.said.generated; listing = with_operation o k.said.listing }
 
-last_line : (o : Option (Option Motion3)) (k : Kept) (base : Listing) (n : ℕ) (before : List ℕ) (vs : List Vector) → InLine k base n before vs → ending k.place ≡ o → IsOutcome (ended o k) base n ((before ++ []) ∷ [])
-last_line None k base n before vs h e = bad_end k base n before vs [] h e
-last_line (Some o) k base n before vs h e =
+pub ended_is : (k : Kept) (here : LinePlace) (base : Said) (n : ℕ) (before : List ℕ) (vs : List Vector) (o : Option Motion3) → InLine k here base n before vs → said_line o k ≡ said_then base (make_listing (operations_of o) vs)
+ended_is k here base n before vs o h = said_path _ _ h.generated (listing_path _ _ (ap (λ (x : List Motion). x ++ operations_of o) h.ops) h.centrings)
+
+last_line : (o : Option (Option Motion3)) (k : Kept) (here : LinePlace) (base : Said) (n : ℕ) (before : List ℕ) (vs : List Vector) → InLine k here base n before vs → ending here ≡ o → IsOutcome (ended o false k) base n ((before ++ []) ∷ [])
+last_line None k here base n before vs h e = bad_end k here base n before vs [] h e
+last_line (Some o) k here base n before vs h e =
     let a = make_listing (operations_of o) vs in
-    outcome_more (Ok (with_operation o k.listing)) base a n (before ++ []) [] (subst (λ (x : List ℕ). IsLine x a) (sym (append-nil before)) (a_line k base n before vs o h e))
-    (nothing_listed, refl, ended_is k base n before vs o h ∙ listing_path _ _ (sym (append-nil _)) (sym (append-nil _)))
+    outcome_more (Ok (said_line o k)) base a n (before ++ []) [] (subst (λ (x : List ℕ). IsLine x a) (sym (append-nil before)) (a_line k here base n before vs o h e))
+    (nothing_listed, refl, ended_is k here base n before vs o h ∙ ap (make_said base.generated) (listing_path _ _ (sym (append-nil _)) (sym (append-nil _))))
 
 front_nil_at : (b : ℕ) (t : Bool) (xs ys : List (List ℕ)) → with_front [] (cond t ([] ∷ xs) (with_front (b ∷ []) ys)) ≡ cond t ([] ∷ xs) (with_front (b ∷ []) ys)
 front_nil_at b true xs ys = refl
@@ -97,8 +119,8 @@ pub front_front : (xs ys : List ℕ) (ls : List (List ℕ)) → with_front (xs +
 front_front xs ys [] = refl
 front_front xs ys (l ∷ ls) = ap (λ (x : List ℕ). x ∷ ls) (append_assoc xs ys l)
 
-pub first_bad : (ls : List (List ℕ)) (before : List ℕ) (b : ℕ) (s : LineState) (k : TextKind) → line_run (Ok line_start) before ≡ line_going s → line_step (mark b) s ≡ line_stopped k →
-    IsFirstBad (with_front before (with_front (b ∷ []) ls)) 0 (length before) k
+first_bad : (ls : List (List ℕ)) (before : List ℕ) (b : ℕ) (s : LineState) (k : TextKind) → line_run (Ok line_start) before ≡ line_going s → line_step (mark b) s ≡ line_stopped k →
+    IsFirstBad IsGoodLine (with_front before (with_front (b ∷ []) ls)) 0 (length before) k
 first_bad [] before b s k w e = byte_fault before [] b s k w e
 first_bad (l ∷ ls) before b s k w e = byte_fault before l b s k w e
 
@@ -106,75 +128,81 @@ pub vectors_more : (v : Option (List Part)) (xs ys zs : List Vector) → xs ≡ 
 vectors_more None xs ys zs e = e
 vectors_more (Some v) xs ys zs e = ap (λ (x : List Vector). x ++ parts v ∷ []) e ∙ append_assoc ys zs (parts v ∷ [])
 
+-- a byte of the text, from this place
+abbrev pub step_at : TextPlace → ℕ → Kept → Result Kept Fault
+step_at x b k = cond (b == 10) (new_line (ended (text_ending x) (is_heading x) k) k) (moved (text_step b x) (text_completed b x) k)
+
 -- the induction hypothesis
-abbrev ReadAfter : List ℕ → Type 0
-ReadAfter bs = (k : Kept) (base : Listing) (n : ℕ) (before : List ℕ) (vs : List Vector) → InLine k base n before vs → IsOutcome (outcome (text_run (Ok k) bs)) base n (with_front before (lines_of bs))
+abbrev pub ReadAfter : List ℕ → Type 0
+ReadAfter bs = (k : Kept) (here : LinePlace) (base : Said) (n : ℕ) (before : List ℕ) (vs : List Vector) → InLine k here base n before vs → IsOutcome (outcome (text_run (Ok k) bs)) base n (with_front before (lines_of bs))
 
 -- what is kept behind the LF
 abbrev pub at_next_line : Option Motion3 → Kept → Kept
-at_next_line o k = record { listing = with_operation o k.listing; line = k.line + 1; column = 1; place = places.Start }
+at_next_line o k = record { said = said_line o k; line = k.line + 1; column = 1; place = texts.Line places.Start }
 
-pub next_line : (o : Option Motion3) (k : Kept) (base : Listing) (n : ℕ) (before : List ℕ) (vs : List Vector) → InLine k base n before vs →
-    InLine (at_next_line o k) (listed_then base (make_listing (operations_of o) vs)) (n + 1) [] []
-next_line o k base n before vs h =
-    let s = ended_is k base n before vs o h in
+pub next_line : (o : Option Motion3) (k : Kept) (here : LinePlace) (base : Said) (n : ℕ) (before : List ℕ) (vs : List Vector) → InLine k here base n before vs →
+    InLine (at_next_line o k) places.Start (said_then base (make_listing (operations_of o) vs)) (n + 1) [] []
+next_line o k here base n before vs h =
+    let s = ended_is k here base n before vs o h in
     record {
-      ops = ap (λ (x : Listing). x.ops) s;
-      centrings = ap (λ (x : Listing). x.centrings) s ∙ sym (append-nil _);
+      place = refl;
+      generated = h.generated;
+      ops = ap (λ (x : Said). x.listing.ops) s;
+      centrings = ap (λ (x : Said). x.listing.centrings) s ∙ sym (append-nil _);
       line = ap (λ m. m + 1) h.line;
       column = refl;
       run = refl;
     }
 
 -- what is kept behind another byte
-abbrev pub at_next_byte : ℕ → LinePlace → Kept → Kept
-at_next_byte b p k = record { listing = record k.listing { centrings = with_vector (completed (mark b) k.place) k.listing.centrings }; line = k.line; column = k.column + 1; place = p }
+abbrev pub at_next_byte : ℕ → LinePlace → LinePlace → Kept → Kept
+at_next_byte b here p k = record { said = said_vector (completed (mark b) here) k.said; line = k.line; column = k.column + 1; place = texts.Line p }
 
-pub next_byte : (b : ℕ) (p : LinePlace) (k : Kept) (base : Listing) (n : ℕ) (before : List ℕ) (vs : List Vector) → InLine k base n before vs → place_step (mark b) k.place ≡ stepped p →
-    InLine (at_next_byte b p k) base n (before ++ b ∷ []) (with_vector (completed (mark b) k.place) vs)
-next_byte b p k base n before vs h e = record {
+pub next_byte : (b : ℕ) (p : LinePlace) (k : Kept) (here : LinePlace) (base : Said) (n : ℕ) (before : List ℕ) (vs : List Vector) → InLine k here base n before vs → place_step (mark b) here ≡ stepped p →
+    InLine (at_next_byte b here p k) p base n (before ++ b ∷ []) (with_vector (completed (mark b) here) vs)
+next_byte b p k here base n before vs h e = record {
+  place = refl;
+  generated = h.generated;
   ops = h.ops;
-  centrings = vectors_more (completed (mark b) k.place) k.listing.centrings base.centrings vs h.centrings;
+  centrings = vectors_more (completed (mark b) here) k.said.listing.centrings base.listing.centrings vs h.centrings;
   line = h.line;
   column = omega (arith, h.column, length-append before (b ∷ []));
-  run = line_more before b (record { place = k.place; vectors = vs }) _ h.run (ap (λ (x : Result LinePlace TextKind). at_place x (with_vector (completed (mark b) k.place) vs)) e);
+  run = line_more before b (record { place = here; vectors = vs }) _ h.run (ap (λ (x : Result LinePlace TextKind). at_place x (with_vector (completed (mark b) here) vs)) e);
 }
 
-outcome_line : (o : Option (Option Motion3)) (bs : List ℕ) (k : Kept) (base : Listing) (n : ℕ) (before : List ℕ) (vs : List Vector) → ReadAfter bs → InLine k base n before vs → ending k.place ≡ o →
-    IsOutcome (outcome (text_run (new_line (ended o k) k) bs)) base n ((before ++ []) ∷ lines_of bs)
-outcome_line None bs k base n before vs further h e =
-    subst (λ r. IsOutcome (outcome r) base n ((before ++ []) ∷ lines_of bs)) (sym (run_faulty (fault_here k kinds.MissingPart) bs)) (bad_end k base n before vs (lines_of bs) h e)
-outcome_line (Some o) bs k base n before vs further h e =
+outcome_line : (o : Option (Option Motion3)) (bs : List ℕ) (k : Kept) (here : LinePlace) (base : Said) (n : ℕ) (before : List ℕ) (vs : List Vector) → ReadAfter bs → InLine k here base n before vs → ending here ≡ o →
+    IsOutcome (outcome (text_run (new_line (ended o false k) k) bs)) base n ((before ++ []) ∷ lines_of bs)
+outcome_line None bs k here base n before vs further h e =
+    subst (λ r. IsOutcome (outcome r) base n ((before ++ []) ∷ lines_of bs)) (sym (run_faulty (fault_here k kinds.MissingPart) bs)) (bad_end k here base n before vs (lines_of bs) h e)
+outcome_line (Some o) bs k here base n before vs further h e =
     let a = make_listing (operations_of o) vs in
     let k' = at_next_line o k in
-    let t = further k' (listed_then base a) (n + 1) [] [] (next_line o k base n before vs h) in
-    outcome_more (outcome (text_run (Ok k') bs)) base a n (before ++ []) (lines_of bs) (subst (λ (x : List ℕ). IsLine x a) (sym (append-nil before)) (a_line k base n before vs o h e))
-    (subst (λ ls. IsOutcome (outcome (text_run (Ok k') bs)) (listed_then base a) (n + 1) ls) (front_nil bs) t)
+    let t = further k' places.Start (said_then base a) (n + 1) [] [] (next_line o k here base n before vs h) in
+    outcome_more (outcome (text_run (Ok k') bs)) base a n (before ++ []) (lines_of bs) (subst (λ (x : List ℕ). IsLine x a) (sym (append-nil before)) (a_line k here base n before vs o h e))
+    (subst (λ ls. IsOutcome (outcome (text_run (Ok k') bs)) (said_then base a) (n + 1) ls) (front_nil bs) t)
 
-outcome_moved : (r : Result LinePlace TextKind) (b : ℕ) (bs : List ℕ) (k : Kept) (base : Listing) (n : ℕ) (before : List ℕ) (vs : List Vector) → ReadAfter bs → InLine k base n before vs → place_step (mark b) k.place ≡ r →
-    IsOutcome (outcome (text_run (moved r (completed (mark b) k.place) k) bs)) base n (with_front before (with_front (b ∷ []) (lines_of bs)))
-outcome_moved (Err kind) b bs k base n before vs further h e =
+outcome_moved : (r : Result LinePlace TextKind) (b : ℕ) (bs : List ℕ) (k : Kept) (here : LinePlace) (base : Said) (n : ℕ) (before : List ℕ) (vs : List Vector) → ReadAfter bs → InLine k here base n before vs → place_step (mark b) here ≡ r →
+    IsOutcome (outcome (text_run (moved (in_line r) (completed (mark b) here) k) bs)) base n (with_front before (with_front (b ∷ []) (lines_of bs)))
+outcome_moved (Err kind) b bs k here base n before vs further h e =
     subst (λ r. IsOutcome (outcome r) base n (with_front before (with_front (b ∷ []) (lines_of bs)))) (sym (run_faulty (fault_here k kind) bs)) (
       0,
       length before,
       omega (arith, h.line),
       h.column,
-      first_bad (lines_of bs) before b (record { place = k.place; vectors = vs }) kind h.run (ap (λ (x : Result LinePlace TextKind). at_place x (with_vector (completed (mark b) k.place) vs)) e),
+      first_bad (lines_of bs) before b (record { place = here; vectors = vs }) kind h.run (ap (λ (x : Result LinePlace TextKind). at_place x (with_vector (completed (mark b) here) vs)) e),
     )
-outcome_moved (Ok p) b bs k base n before vs further h e =
-    let k' = at_next_byte b p k in
+outcome_moved (Ok p) b bs k here base n before vs further h e =
+    let k' = at_next_byte b here p k in
     subst (λ ls. IsOutcome (outcome (text_run (Ok k') bs)) base n ls) (front_front before (b ∷ []) (lines_of bs))
-    (further k' base n (before ++ b ∷ []) (with_vector (completed (mark b) k.place) vs) (next_byte b p k base n before vs h e))
+    (further k' p base n (before ++ b ∷ []) (with_vector (completed (mark b) here) vs) (next_byte b p k here base n before vs h e))
 
-outcome_byte : (t : Bool) (b : ℕ) (bs : List ℕ) (k : Kept) (base : Listing) (n : ℕ) (before : List ℕ) (vs : List Vector) → ReadAfter bs → InLine k base n before vs →
-    IsOutcome (outcome (text_run (cond t (new_line (finished k) k) (moved (place_step (mark b) k.place) (completed (mark b) k.place) k)) bs)) base n (with_front before (cond t ([] ∷ lines_of bs) (with_front (b ∷ []) (lines_of bs))))
-outcome_byte true b bs k base n before vs further h = outcome_line (ending k.place) bs k base n before vs further h refl
-outcome_byte false b bs k base n before vs further h = outcome_moved (place_step (mark b) k.place) b bs k base n before vs further h refl
+outcome_byte : (t : Bool) (b : ℕ) (bs : List ℕ) (k : Kept) (here : LinePlace) (base : Said) (n : ℕ) (before : List ℕ) (vs : List Vector) → ReadAfter bs → InLine k here base n before vs →
+    IsOutcome (outcome (text_run (cond t (new_line (ended (ending here) false k) k) (moved (in_line (place_step (mark b) here)) (completed (mark b) here) k)) bs)) base n (with_front before (cond t ([] ∷ lines_of bs) (with_front (b ∷ []) (lines_of bs))))
+outcome_byte true b bs k here base n before vs further h = outcome_line (ending here) bs k here base n before vs further h refl
+outcome_byte false b bs k here base n before vs further h = outcome_moved (place_step (mark b) here) b bs k here base n before vs further h refl
 
 pub outcome_all : (bs : List ℕ) → ReadAfter bs
-outcome_all [] k base n before vs h = last_line (ending k.place) k base n before vs h refl
-outcome_all (b ∷ bs) k base n before vs h = outcome_byte (b == 10) b bs k base n before vs (outcome_all bs) h
-
-pub outcome_is : (bytes : List ℕ) → IsOutcome (group_of bytes) nothing_listed 1 (lines_of bytes)
-outcome_is bytes = subst (λ ls. IsOutcome (group_of bytes) nothing_listed 1 ls) (front_nil bytes)
-    (outcome_all bytes kept_start nothing_listed 1 [] [] (record { ops = refl; centrings = refl; line = refl; column = refl; run = refl }))
+outcome_all [] k here base n before vs h =
+    subst (λ x. IsOutcome (ended (text_ending x) (is_heading x) k) base n ((before ++ []) ∷ [])) (sym h.place) (last_line (ending here) k here base n before vs h refl)
+outcome_all (b ∷ bs) k here base n before vs h =
+    subst (λ x. IsOutcome (outcome (text_run (step_at x b k) bs)) base n (with_front before (lines_of (b ∷ bs)))) (sym h.place) (outcome_byte (b == 10) b bs k here base n before vs (outcome_all bs) h)

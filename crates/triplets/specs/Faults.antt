@@ -1,6 +1,7 @@
 -- The place and the kind of a fault.
 use Rattle.std.specs.Prelude.{◌≡◌, ◌⊎◌, ℕ, ◌+◌, ◌<◌, ◌≤◌, ◌==◌, ◌&&◌, ◌||◌, nat_le, Bool, true, false, if◌then◌else◌, IsTrue, List, [], ◌∷◌, ◌++◌, length, take, slice_get, Option, Some, None}
 use Rattle.triplets.specs.Bytes.{comma, hash, slash}
+use Rattle.triplets.specs.Places.{IsPrefixIn, IsPlaceIn}
 use Rattle.triplets.specs.declared.marks.Axis.{Axis}
 use Rattle.triplets.specs.declared.marks.Axis.TheVariants.{X, Y, Z}
 use Rattle.triplets.specs.declared.fault.TextKind.{TextKind}
@@ -14,14 +15,7 @@ IsGood bytes = (value : Motion) × IsTriplet bytes value
 
 -- they are the beginning of one
 abbrev pub IsPrefixOfGood : List ℕ → Type 0
-IsPrefixOfGood bytes = (more : List ℕ) × IsGood (bytes ++ more)
-
--- what stands before is a prefix of a good text, and with the byte at the place, if there is one, it is not
-pub record IsPlace (bytes : List ℕ) (before : ℕ) : Type 0 where
-  pub within : before ≤ length bytes
-  pub good : ¬ IsGood bytes
-  pub prefix : IsPrefixOfGood (take before bytes)
-  pub here : before < length bytes → ¬ IsPrefixOfGood (take (before + 1) bytes)
+IsPrefixOfGood = IsPrefixIn IsGood
 
 -- Words on what stands before a place.
 
@@ -90,5 +84,5 @@ HasKindAt before (Some b) kind = HasKind before b kind
 
 -- the place of the fault, counted from 0, and its kind
 pub record IsFault (bytes : List ℕ) (before : ℕ) (kind : TextKind) : Type 0 where
-  pub place : IsPlace bytes before
+  pub place : IsPlaceIn IsGood bytes before
   pub kind_is : HasKindAt (take before bytes) (slice_get bytes before) kind

@@ -4,12 +4,15 @@ pub mod Marks
 pub mod Denominators
 pub mod Rows
 pub mod Grammar
+pub mod Places
 pub mod Faults
 pub mod PartReading
 pub mod TripletReading
 pub mod Lines
+pub mod Headings
 pub mod LineFaults
 pub mod LineReading
+pub mod HeadingReading
 pub mod Texts
 pub mod TextAnswers
 pub mod BegunLines

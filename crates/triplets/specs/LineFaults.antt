@@ -8,6 +8,8 @@ use Rattle.triplets.specs.declared.fault.TextKind.TheVariants as kinds
 use Rattle.triplets.specs.Faults.{is_digit, is_letter, last_mark, last_other, digits_at_end, TableRow, IsLetter}
 use Rattle.symmetry.specs.Groups.{Listing}
 use Rattle.triplets.specs.Lines.{IsLine}
+use Rattle.triplets.specs.Headings.{IsHeading}
+use Rattle.triplets.specs.Places.{IsPrefixIn, IsPlaceIn}
 
 -- the bytes are a line of the grammar
 abbrev pub IsGoodLine : List ℕ → Type 0
@@ -15,14 +17,11 @@ IsGoodLine bytes = (listing : Listing) × IsLine bytes listing
 
 -- they are the beginning of one
 abbrev pub IsPrefixOfGoodLine : List ℕ → Type 0
-IsPrefixOfGoodLine bytes = (rest : List ℕ) × IsGoodLine (bytes ++ rest)
+IsPrefixOfGoodLine = IsPrefixIn IsGoodLine
 
--- what stands before is the beginning of a good line, and with the byte at the place, if there is one, it is not
-pub record IsLinePlace (bytes : List ℕ) (before : ℕ) : Type 0 where
-  pub within : before ≤ length bytes
-  pub good : ¬ IsGoodLine bytes
-  pub prefix : IsPrefixOfGoodLine (take before bytes)
-  pub here : before < length bytes → ¬ IsPrefixOfGoodLine (take (before + 1) bytes)
+-- they may be line 1: a line of the grammar, or the heading
+abbrev pub IsGoodFirstLine : List ℕ → Type 0
+IsGoodFirstLine bytes = IsGoodLine bytes ⊎ IsHeading bytes
 
 -- the last bracket; n if there is none
 abbrev pub last_bracket : ℕ → List ℕ → ℕ
@@ -65,7 +64,11 @@ abbrev pub HasLineKindAt : List ℕ → Option ℕ → TextKind → Type 0
 HasLineKindAt before None kind = kind ≡ kinds.MissingPart
 HasLineKindAt before (Some b) kind = HasLineKind before b kind
 
--- the place of the fault, counted from 0, and its kind
-pub record IsLineFault (bytes : List ℕ) (before : ℕ) (kind : TextKind) : Type 0 where
-  pub place : IsLinePlace bytes before
+-- the place of the fault, counted from 0, and its kind, where it is known which lines are good
+pub record IsFaultIn (Good : List ℕ → Type 0) (bytes : List ℕ) (before : ℕ) (kind : TextKind) : Type 0 where
+  pub place : IsPlaceIn Good bytes before
   pub kind_is : HasLineKindAt (take before bytes) (slice_get bytes before) kind
+
+-- the fault of a line behind line 1
+abbrev pub IsLineFault : List ℕ → ℕ → TextKind → Type 0
+IsLineFault = IsFaultIn IsGoodLine

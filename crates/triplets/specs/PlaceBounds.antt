@@ -6,6 +6,8 @@ use Rattle.triplets.specs.declared.part.Spot.{Spot}
 use Rattle.triplets.specs.declared.part.Spot.TheVariants.{Begin, Signed, Digits, Divided, Below, Behind}
 use Rattle.triplets.specs.declared.line.LinePlace.{LinePlace}
 use Rattle.triplets.specs.declared.line.LinePlace.TheVariants as places
+use Rattle.triplets.specs.declared.place.TextPlace.{TextPlace}
+use Rattle.triplets.specs.declared.place.TextPlace.TheVariants as texts
 use Rattle.triplets.specs.Denominators.{unit}
 
 -- each byte moves by less than a thousand cell edges
@@ -33,3 +35,9 @@ IsPlaceWithin n places.Start = Unit {0}
 IsPlaceWithin n (places.Closed v) = Unit {0}
 IsPlaceWithin n places.Behind = Unit {0}
 IsPlaceWithin n (places.Comment o) = Unit {0}
+
+-- what is kept of any line after n bytes
+abbrev pub IsTextPlaceWithin : ℕ → TextPlace → Type 0
+IsTextPlaceWithin n texts.Beginning = Unit {0}
+IsTextPlaceWithin n (texts.Heading p) = Unit {0}
+IsTextPlaceWithin n (texts.Line p) = IsPlaceWithin n p

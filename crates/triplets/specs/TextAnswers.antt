@@ -1,5 +1,5 @@
 -- What the calls answer, as the grammar of a group text says it.
-use Rattle.std.specs.Prelude.{◌≡◌, ℕ, List, Result, Ok, Err, IfOk, IfErr}
+use Rattle.std.specs.Prelude.{◌≡◌, ℕ, Bool, List, Result, Ok, Err, IfOk, IfErr}
 use Rattle.motions.specs.declared.listed.Listed.{Listed}
 use Rattle.motions.specs.Views.{listing_of}
 use Rattle.symmetry.specs.Groups.{Listing}
@@ -12,10 +12,10 @@ abbrev pub IsMemory : TextFault → Type 0
 IsMemory faults.NoMemory = Unit {0}
 IsMemory (faults.At line column kind) = ⊥
 
--- what is answered lists this, or memory ran out
-abbrev pub Lists : Result Listed TextFault → Listing → Type 0
-Lists (Ok listed) g = listing_of listed ≡ g
-Lists (Err fault) g = IsMemory fault
+-- what is answered lists this, generators or not, or memory ran out
+abbrev pub Lists : Result Listed TextFault → Bool → Listing → Type 0
+Lists (Ok listed) generated g = (listed.generated ≡ generated) × (listing_of listed ≡ g)
+Lists (Err fault) generated g = IsMemory fault
 
 -- the first fault of the text, or memory ran out
 abbrev pub IsFaultOf : List ℕ → TextFault → Type 0
@@ -24,8 +24,8 @@ IsFaultOf text (faults.At line column kind) = IsTextFault text (record { line = 
 
 -- what a reader answers to a whole text
 pub record IsAnswer (text : List ℕ) (answer : Result Listed TextFault) : Type 0 where
-  pub found : IfOk answer (λ listed. IsGroupText text (listing_of listed))
-  pub only : (g : Listing) → IsGroupText text g → Lists answer g
+  pub found : IfOk answer (λ listed. IsGroupText text listed.generated (listing_of listed))
+  pub only : (generated : Bool) (g : Listing) → IsGroupText text generated g → Lists answer generated g
   pub fault : IfErr answer (IsFaultOf text)
 
 -- the first fault that a text shows, or memory ran out

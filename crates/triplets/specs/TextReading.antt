@@ -1,30 +1,37 @@
 -- What the reader of a group text does.
-use Rattle.std.specs.Prelude.{◌≡◌, ℕ, ◌+◌, ◌==◌, if◌then◌else◌, List, [], ◌∷◌, ◌++◌, length, Option, Some, None, Result, Ok, Err}
+use Rattle.std.specs.Prelude.{◌≡◌, ℕ, ◌+◌, ◌==◌, ◌||◌, Bool, false, if◌then◌else◌, List, [], ◌∷◌, ◌++◌, length, Option, Some, None, Result, Ok, Err}
 use Rattle.triplets.specs.declared.fault.TextKind.{TextKind}
 use Rattle.triplets.specs.declared.fault.TextKind.TheVariants as kinds
 use Rattle.motions.specs.declared.motion.Motion3.{Motion3}
 use Rattle.fractions.specs.declared.part.Part.{Part}
-use Rattle.triplets.specs.declared.line.LinePlace.{LinePlace}
 use Rattle.triplets.specs.declared.line.LinePlace.TheVariants as places
+use Rattle.triplets.specs.declared.place.TextPlace.{TextPlace}
+use Rattle.triplets.specs.declared.place.TextPlace.TheVariants as texts
+use Rattle.motions.specs.declared.listed.Listed.{Listed}
 use Rattle.triplets.specs.declared.fault.TextFault.{TextFault}
 use Rattle.triplets.specs.declared.fault.TextFault.TheVariants as faults
 use Rattle.triplets.specs.declared.text.LineReader.{LineReader}
-use Rattle.triplets.specs.Marks.{mark}
 use Rattle.symmetry.specs.Groups.{Listing}
 use Rattle.motions.specs.Views.{listing_of}
-use Rattle.triplets.specs.LineReading.{place_step, completed, with_vector, ending, operations_of}
+use Rattle.triplets.specs.LineReading.{with_vector, operations_of}
+use Rattle.triplets.specs.HeadingReading.{text_step, text_completed, text_ending, is_heading}
 use Rattle.triplets.specs.Texts.{Fault, nothing_listed}
+
+-- what a text says: whether its operations are generators, and what it lists
+pub record Said : Type 0 where
+  pub generated : Bool
+  pub listing : Listing
 
 -- what is kept of the text so far
 pub record Kept : Type 0 where
-  pub listing : Listing
+  pub said : Said
   pub line : ℕ
   pub column : ℕ
-  pub place : LinePlace
+  pub place : TextPlace
 
 -- before the first byte
 abbrev pub kept_start : Kept
-kept_start = record { listing = nothing_listed; line = 1; column = 1; place = places.Start }
+kept_start = record { said = record { generated = false; listing = nothing_listed }; line = 1; column = 1; place = texts.Beginning }
 
 -- a fault of this kind at the place that comes
 abbrev pub fault_here : Kept → TextKind → Fault
@@ -34,28 +41,32 @@ fault_here k kind = record { line = k.line; column = k.column; kind = kind }
 abbrev pub with_operation : Option Motion3 → Listing → Listing
 with_operation o listing = record listing { ops = listing.ops ++ operations_of o }
 
--- what is listed when the text or the line ends here
-abbrev pub ended : Option (Option Motion3) → Kept → Result Listing Fault
-ended None k = Err (fault_here k kinds.MissingPart)
-ended (Some o) k = Ok (with_operation o k.listing)
+-- what is said when the text or the line ends here, in the heading or not
+abbrev pub ended : Option (Option Motion3) → Bool → Kept → Result Said Fault
+ended None heading k = Err (fault_here k kinds.MissingPart)
+ended (Some o) heading k = Ok (record { generated = heading || k.said.generated; listing = with_operation o k.said.listing })
 
--- what is listed when the text ends here
-abbrev pub finished : Kept → Result Listing Fault
-finished k = ended (ending k.place) k
+-- what is said when the text ends here
+abbrev pub finished : Kept → Result Said Fault
+finished k = ended (text_ending k.place) (is_heading k.place) k
 
 -- behind the line feed
-abbrev pub new_line : Result Listing Fault → Kept → Result Kept Fault
+abbrev pub new_line : Result Said Fault → Kept → Result Kept Fault
 new_line (Err f) k = Err f
-new_line (Ok listing) k = Ok (record { listing = listing; line = k.line + 1; column = 1; place = places.Start })
+new_line (Ok said) k = Ok (record { said = said; line = k.line + 1; column = 1; place = texts.Line places.Start })
+
+-- with the vector, if there is one
+abbrev pub said_vector : Option (List Part) → Said → Said
+said_vector v s = record { generated = s.generated; listing = record s.listing { centrings = with_vector v s.listing.centrings } }
 
 -- behind another byte
-abbrev pub moved : Result LinePlace TextKind → Option (List Part) → Kept → Result Kept Fault
+abbrev pub moved : Result TextPlace TextKind → Option (List Part) → Kept → Result Kept Fault
 moved (Err kind) v k = Err (fault_here k kind)
-moved (Ok p) v k = Ok (record { listing = record k.listing { centrings = with_vector v k.listing.centrings }; line = k.line; column = k.column + 1; place = p })
+moved (Ok p) v k = Ok (record { said = said_vector v k.said; line = k.line; column = k.column + 1; place = p })
 
 -- a byte of the text
 abbrev pub byte_step : ℕ → Kept → Result Kept Fault
-byte_step b k = if b == 10 then new_line (finished k) k else moved (place_step (mark b) k.place) (completed (mark b) k.place) k
+byte_step b k = if b == 10 then new_line (finished k) k else moved (text_step b k.place) (text_completed b k.place) k
 
 -- a byte, where there was no fault yet
 abbrev pub text_advance : Result Kept Fault → ℕ → Result Kept Fault
@@ -68,17 +79,21 @@ text_run r [] = r
 text_run r (b ∷ bs) = text_run (text_advance r b) bs
 
 -- what the end of the text gives
-abbrev pub outcome : Result Kept Fault → Result Listing Fault
+abbrev pub outcome : Result Kept Fault → Result Said Fault
 outcome (Err f) = Err f
 outcome (Ok k) = finished k
 
 -- what the bytes of a whole text give
-abbrev pub group_of : List ℕ → Result Listing Fault
+abbrev pub group_of : List ℕ → Result Said Fault
 group_of bytes = outcome (text_run (Ok kept_start) bytes)
+
+-- what a Listed says
+abbrev pub said_of : Listed → Said
+said_of l = record { generated = l.generated; listing = listing_of l }
 
 -- what a reader has kept
 abbrev pub kept : LineReader → Kept
-kept r = record { listing = listing_of r.listed; line = r.line; column = r.column; place = r.place }
+kept r = record { said = said_of r.listed; line = r.line; column = r.column; place = r.place }
 
 -- how many bytes it was fed
 abbrev pub bytes_fed : LineReader → ℕ
@@ -110,7 +125,7 @@ abbrev pub Gives : {A B : Type 0} → (A → B) → Result A TextFault → Resul
 Gives view (Ok x) r = r ≡ Ok (view x)
 Gives view (Err e) r = Refuses e r
 
--- all but the list of operations is the same
+-- all but the list of operations and the word on generators is the same
 pub record AreAlike (old new : LineReader) : Type 0 where
   pub centrings : new.listed.centrings.items ≡ old.listed.centrings.items
   pub line : new.line ≡ old.line

@@ -1,10 +1,11 @@
 -- The grammar of a group text, line by line, and its first fault.
-use Rattle.std.specs.Prelude.{◌≡◌, ℕ, zero, suc, ◌+◌, ◌==◌, if◌then◌else◌, List, [], ◌∷◌, ◌++◌, ◌<◌, ◌⊎◌, ◌≢◌, length}
+use Rattle.std.specs.Prelude.{◌≡◌, ℕ, zero, suc, ◌+◌, ◌==◌, Bool, true, false, if◌then◌else◌, List, [], ◌∷◌, ◌++◌, ◌<◌, ◌⊎◌, ◌≢◌, length}
 use Rattle.triplets.specs.Bytes.{line_feed}
 use Rattle.triplets.specs.declared.fault.TextKind.{TextKind}
 use Rattle.symmetry.specs.Groups.{Listing}
 use Rattle.triplets.specs.Lines.{IsLine}
-use Rattle.triplets.specs.LineFaults.{IsGoodLine, IsLineFault}
+use Rattle.triplets.specs.Headings.{IsHeading}
+use Rattle.triplets.specs.LineFaults.{IsGoodLine, IsGoodFirstLine, IsFaultIn}
 
 -- bytes before the first line
 abbrev pub with_front : List ℕ → List (List ℕ) → List (List ℕ)
@@ -29,15 +30,21 @@ abbrev pub AreLines : List (List ℕ) → Listing → Type 0
 AreLines [] listing = listing ≡ nothing_listed
 AreLines (l ∷ ls) listing = (a : Listing) × (b : Listing) × IsLine l a × AreLines ls b × (listing ≡ listed_then a b)
 
--- the bytes are a group text that lists this
-abbrev pub IsGroupText : List ℕ → Listing → Type 0
-IsGroupText bytes listing = AreLines (lines_of bytes) listing
+-- the lines of a text say this: line 1 is the heading exactly where the text is one of generators
+abbrev pub AreTextLines : Bool → List (List ℕ) → Listing → Type 0
+AreTextLines true [] listing = ⊥
+AreTextLines true (l ∷ ls) listing = IsHeading l × AreLines ls listing
+AreTextLines false ls listing = AreLines ls listing
 
--- line n is the first bad one, counted from 0, with this fault
-abbrev pub IsFirstBad : List (List ℕ) → ℕ → ℕ → TextKind → Type 0
-IsFirstBad [] n before kind = ⊥
-IsFirstBad (l ∷ ls) zero before kind = IsLineFault l before kind
-IsFirstBad (l ∷ ls) (suc n) before kind = IsGoodLine l × IsFirstBad ls n before kind
+-- the bytes are a group text that lists this, generators or not
+abbrev pub IsGroupText : List ℕ → Bool → Listing → Type 0
+IsGroupText bytes generated listing = AreTextLines generated (lines_of bytes) listing
+
+-- line n is the first bad one, counted from 0, with this fault, where it is known which lines may be the first
+abbrev pub IsFirstBad : (List ℕ → Type 0) → List (List ℕ) → ℕ → ℕ → TextKind → Type 0
+IsFirstBad Good [] n before kind = ⊥
+IsFirstBad Good (l ∷ ls) zero before kind = IsFaultIn Good l before kind
+IsFirstBad Good (l ∷ ls) (suc n) before kind = Good l × IsFirstBad IsGoodLine ls n before kind
 
 -- a place in a text, counted from 1, and what is wrong there
 pub record Fault : Type 0 where
@@ -47,16 +54,16 @@ pub record Fault : Type 0 where
 
 -- the first bad line of the text, its column and its kind
 abbrev pub IsTextFault : List ℕ → Fault → Type 0
-IsTextFault bytes f = (n : ℕ) × (before : ℕ) × (f.line ≡ n + 1) × (f.column ≡ before + 1) × IsFirstBad (lines_of bytes) n before f.kind
+IsTextFault bytes f = (n : ℕ) × (before : ℕ) × (f.line ≡ n + 1) × (f.column ≡ before + 1) × IsFirstBad IsGoodFirstLine (lines_of bytes) n before f.kind
 
 -- The same where a byte shows the place: the one that stands there, or the LF that ends the line too early.
 
 -- line n is the first bad one, and a byte shows its place
-abbrev pub IsFirstShown : List (List ℕ) → ℕ → ℕ → TextKind → Type 0
-IsFirstShown [] n before kind = ⊥
-IsFirstShown (l ∷ ls) zero before kind = IsLineFault l before kind × ((before < length l) ⊎ (ls ≢ []))
-IsFirstShown (l ∷ ls) (suc n) before kind = IsGoodLine l × IsFirstShown ls n before kind
+abbrev pub IsFirstShown : (List ℕ → Type 0) → List (List ℕ) → ℕ → ℕ → TextKind → Type 0
+IsFirstShown Good [] n before kind = ⊥
+IsFirstShown Good (l ∷ ls) zero before kind = IsFaultIn Good l before kind × ((before < length l) ⊎ (ls ≢ []))
+IsFirstShown Good (l ∷ ls) (suc n) before kind = Good l × IsFirstShown IsGoodLine ls n before kind
 
 -- the first bad place that the text shows by a byte
 abbrev pub IsShownFault : List ℕ → Fault → Type 0
-IsShownFault bytes f = (n : ℕ) × (before : ℕ) × (f.line ≡ n + 1) × (f.column ≡ before + 1) × IsFirstShown (lines_of bytes) n before f.kind
+IsShownFault bytes f = (n : ℕ) × (before : ℕ) × (f.line ≡ n + 1) × (f.column ≡ before + 1) × IsFirstShown IsGoodFirstLine (lines_of bytes) n before f.kind

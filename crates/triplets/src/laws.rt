@@ -1,6 +1,6 @@
 // What a text says is one thing, for a text of any length, and the limit of what is read, in numbers. A call does nothing:
 // its contract is the law.
-ghost use Rattle.std.specs.Prelude.{◌≡◌, ℕ, List};
+ghost use Rattle.std.specs.Prelude.{◌≡◌, ℕ, Bool, List};
 ghost use Rattle.symmetry.specs.Vectors.{Vector};
 ghost use Rattle.symmetry.specs.Groups.{Listing};
 ghost use Rattle.triplets.specs.BegunLines.{AreBegunVectors};
@@ -8,9 +8,10 @@ ghost use Rattle.triplets.specs.KeptTexts.{IsKept};
 ghost use Rattle.triplets.specs.Texts.{Fault, IsGroupText, IsTextFault};
 ghost use Rattle.triplets.specs.declared.group.TheConstants.{MOST_BYTES};
 
-/// A text lists one thing.
+/// A text lists one thing, and its operations are generators or are not.
 pub fn one_listing()
-    ensures { (text : List ℕ) (g g' : Listing) → IsGroupText text g → IsGroupText text g' → g ≡ g' }
+    ensures generated { (text : List ℕ) (b b' : Bool) (g g' : Listing) → IsGroupText text b g → IsGroupText text b' g' → b ≡ b' }
+    ensures listing { (text : List ℕ) (b b' : Bool) (g g' : Listing) → IsGroupText text b g → IsGroupText text b' g' → g ≡ g' }
 {}
 
 /// A text has one fault: the first bad line, the column at which no good line goes on, and the kind by the table.
@@ -20,7 +21,7 @@ pub fn one_fault()
 
 /// A text with a fault lists nothing.
 pub fn no_listing_and_fault()
-    ensures { (text : List ℕ) (g : Listing) (f : Fault) → IsTextFault text f → IsGroupText text g → ⊥ }
+    ensures { (text : List ℕ) (b : Bool) (g : Listing) (f : Fault) → IsTextFault text f → IsGroupText text b g → ⊥ }
 {}
 
 /// The vectors that stand whole at the beginning of a line are one list.

@@ -1,11 +1,11 @@
 // The reader of a group text, in pieces.
 ghost use Rattle.std.specs.Prelude.{◌≤◌, ◌+◌};
-ghost use Rattle.triplets.specs.PlaceBounds.{IsPlaceWithin};
-ghost use Rattle.triplets.specs.Laws.PlaceLaws.{IsPlaceWithin-prop};
+ghost use Rattle.triplets.specs.PlaceBounds.{IsTextPlaceWithin};
+ghost use Rattle.triplets.specs.Laws.PlaceLaws.{IsTextPlaceWithin-prop};
 
 use crate::fault::{TextFault, TextKind};
 use crate::line::LinePlace;
-use crate::marks::mark_of;
+use crate::place::TextPlace;
 use motions::Listed;
 use std::alloc::Global;
 
@@ -18,12 +18,12 @@ pub struct LineReader {
     fed: u32,
     line: u32,
     column: u32,
-    place: LinePlace,
+    place: TextPlace,
     fault: Option<TextFault>,
     ghost few: { fed ≤ 65536 },
     ghost line_within: { line ≤ fed + 1 },
     ghost column_within: { column ≤ fed + 1 },
-    ghost place_within: { IsPlaceWithin column place } by { IsPlaceWithin-prop column place },
+    ghost place_within: { IsTextPlaceWithin column place } by { IsTextPlaceWithin-prop column place },
 }
 
 impl LineReader {
@@ -50,7 +50,7 @@ impl LineReader {
             fed: 0,
             line: 1,
             column: 1,
-            place: LinePlace::Start,
+            place: TextPlace::Beginning,
             fault: None,
         }
     }
@@ -65,11 +65,14 @@ impl LineReader {
         }
     }
 
-    /// Ends the line, and lists its operation.
+    /// Ends the line, and lists its operation. Behind the heading the operations are generators.
     fn end_line(&mut self) -> Result<(), TextFault>
-        ensures value { Gives (λ _. (kept self.new).listing) result (finished (kept self.old)) }
+        ensures value { Gives (λ _. (kept self.new).said) result (finished (kept self.old)) }
         ensures same { AreAlike self.old self.new }
     {
+        if self.place.is_heading() {
+            self.listed.generated = true;
+        }
         match self.place.ending() {
             Some(Some(operation)) => {
                 self.listed.ops.push(operation)?;
@@ -94,15 +97,14 @@ impl LineReader {
             self.end_line()?;
             self.line += 1;
             self.column = 1;
-            self.place = LinePlace::Start;
+            self.place = TextPlace::Line(LinePlace::Start);
             return Ok(());
         }
-        let mark = mark_of(byte);
-        let next = match self.place.step(mark) {
+        let next = match self.place.step(byte) {
             Ok(next) => next,
             Err(kind) => return Err(self.here(kind)),
         };
-        if let Some(vector) = self.place.completed(mark) {
+        if let Some(vector) = self.place.completed(byte) {
             self.listed.centrings.push(vector)?;
         }
         self.column += 1;

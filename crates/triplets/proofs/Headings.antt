@@ -1,0 +1,306 @@
+-- What the reader of the heading takes, and where it stops.
+use Rattle.std.proofs.Common.{◌≡◌, ◌≢◌, ℕ, Bool, true, false, cond, List, [], ◌∷◌, ◌++◌, Option, Some, None, Result, Ok, Err, refl, sym, ◌∙◌, ap, subst, arith, inl, inr, ◌⊎◌, append_assoc}
+use Rattle.std.specs.Prelude.{◌==◌, codes}
+use Rattle.std.proofs.lemmas.Bool.Decides.{eqb_tells}
+use Rattle.std.proofs.lemmas.List.{append-nil}
+use Rattle.triplets.specs.declared.fault.TextKind.{TextKind}
+use Rattle.triplets.specs.declared.fault.TextKind.TheVariants as kinds
+use Rattle.triplets.specs.declared.marks.Mark.{Mark}
+use Rattle.triplets.specs.declared.marks.Mark.TheVariants as marks
+use Rattle.triplets.specs.declared.heading.HeadingPlace.{HeadingPlace}
+use Rattle.triplets.specs.declared.heading.HeadingPlace.TheVariants as words
+use Rattle.triplets.specs.Marks.{mark}
+use Rattle.triplets.specs.Grammar.{Blank, space, tab, carriage_return, blank_byte, blanks_text}
+use Rattle.triplets.specs.Lines.{comment_text}
+use Rattle.triplets.specs.Headings.{IsHeading}
+use Rattle.triplets.specs.Places.{IsPrefixIn}
+use Rattle.triplets.specs.HeadingReading.{letter_step, behind_word, heading_step, is_whole}
+use Rattle.triplets.proofs.Bytes.{IsMark, mark_is}
+use Rattle.triplets.proofs.Partials.{blanks_more}
+
+abbrev pub heading_going : HeadingPlace → Result HeadingPlace TextKind
+heading_going p = Ok p
+
+abbrev pub heading_stopped : TextKind → Result HeadingPlace TextKind
+heading_stopped k = Err k
+
+abbrev heading_advance : Result HeadingPlace TextKind → ℕ → Result HeadingPlace TextKind
+heading_advance (Err k) b = Err k
+heading_advance (Ok p) b = heading_step b p
+
+-- the bytes behind the first letter one by one
+abbrev heading_run : Result HeadingPlace TextKind → List ℕ → Result HeadingPlace TextKind
+heading_run r [] = r
+heading_run r (b ∷ bs) = heading_run (heading_advance r b) bs
+
+heading_run-append : (r : Result HeadingPlace TextKind) (xs ys : List ℕ) → heading_run r (xs ++ ys) ≡ heading_run (heading_run r xs) ys
+heading_run-append r [] ys = refl
+heading_run-append r (x ∷ xs) ys = heading_run-append (heading_advance r x) xs ys
+
+run_heading_stopped : (k : TextKind) (xs : List ℕ) → heading_run (heading_stopped k) xs ≡ heading_stopped k
+run_heading_stopped k [] = refl
+run_heading_stopped k (x ∷ xs) = run_heading_stopped k xs
+
+-- the word behind its first letter
+abbrev other_letters : List ℕ
+other_letters = codes "enerators"
+
+-- ---- the beginning of a heading
+
+-- what stands behind the first letter, at each place
+abbrev pub IsBegun : HeadingPlace → List ℕ → Type 0
+IsBegun words.G hs = hs ≡ []
+IsBegun words.Ge hs = hs ≡ codes "e"
+IsBegun words.Gen hs = hs ≡ codes "en"
+IsBegun words.Gene hs = hs ≡ codes "ene"
+IsBegun words.Gener hs = hs ≡ codes "ener"
+IsBegun words.Genera hs = hs ≡ codes "enera"
+IsBegun words.Generat hs = hs ≡ codes "enerat"
+IsBegun words.Generato hs = hs ≡ codes "enerato"
+IsBegun words.Generator hs = hs ≡ codes "enerator"
+IsBegun words.Generators hs = (ks : List Blank) × (hs ≡ other_letters ++ blanks_text ks)
+IsBegun words.Comment hs = (ks : List Blank) × (cs : List ℕ) × (hs ≡ other_letters ++ (blanks_text ks ++ 35 ∷ cs))
+
+letter_by : (t u : Bool) (next q : HeadingPlace) → cond t (heading_going next) (cond u (heading_stopped kinds.MissingPart) (heading_stopped kinds.UnknownSign)) ≡ heading_going q → (t ≡ true) × (q ≡ next)
+letter_by true u next q e = (refl, let z : q ≡ next = cc in z)
+letter_by false true next q e = absurd cc
+letter_by false false next q e = absurd cc
+
+is_equal : (b n : ℕ) → (b == n) ≡ true → b ≡ n
+is_equal b n e = elim (eqb_tells b n) [ inl h ↦ h.1 | inr h ↦ absurd (let z : true ≡ false = sym e ∙ h.0 in cc) ]
+
+longer : (hs xs : List ℕ) (b n : ℕ) → hs ≡ xs → b ≡ n → hs ++ b ∷ [] ≡ xs ++ n ∷ []
+longer hs xs b n e f = ap (λ (x : List ℕ). x ++ b ∷ []) e ∙ ap (λ c. xs ++ c ∷ []) f
+
+-- the letter that comes was read
+letter_more : (xs hs : List ℕ) (n b : ℕ) (next q : HeadingPlace) → (hs ++ b ∷ [] ≡ xs ++ n ∷ [] → IsBegun next (hs ++ b ∷ [])) → hs ≡ xs → letter_step n next b ≡ heading_going q → IsBegun q (hs ++ b ∷ [])
+letter_more xs hs n b next q f g h =
+    let e = letter_by (b == n) (b == 35) next q h in
+    subst (λ x. IsBegun x (hs ++ b ∷ [])) (sym e.1) (f (longer hs xs b n g (is_equal b n e.0)))
+
+place_is : (p q : HeadingPlace) → heading_going p ≡ heading_going q → p ≡ q
+place_is p q e = cc
+
+no_place : (k : TextKind) (q : HeadingPlace) {A : Type 0} → heading_stopped k ≡ heading_going q → A
+no_place k q e = absurd cc
+
+behind_more : (m : Mark) (hs : List ℕ) (b : ℕ) (q : HeadingPlace) → IsMark b m → IsBegun words.Generators hs → behind_word m ≡ heading_going q → IsBegun q (hs ++ b ∷ [])
+behind_more marks.Blank hs b q i g h =
+    subst (λ x. IsBegun x (hs ++ b ∷ [])) (place_is words.Generators q h)
+    (g.0 ++ i.0 ∷ [], longer hs (other_letters ++ blanks_text g.0) b (blank_byte i.0) g.1 i.1 ∙ ap (λ (x : List ℕ). other_letters ++ x) (blanks_more g.0 i.0))
+behind_more marks.Hash hs b q i g h = subst (λ x. IsBegun x (hs ++ b ∷ [])) (place_is words.Comment q h) (g.0, [], longer hs (other_letters ++ blanks_text g.0) b 35 g.1 i)
+behind_more (marks.Signs s) hs b q i g h = no_place _ q h
+behind_more (marks.Letter a) hs b q i g h = no_place _ q h
+behind_more (marks.Digit d) hs b q i g h = no_place _ q h
+behind_more marks.Slash hs b q i g h = no_place _ q h
+behind_more marks.Comma hs b q i g h = no_place _ q h
+behind_more marks.Open hs b q i g h = no_place _ q h
+behind_more marks.Close hs b q i g h = no_place _ q h
+behind_more marks.Other hs b q i g h = no_place _ q h
+
+-- one more byte
+pub begun_more : (p q : HeadingPlace) (hs : List ℕ) (b : ℕ) → IsBegun p hs → heading_step b p ≡ heading_going q → IsBegun q (hs ++ b ∷ [])
+begun_more words.G q hs b g h = letter_more [] hs 101 b words.Ge q (λ e. e) g h
+begun_more words.Ge q hs b g h = letter_more (codes "e") hs 110 b words.Gen q (λ e. e) g h
+begun_more words.Gen q hs b g h = letter_more (codes "en") hs 101 b words.Gene q (λ e. e) g h
+begun_more words.Gene q hs b g h = letter_more (codes "ene") hs 114 b words.Gener q (λ e. e) g h
+begun_more words.Gener q hs b g h = letter_more (codes "ener") hs 97 b words.Genera q (λ e. e) g h
+begun_more words.Genera q hs b g h = letter_more (codes "enera") hs 116 b words.Generat q (λ e. e) g h
+begun_more words.Generat q hs b g h = letter_more (codes "enerat") hs 111 b words.Generato q (λ e. e) g h
+begun_more words.Generato q hs b g h = letter_more (codes "enerato") hs 114 b words.Generator q (λ e. e) g h
+begun_more words.Generator q hs b g h = letter_more (codes "enerator") hs 115 b words.Generators q (λ e. ([], e)) g h
+begun_more words.Generators q hs b g h = behind_more (mark b) hs b q (mark_is b) g h
+begun_more words.Comment q hs b g h =
+    subst (λ x. IsBegun x (hs ++ b ∷ [])) (place_is words.Comment q h) (
+      g.0,
+      g.1 ++ b ∷ [],
+      longer hs (other_letters ++ (blanks_text g.0 ++ 35 ∷ g.1)) b b g.2 refl ∙ ap (λ (x : List ℕ). other_letters ++ x) (append_assoc (blanks_text g.0) (35 ∷ g.1) (b ∷ [])),
+    )
+
+-- ---- what was read goes on to a heading
+
+heading_with : (bs : List Blank) (hs rest : List ℕ) (ks : List Blank) (c : Option (List ℕ)) → hs ++ rest ≡ other_letters ++ (blanks_text ks ++ comment_text c) → IsPrefixIn IsHeading (blanks_text bs ++ (103 ∷ hs))
+heading_with bs hs rest ks c e = (
+  rest,
+  record {
+    before = bs;
+    behind = ks;
+    comment = c;
+    text = append_assoc (blanks_text bs) (103 ∷ hs) rest ∙ ap (λ (x : List ℕ). blanks_text bs ++ (103 ∷ x)) e;
+  },
+)
+
+letters_prefix : (bs : List Blank) (xs hs rest : List ℕ) → xs ++ rest ≡ other_letters → hs ≡ xs → IsPrefixIn IsHeading (blanks_text bs ++ (103 ∷ hs))
+letters_prefix bs xs hs rest e g = heading_with bs hs rest [] None (ap (λ (x : List ℕ). x ++ rest) g ∙ (e ∙ refl))
+
+pub whole_heading : (bs : List Blank) (p : HeadingPlace) (hs : List ℕ) → IsBegun p hs → is_whole p ≡ true → IsHeading (blanks_text bs ++ (103 ∷ hs))
+whole_heading bs words.Generators hs g e =
+    record { before = bs; behind = g.0; comment = None; text = ap (λ (x : List ℕ). blanks_text bs ++ (103 ∷ x)) (g.1 ∙ ap (λ (x : List ℕ). other_letters ++ x) (sym (append-nil (blanks_text g.0)))) }
+whole_heading bs words.Comment hs g e = record { before = bs; behind = g.0; comment = Some g.1; text = ap (λ (x : List ℕ). blanks_text bs ++ (103 ∷ x)) g.2 }
+whole_heading bs words.G hs g e = absurd cc
+whole_heading bs words.Ge hs g e = absurd cc
+whole_heading bs words.Gen hs g e = absurd cc
+whole_heading bs words.Gene hs g e = absurd cc
+whole_heading bs words.Gener hs g e = absurd cc
+whole_heading bs words.Genera hs g e = absurd cc
+whole_heading bs words.Generat hs g e = absurd cc
+whole_heading bs words.Generato hs g e = absurd cc
+whole_heading bs words.Generator hs g e = absurd cc
+
+itself : (bytes : List ℕ) → IsHeading bytes → IsPrefixIn IsHeading bytes
+itself bytes h = ([], subst IsHeading (sym (append-nil bytes)) h)
+
+pub begun_prefix : (bs : List Blank) (p : HeadingPlace) (hs : List ℕ) → IsBegun p hs → IsPrefixIn IsHeading (blanks_text bs ++ (103 ∷ hs))
+begun_prefix bs words.G hs g = letters_prefix bs [] hs (codes "enerators") refl g
+begun_prefix bs words.Ge hs g = letters_prefix bs (codes "e") hs (codes "nerators") refl g
+begun_prefix bs words.Gen hs g = letters_prefix bs (codes "en") hs (codes "erators") refl g
+begun_prefix bs words.Gene hs g = letters_prefix bs (codes "ene") hs (codes "rators") refl g
+begun_prefix bs words.Gener hs g = letters_prefix bs (codes "ener") hs (codes "ators") refl g
+begun_prefix bs words.Genera hs g = letters_prefix bs (codes "enera") hs (codes "tors") refl g
+begun_prefix bs words.Generat hs g = letters_prefix bs (codes "enerat") hs (codes "ors") refl g
+begun_prefix bs words.Generato hs g = letters_prefix bs (codes "enerato") hs (codes "rs") refl g
+begun_prefix bs words.Generator hs g = letters_prefix bs (codes "enerator") hs (codes "s") refl g
+begun_prefix bs words.Generators hs g = itself (blanks_text bs ++ (103 ∷ hs)) (whole_heading bs words.Generators hs g refl)
+begun_prefix bs words.Comment hs g = itself (blanks_text bs ++ (103 ∷ hs)) (whole_heading bs words.Comment hs g refl)
+
+-- ---- a heading is read
+
+blanks_run : (ks : List Blank) (xs : List ℕ) → heading_run (heading_going words.Generators) (blanks_text ks ++ xs) ≡ heading_run (heading_going words.Generators) xs
+blanks_run [] xs = refl
+blanks_run (space ∷ ks) xs = blanks_run ks xs
+blanks_run (tab ∷ ks) xs = blanks_run ks xs
+blanks_run (carriage_return ∷ ks) xs = blanks_run ks xs
+
+comment_run : (cs : List ℕ) → heading_run (heading_going words.Comment) cs ≡ heading_going words.Comment
+comment_run [] = refl
+comment_run (c ∷ cs) = comment_run cs
+
+begun_run : (p : HeadingPlace) (hs : List ℕ) → IsBegun p hs → heading_run (heading_going words.G) hs ≡ heading_going p
+begun_run words.G hs g = ap (heading_run (heading_going words.G)) g
+begun_run words.Ge hs g = ap (heading_run (heading_going words.G)) g
+begun_run words.Gen hs g = ap (heading_run (heading_going words.G)) g
+begun_run words.Gene hs g = ap (heading_run (heading_going words.G)) g
+begun_run words.Gener hs g = ap (heading_run (heading_going words.G)) g
+begun_run words.Genera hs g = ap (heading_run (heading_going words.G)) g
+begun_run words.Generat hs g = ap (heading_run (heading_going words.G)) g
+begun_run words.Generato hs g = ap (heading_run (heading_going words.G)) g
+begun_run words.Generator hs g = ap (heading_run (heading_going words.G)) g
+begun_run words.Generators hs g = ap (heading_run (heading_going words.G)) (g.1 ∙ ap (λ (x : List ℕ). other_letters ++ x) (sym (append-nil (blanks_text g.0)))) ∙ blanks_run g.0 []
+begun_run words.Comment hs g = ap (heading_run (heading_going words.G)) g.2 ∙ (blanks_run g.0 (35 ∷ g.1) ∙ comment_run g.1)
+
+-- the bytes behind the first letter are read to the end of the heading
+record IsRead (hs : List ℕ) : Type 0 where
+  last : HeadingPlace
+  run_is : heading_run (heading_going words.G) hs ≡ heading_going last
+  whole : is_whole last ≡ true
+
+word_read : (ks : List Blank) (c : Option (List ℕ)) → IsRead (other_letters ++ (blanks_text ks ++ comment_text c))
+word_read ks None = record { last = words.Generators; run_is = blanks_run ks []; whole = refl }
+word_read ks (Some cs) = record { last = words.Comment; run_is = blanks_run ks (35 ∷ cs) ∙ comment_run cs; whole = refl }
+
+-- ---- where the word begins
+
+blank_no_g : (k : Blank) → blank_byte k ≢ 103
+blank_no_g space e = omega arith
+blank_no_g tab e = omega arith
+blank_no_g carriage_return e = omega arith
+
+head_is : (a b : ℕ) (xs ys : List ℕ) → a ∷ xs ≡ b ∷ ys → a ≡ b
+head_is a b xs ys e = cc
+
+tail_is : (a b : ℕ) (xs ys : List ℕ) → a ∷ xs ≡ b ∷ ys → xs ≡ ys
+tail_is a b xs ys e = cc
+
+behind_g : (bs ks : List Blank) (xs ys : List ℕ) → blanks_text bs ++ (103 ∷ xs) ≡ blanks_text ks ++ (103 ∷ ys) → xs ≡ ys
+behind_g [] [] xs ys e = tail_is 103 103 xs ys e
+behind_g [] (k ∷ ks) xs ys e = absurd (blank_no_g k (sym (head_is _ _ _ _ e)))
+behind_g (b ∷ bs) [] xs ys e = absurd (blank_no_g b (head_is _ _ _ _ e))
+behind_g (b ∷ bs) (k ∷ ks) xs ys e = behind_g bs ks xs ys (tail_is _ _ _ _ e)
+
+begins_by : (bs ks : List Blank) (b : ℕ) (xs ys : List ℕ) → blanks_text bs ++ (b ∷ xs) ≡ blanks_text ks ++ (103 ∷ ys) → (b ≡ 103) ⊎ ((k : Blank) × (b ≡ blank_byte k))
+begins_by [] [] b xs ys e = inl (head_is b 103 xs ys e)
+begins_by [] (k ∷ ks) b xs ys e = inr (k, head_is _ _ _ _ e)
+begins_by (c ∷ bs) [] b xs ys e = absurd (blank_no_g c (head_is _ _ _ _ e))
+begins_by (c ∷ bs) (k ∷ ks) b xs ys e = begins_by bs ks b xs ys (tail_is _ _ _ _ e)
+
+heading_read : (bs : List Blank) (hs : List ℕ) → IsHeading (blanks_text bs ++ (103 ∷ hs)) → IsRead hs
+heading_read bs hs h = subst IsRead (sym (behind_g bs h.before hs (other_letters ++ (blanks_text h.behind ++ comment_text h.comment)) h.text)) (word_read h.behind h.comment)
+
+-- ---- what is no heading
+
+-- where the reader stops none begins so
+pub no_heading : (bs : List Blank) (p : HeadingPlace) (hs : List ℕ) (b : ℕ) (k : TextKind) → IsBegun p hs → heading_step b p ≡ heading_stopped k → IsPrefixIn IsHeading (blanks_text bs ++ (103 ∷ (hs ++ b ∷ []))) → ⊥
+no_heading bs p hs b k g e h =
+    let r = heading_read bs ((hs ++ b ∷ []) ++ h.0) (subst IsHeading (append_assoc (blanks_text bs) (103 ∷ (hs ++ b ∷ [])) h.0) h.1) in
+    let s : heading_run (heading_going words.G) (hs ++ b ∷ []) ≡ heading_stopped k = heading_run-append (heading_going words.G) hs (b ∷ []) ∙ (ap (λ (x : Result HeadingPlace TextKind). heading_advance x b) (begun_run p hs g) ∙ e) in
+    let t : heading_run (heading_going words.G) ((hs ++ b ∷ []) ++ h.0) ≡ heading_stopped k =
+        heading_run-append (heading_going words.G) (hs ++ b ∷ []) h.0 ∙ (ap (λ (x : Result HeadingPlace TextKind). heading_run x h.0) s ∙ run_heading_stopped k h.0) in
+    let z : heading_going r.last ≡ heading_stopped k = sym r.run_is ∙ t in
+    cc
+
+-- a word that ends too early
+pub no_whole_heading : (bs : List Blank) (p : HeadingPlace) (hs : List ℕ) → IsBegun p hs → is_whole p ≡ false → IsHeading (blanks_text bs ++ (103 ∷ hs)) → ⊥
+no_whole_heading bs p hs g e h =
+    let r = heading_read bs hs h in
+    let s : p ≡ r.last = place_is p r.last (sym (begun_run p hs g) ∙ r.run_is) in
+    let z : true ≡ false = sym r.whole ∙ (ap is_whole (sym s) ∙ e) in
+    cc
+
+-- no other byte begins it
+pub other_beginning : (bs : List Blank) (b : ℕ) → b ≢ 103 → ((k : Blank) → b ≢ blank_byte k) → IsPrefixIn IsHeading (blanks_text bs ++ b ∷ []) → ⊥
+other_beginning bs b n m h =
+    elim (begins_by bs h.1.before b h.0 _ (sym (append_assoc (blanks_text bs) (b ∷ []) h.0) ∙ h.1.text)) [
+      | inl e ↦ n e
+      | inr e ↦ m e.0 e.1
+    ]
+
+-- ---- the faults of the reader
+
+-- a byte that the heading does not go on with: a comment too early, or any other
+pub stopped_by : (p : HeadingPlace) (b : ℕ) (k : TextKind) → heading_step b p ≡ heading_stopped k → ((b ≡ 35) × (k ≡ kinds.MissingPart)) ⊎ ((mark b ≢ marks.Hash) × (k ≡ kinds.UnknownSign))
+stopped_by p b k h = by_place p h
+  where
+    kind_is : (j : TextKind) → heading_stopped j ≡ heading_stopped k → k ≡ j
+    kind_is j e = cc
+
+    hash_is : mark b ≡ marks.Hash → b ≡ 35
+    hash_is e = subst (IsMark b) e (mark_is b)
+
+    letter : (n : ℕ) (next : HeadingPlace) → letter_step n next b ≡ heading_stopped k → ((b ≡ 35) × (k ≡ kinds.MissingPart)) ⊎ ((mark b ≢ marks.Hash) × (k ≡ kinds.UnknownSign))
+    letter n next e = by (b == n) e
+      where
+        by : (t : Bool) → cond t (heading_going next) (cond (b == 35) (heading_stopped kinds.MissingPart) (heading_stopped kinds.UnknownSign)) ≡ heading_stopped k → ((b ≡ 35) × (k ≡ kinds.MissingPart)) ⊎ ((mark b ≢ marks.Hash) × (k ≡ kinds.UnknownSign))
+        by true e = absurd cc
+        by false e =
+            elim (eqb_tells b 35) [
+              | inl x ↦ inl (x.1, kind_is kinds.MissingPart (sym (ap (λ t. cond t (heading_stopped kinds.MissingPart) (heading_stopped kinds.UnknownSign)) x.0) ∙ e))
+              | inr x ↦ inr (
+                  (λ y. let z : (b == 35) ≡ true = ap (λ c. c == 35) (hash_is y) in let w : true ≡ false = sym z ∙ x.0 in cc),
+                  kind_is kinds.UnknownSign (sym (ap (λ t. cond t (heading_stopped kinds.MissingPart) (heading_stopped kinds.UnknownSign)) x.0) ∙ e),
+                )
+            ]
+
+    behind : (m : Mark) → mark b ≡ m → behind_word m ≡ heading_stopped k → ((b ≡ 35) × (k ≡ kinds.MissingPart)) ⊎ ((mark b ≢ marks.Hash) × (k ≡ kinds.UnknownSign))
+    behind marks.Blank i e = absurd cc
+    behind marks.Hash i e = absurd cc
+    behind (marks.Signs s) i e = inr ((λ y. let z : marks.Signs s ≡ marks.Hash = sym i ∙ y in cc), kind_is kinds.UnknownSign e)
+    behind (marks.Letter a) i e = inr ((λ y. let z : marks.Letter a ≡ marks.Hash = sym i ∙ y in cc), kind_is kinds.UnknownSign e)
+    behind (marks.Digit d) i e = inr ((λ y. let z : marks.Digit d ≡ marks.Hash = sym i ∙ y in cc), kind_is kinds.UnknownSign e)
+    behind marks.Slash i e = inr ((λ y. let z : marks.Slash ≡ marks.Hash = sym i ∙ y in cc), kind_is kinds.UnknownSign e)
+    behind marks.Comma i e = inr ((λ y. let z : marks.Comma ≡ marks.Hash = sym i ∙ y in cc), kind_is kinds.UnknownSign e)
+    behind marks.Open i e = inr ((λ y. let z : marks.Open ≡ marks.Hash = sym i ∙ y in cc), kind_is kinds.UnknownSign e)
+    behind marks.Close i e = inr ((λ y. let z : marks.Close ≡ marks.Hash = sym i ∙ y in cc), kind_is kinds.UnknownSign e)
+    behind marks.Other i e = inr ((λ y. let z : marks.Other ≡ marks.Hash = sym i ∙ y in cc), kind_is kinds.UnknownSign e)
+
+    by_place : (p : HeadingPlace) → heading_step b p ≡ heading_stopped k → ((b ≡ 35) × (k ≡ kinds.MissingPart)) ⊎ ((mark b ≢ marks.Hash) × (k ≡ kinds.UnknownSign))
+    by_place words.G e = letter 101 words.Ge e
+    by_place words.Ge e = letter 110 words.Gen e
+    by_place words.Gen e = letter 101 words.Gene e
+    by_place words.Gene e = letter 114 words.Gener e
+    by_place words.Gener e = letter 97 words.Genera e
+    by_place words.Genera e = letter 116 words.Generat e
+    by_place words.Generat e = letter 111 words.Generato e
+    by_place words.Generato e = letter 114 words.Generator e
+    by_place words.Generator e = letter 115 words.Generators e
+    by_place words.Generators e = behind (mark b) refl e
+    by_place words.Comment e = absurd cc

@@ -1,0 +1,64 @@
+-- What is kept of a line stays within its bounds, also in the heading.
+use Rattle.std.proofs.Common.{◌≡◌, ℕ, ◌+◌, ◌≤◌, Bool, true, false, cond, Option, Result, Ok, Err, refl, sym, subst}
+use Rattle.std.specs.Prelude.{◌==◌}
+use Rattle.triplets.specs.declared.fault.TextKind.{TextKind}
+use Rattle.triplets.specs.declared.marks.Mark.{Mark}
+use Rattle.triplets.specs.declared.marks.Mark.TheVariants as marks
+use Rattle.triplets.specs.declared.line.LinePlace.{LinePlace}
+use Rattle.triplets.specs.declared.line.LinePlace.TheVariants as places
+use Rattle.triplets.specs.declared.heading.HeadingPlace.{HeadingPlace}
+use Rattle.triplets.specs.declared.heading.HeadingPlace.TheVariants as words
+use Rattle.triplets.specs.declared.place.TextPlace.{TextPlace}
+use Rattle.triplets.specs.declared.place.TextPlace.TheVariants as texts
+use Rattle.triplets.specs.Marks.{mark}
+use Rattle.triplets.specs.LineReading.{start_step, place_step}
+use Rattle.triplets.specs.HeadingReading.{in_heading, in_line, begin_line, from_beginning, text_step, heading_step, IsTextPlaceSmall}
+use Rattle.triplets.specs.PlaceBounds.{IsPlaceWithin, IsTextPlaceWithin}
+use Rattle.triplets.proofs.LineBounds.{placed, place_within, place_small}
+
+abbrev stands_at : TextPlace → Result TextPlace TextKind
+stands_at p = Ok p
+
+same_place : (n : ℕ) (p q : TextPlace) → stands_at p ≡ stands_at q → IsTextPlaceWithin n p → IsTextPlaceWithin n q
+same_place n p q e h = subst (IsTextPlaceWithin n) (let z : p ≡ q = cc in z) h
+
+line_within : (n : ℕ) (r : Result LinePlace TextKind) (q : TextPlace) → ((p : LinePlace) → r ≡ placed p → IsPlaceWithin n p) → in_line r ≡ stands_at q → IsTextPlaceWithin n q
+line_within n (Ok p) q f e = same_place n (texts.Line p) q e (f p refl)
+line_within n (Err k) q f e = absurd cc
+
+heading_within : (n : ℕ) (r : Result HeadingPlace TextKind) (q : TextPlace) → in_heading r ≡ stands_at q → IsTextPlaceWithin n q
+heading_within n (Ok p) q e = same_place n (texts.Heading p) q e tt
+heading_within n (Err k) q e = absurd cc
+
+first_within : (m : Mark) (b n : ℕ) (q : TextPlace) → mark b ≡ m → begin_line m ≡ stands_at q → IsTextPlaceWithin (n + 1) q
+first_within m b n q i e = by m i e
+  where
+    begun : (m : Mark) → mark b ≡ m → in_line (start_step m) ≡ stands_at q → IsTextPlaceWithin (n + 1) q
+    begun m i e = line_within (n + 1) (start_step m) q (λ p w. place_within b n places.Start p tt (subst (λ x. start_step x ≡ placed p) (sym i) w)) e
+
+    by : (m : Mark) → mark b ≡ m → begin_line m ≡ stands_at q → IsTextPlaceWithin (n + 1) q
+    by marks.Blank i e = same_place (n + 1) texts.Beginning q e tt
+    by (marks.Signs s) i e = begun (marks.Signs s) i e
+    by (marks.Letter a) i e = begun (marks.Letter a) i e
+    by (marks.Digit d) i e = begun (marks.Digit d) i e
+    by marks.Slash i e = begun marks.Slash i e
+    by marks.Comma i e = begun marks.Comma i e
+    by marks.Hash i e = begun marks.Hash i e
+    by marks.Open i e = begun marks.Open i e
+    by marks.Close i e = begun marks.Close i e
+    by marks.Other i e = begun marks.Other i e
+
+beginning_within : (t : Bool) (b n : ℕ) (q : TextPlace) → cond t (stands_at (texts.Heading words.G)) (begin_line (mark b)) ≡ stands_at q → IsTextPlaceWithin (n + 1) q
+beginning_within true b n q e = same_place (n + 1) (texts.Heading words.G) q e tt
+beginning_within false b n q e = first_within (mark b) b n q refl e
+
+-- the place stays within what the column allows
+pub text_place_within : (b n : ℕ) (p q : TextPlace) → IsTextPlaceWithin n p → text_step b p ≡ stands_at q → IsTextPlaceWithin (n + 1) q
+text_place_within b n texts.Beginning q h e = beginning_within (b == 103) b n q e
+text_place_within b n (texts.Heading p) q h e = heading_within (n + 1) (heading_step b p) q e
+text_place_within b n (texts.Line p) q h e = line_within (n + 1) (place_step (mark b) p) q (λ r w. place_within b n p r h w) e
+
+pub text_place_small : (p : TextPlace) (n : ℕ) → n ≤ 16777216 → IsTextPlaceWithin n p → IsTextPlaceSmall p
+text_place_small texts.Beginning n b h = tt
+text_place_small (texts.Heading p) n b h = tt
+text_place_small (texts.Line p) n b h = place_small p n b h

@@ -1,0 +1,95 @@
+-- What the reader does in line 1, and where in a text it stands.
+use Rattle.std.specs.Prelude.{ℕ, ◌==◌, Bool, true, false, if◌then◌else◌, List, Option, Some, None, Result, Ok, Err}
+use Rattle.triplets.specs.Bytes.{hash}
+use Rattle.triplets.specs.declared.marks.Mark.{Mark}
+use Rattle.triplets.specs.declared.marks.Mark.TheVariants as marks
+use Rattle.triplets.specs.declared.fault.TextKind.{TextKind}
+use Rattle.triplets.specs.declared.fault.TextKind.TheVariants as kinds
+use Rattle.motions.specs.declared.motion.Motion3.{Motion3}
+use Rattle.fractions.specs.declared.part.Part.{Part}
+use Rattle.triplets.specs.declared.line.LinePlace.{LinePlace}
+use Rattle.triplets.specs.declared.heading.HeadingPlace.{HeadingPlace}
+use Rattle.triplets.specs.declared.heading.HeadingPlace.TheVariants as words
+use Rattle.triplets.specs.declared.place.TextPlace.{TextPlace}
+use Rattle.triplets.specs.declared.place.TextPlace.TheVariants as texts
+use Rattle.triplets.specs.Marks.{mark}
+use Rattle.triplets.specs.LineReading.{start_step, place_step, completed, ending, IsPlaceSmall}
+
+-- a byte where this letter of the word comes
+abbrev pub letter_step : ℕ → HeadingPlace → ℕ → Result HeadingPlace TextKind
+letter_step letter next b = if b == letter then Ok next else (if b == hash then Err kinds.MissingPart else Err kinds.UnknownSign)
+
+-- a byte behind the word
+abbrev pub behind_word : Mark → Result HeadingPlace TextKind
+behind_word marks.Blank = Ok words.Generators
+behind_word marks.Hash = Ok words.Comment
+behind_word _ = Err kinds.UnknownSign
+
+-- a byte of the heading
+abbrev pub heading_step : ℕ → HeadingPlace → Result HeadingPlace TextKind
+heading_step b words.G = letter_step 101 words.Ge b
+heading_step b words.Ge = letter_step 110 words.Gen b
+heading_step b words.Gen = letter_step 101 words.Gene b
+heading_step b words.Gene = letter_step 114 words.Gener b
+heading_step b words.Gener = letter_step 97 words.Genera b
+heading_step b words.Genera = letter_step 116 words.Generat b
+heading_step b words.Generat = letter_step 111 words.Generato b
+heading_step b words.Generato = letter_step 114 words.Generator b
+heading_step b words.Generator = letter_step 115 words.Generators b
+heading_step b words.Generators = behind_word (mark b)
+heading_step b words.Comment = Ok words.Comment
+
+-- whether the heading may end here
+abbrev pub is_whole : HeadingPlace → Bool
+is_whole words.Generators = true
+is_whole words.Comment = true
+is_whole _ = false
+
+-- the step of the heading, in a text
+abbrev pub in_heading : Result HeadingPlace TextKind → Result TextPlace TextKind
+in_heading (Ok p) = Ok (texts.Heading p)
+in_heading (Err k) = Err k
+
+-- the step of a line, in a text
+abbrev pub in_line : Result LinePlace TextKind → Result TextPlace TextKind
+in_line (Ok p) = Ok (texts.Line p)
+in_line (Err k) = Err k
+
+-- the first byte of line 1 that is no blank begins a line, if it does not begin the word
+abbrev pub begin_line : Mark → Result TextPlace TextKind
+begin_line marks.Blank = Ok texts.Beginning
+begin_line m = in_line (start_step m)
+
+-- a byte of line 1 behind blanks: the letter g begins the word
+abbrev pub from_beginning : ℕ → Result TextPlace TextKind
+from_beginning b = if b == 103 then Ok (texts.Heading words.G) else begin_line (mark b)
+
+-- a byte of a line of the text
+abbrev pub text_step : ℕ → TextPlace → Result TextPlace TextKind
+text_step b texts.Beginning = from_beginning b
+text_step b (texts.Heading p) = in_heading (heading_step b p)
+text_step b (texts.Line p) = in_line (place_step (mark b) p)
+
+-- the vector that the byte completes
+abbrev pub text_completed : ℕ → TextPlace → Option (List Part)
+text_completed b texts.Beginning = None
+text_completed b (texts.Heading p) = None
+text_completed b (texts.Line p) = completed (mark b) p
+
+-- where a line may end, the operation that stands in it
+abbrev pub text_ending : TextPlace → Option (Option Motion3)
+text_ending texts.Beginning = Some None
+text_ending (texts.Heading p) = if is_whole p then Some None else None
+text_ending (texts.Line p) = ending p
+
+-- whether the line is the heading
+abbrev pub is_heading : TextPlace → Bool
+is_heading texts.Beginning = false
+is_heading (texts.Heading p) = true
+is_heading (texts.Line p) = false
+
+-- the numbers are small
+abbrev pub IsTextPlaceSmall : TextPlace → Type 0
+IsTextPlaceSmall texts.Beginning = Unit {0}
+IsTextPlaceSmall (texts.Heading p) = Unit {0}
+IsTextPlaceSmall (texts.Line p) = IsPlaceSmall p

@@ -1,0 +1,78 @@
+// Where in a text the reader stands: line 1 may be the heading, and the others are lines of the grammar.
+ghost use Rattle.std.specs.Prelude.{◌≡◌};
+
+use crate::fault::TextKind;
+use crate::heading::HeadingPlace;
+use crate::line::LinePlace;
+use crate::marks::{Mark, mark_of};
+use fractions::Part;
+use motions::Motion3;
+
+/// Where in a text the reader stands.
+#[derive(Clone, Copy, Debug)]
+pub enum TextPlace {
+    /// In line 1, and nothing but blanks before.
+    Beginning,
+    /// In the heading.
+    Heading(HeadingPlace),
+    /// In any other line.
+    Line(LinePlace),
+}
+
+impl TextPlace {
+    ghost use Rattle.triplets.specs.HeadingReading.{from_beginning, text_step, text_completed, text_ending, is_heading, IsTextPlaceSmall};
+
+    fn from_beginning(byte: u8) -> Result<TextPlace, TextKind>
+        ensures { result ≡ from_beginning byte }
+    {
+        if byte == b'g' {
+            return Ok(TextPlace::Heading(HeadingPlace::G));
+        }
+        match mark_of(byte) {
+            Mark::Blank => Ok(TextPlace::Beginning),
+            mark => Ok(TextPlace::Line(LinePlace::Start.step(mark)?)),
+        }
+    }
+
+    /// Reads one more byte of a line.
+    pub fn step(self, byte: u8) -> Result<TextPlace, TextKind>
+        requires { IsTextPlaceSmall self }
+        ensures { result ≡ text_step byte self }
+    {
+        match self {
+            TextPlace::Beginning => TextPlace::from_beginning(byte),
+            TextPlace::Heading(place) => Ok(TextPlace::Heading(place.step(byte)?)),
+            TextPlace::Line(place) => Ok(TextPlace::Line(place.step(mark_of(byte))?)),
+        }
+    }
+
+    /// The centring vector that the byte completes.
+    pub fn completed(self, byte: u8) -> Option<[Part; 3]>
+        ensures { result ≡ text_completed byte self }
+    {
+        match self {
+            TextPlace::Line(place) => place.completed(mark_of(byte)),
+            _ => None,
+        }
+    }
+
+    /// The operation of the line, if the line may end here.
+    pub fn ending(self) -> Option<Option<Motion3>>
+        requires { IsTextPlaceSmall self }
+        ensures { result ≡ text_ending self }
+    {
+        match self {
+            TextPlace::Beginning => Some(None),
+            TextPlace::Heading(place) if place.is_whole() => Some(None),
+            TextPlace::Heading(_) => None,
+            TextPlace::Line(place) => place.ending(),
+        }
+    }
+
+    /// Whether this line is the heading.
+    pub fn is_heading(self) -> bool
+        ensures { result ≡ is_heading self }
+    {
+        matches!(self, TextPlace::Heading(_))
+    }
+}
