@@ -9,7 +9,7 @@ use Rattle.closure.specs.declared.group.Group.{Group}
 use Rattle.closure.proofs.DerivedListings.{derived_within}
 use Rattle.closure.proofs.OneGroup.{group_of_derived}
 use Rattle.triplets.specs.Texts.{IsGroupText}
-use Rattle.triplets.proofs.OneFault.{one_kind, one_listing}
+use Rattle.triplets.proofs.OneFault.{one_flag, one_listing}
 use Rattle.requests.specs.Inputs.{IsGeneratedBy, IsGroupOfInput, IsShort, ListsGroup}
 
 module _ (input : List ℕ) (group : Group) (short : IsShort input) where
@@ -22,8 +22,8 @@ module _ (input : List ℕ) (group : Group) (short : IsShort input) where
   }
     where
       go : (h : Listing) → IsGroupText input false h ⊎ IsGeneratedBy input h → IsGroupOf h group
-      go h (inl text') = subst (λ (l : Listing). IsGroupOf l group) (one_listing input false g h text text') made
-      go h (inr of) = let same = one_kind input false true g of.generators text of.is_text in absurd cc
+      go h (inl text') = subst (λ (l : Listing). IsGroupOf l group) (one_listing input false false g h text text') made
+      go h (inr of) = let same = one_flag input false true g of.generators text of.is_text in absurd cc
 
   -- of a text that lists generators
   pub group_generated : (g : Listing) → IsGroupText input true g → GeneratesWithinLimits g → IsDerivedListing g (group_listing group) → IsGroupOfInput input group
@@ -41,7 +41,7 @@ module _ (input : List ℕ) (group : Group) (short : IsShort input) where
   }
     where
       go : (h : Listing) → IsGroupText input false h ⊎ IsGeneratedBy input h → IsGroupOf h group
-      go h (inl text') = let same = one_kind input false true h g text' text in absurd cc
+      go h (inl text') = let same = one_flag input false true h g text' text in absurd cc
       go h (inr of) =
           group_of_derived g h group limits.invertible
-          (subst (λ (l : Listing). IsDerivedListing l h) (one_listing input true of.generators g of.is_text text) of.derived) derived
+          (subst (λ (l : Listing). IsDerivedListing l h) (one_listing input true true of.generators g of.is_text text) of.derived) derived

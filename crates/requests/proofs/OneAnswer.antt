@@ -16,7 +16,7 @@ use Rattle.plane_lattice.proofs.FrameListings.{one_frame_fault}
 use Rattle.closure.proofs.OneDerived.{one_generated_error, no_generated_and_error}
 use Rattle.closure.proofs.OneError.{one_group_error, no_group_and_error}
 use Rattle.triplets.specs.Texts.{IsGroupText}
-use Rattle.triplets.proofs.OneFault.{one_kind, one_listing, one_fault, no_listing_and_fault}
+use Rattle.triplets.proofs.OneFault.{one_flag, one_listing, one_fault, no_listing_and_fault}
 use Rattle.requests.specs.declared.refusal.Refusal.{Refusal}
 use Rattle.requests.specs.declared.obstacle.Obstacle.TheVariants as obstacles
 use Rattle.requests.specs.Obstacles.{IsFairFrame, RefusesFrame, obstacle_of_generators, obstacle_of_group, refusal_of_frame}
@@ -50,7 +50,7 @@ known_of_generators e r is memory =
 -- a text lists operations or generators, and one listing of them
 module _ (input : List ℕ) where
   not_both_kinds : (g h : Listing) → IsGroupText input false g → IsGroupText input true h → ⊥
-  not_both_kinds g h p q = let same = one_kind input false true g h p q in absurd cc
+  not_both_kinds g h p q = let same = one_flag input false true g h p q in absurd cc
 
   module _ (r r' : Refusal) where
     one_cause : (c d : Cause) → IsCause input c → IsCause input d → obstacle_of c ≡ obstacles.Refused r → obstacle_of d ≡ obstacles.Refused r' → c ≡ d
@@ -65,14 +65,14 @@ module _ (input : List ℕ) where
     one_cause (of_group g) too_long p q e e' = absurd (not_both input q p.0)
     one_cause (of_group g) (of_text f) p q e e' = absurd (no_listing_and_fault input false p.1.0 f q.1 p.1.1)
     one_cause (of_group g) (of_group g') (short, (l, text, error)) (short', (l', text', error')) e e' =
-        ap of_group (one_group_error l g g' (known g r e) (known g' r' e') error (subst (λ (l : Listing). IsGroupError l g') (one_listing input false l' l text' text) error'))
+        ap of_group (one_group_error l g g' (known g r e) (known g' r' e') error (subst (λ (l : Listing). IsGroupError l g') (one_listing input false false l' l text' text) error'))
     one_cause (of_group g) (of_generators g') p q e e' = absurd (not_both_kinds p.1.0 q.1.0 p.1.1 q.1.1)
     one_cause (of_generators g) too_long p q e e' = absurd (not_both input q p.0)
     one_cause (of_generators g) (of_text f) p q e e' = absurd (no_listing_and_fault input true p.1.0 f q.1 p.1.1)
     one_cause (of_generators g) (of_group g') p q e e' = absurd (not_both_kinds q.1.0 p.1.0 q.1.1 p.1.1)
     one_cause (of_generators g) (of_generators g') (short, (l, text, error)) (short', (l', text', error')) e e' =
         ap of_generators (one_generated_error l g g' (known_of_generators g r e) (known_of_generators g' r' e') error
-        (subst (λ (l : Listing). IsGeneratedError l g') (one_listing input true l' l text' text) error'))
+        (subst (λ (l : Listing). IsGeneratedError l g') (one_listing input true true l' l text' text) error'))
 
   pub no_group_and_cause : (r : Refusal) (g : Listing) (c : Cause) → IsShort input → ListsGroup input g → IsCause input c → obstacle_of c ≡ obstacles.Refused r → ⊥
   no_group_and_cause r g c short lists p e = go c lists.is_text p e
@@ -82,12 +82,12 @@ module _ (input : List ℕ) where
       go (of_text f) (inl text) p e = no_listing_and_fault input false g f p.1 text
       go (of_text f) (inr of) p e = no_listing_and_fault input true of.generators f p.1 of.is_text
       go (of_group error) (inl text) (short', (l, text', is)) e =
-          known error r e (no_group_and_error g error lists.within lists.is_group (subst (λ (l : Listing). IsGroupError l error) (one_listing input false l g text' text) is))
+          known error r e (no_group_and_error g error lists.within lists.is_group (subst (λ (l : Listing). IsGroupError l error) (one_listing input false false l g text' text) is))
       go (of_group error) (inr of) (short', (l, text', is)) e = not_both_kinds l of.generators text' of.is_text
       go (of_generators error) (inl text) (short', (l, text', is)) e = not_both_kinds g l text text'
       go (of_generators error) (inr of) (short', (l, text', is)) e =
           known_of_generators error r e (no_generated_and_error of.generators error of.limits
-          (subst (λ (l : Listing). IsGeneratedError l error) (one_listing input true l of.generators text' of.is_text) is))
+          (subst (λ (l : Listing). IsGeneratedError l error) (one_listing input true true l of.generators text' of.is_text) is))
 
 -- ---- why a group has no answer
 
