@@ -1,8 +1,8 @@
 // What a text says is one thing, for a text of any length, and the limit of what is read, in numbers. A call does nothing:
 // its contract is the law.
 ghost use Rattle.std.specs.Prelude.{◌≡◌, ℕ, Bool, List};
-ghost use Rattle.symmetry.specs.Vectors.{Vector};
 ghost use Rattle.symmetry.specs.Groups.{Listing};
+ghost use Rattle.symmetry.specs.Vectors.{Vector};
 ghost use Rattle.triplets.specs.BegunLines.{AreBegunVectors};
 ghost use Rattle.triplets.specs.KeptTexts.{IsKept};
 ghost use Rattle.triplets.specs.Texts.{Fault, IsGroupText, IsTextFault};
