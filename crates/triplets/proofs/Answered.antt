@@ -27,7 +27,7 @@ are_lines_one (l ∷ ls) a b h i =
     h.4 ∙ (ap (λ (x : Listing). listed_then x h.1) e ∙ (ap (listed_then i.0) f ∙ sym i.4))
 
 -- a heading is no line of the grammar
-text_lines_one : (c d : Bool) (ls : List (List ℕ)) (a b : Listing) → AreTextLines c ls a → AreTextLines d ls b → make_said c a ≡ make_said d b
+pub text_lines_one : (c d : Bool) (ls : List (List ℕ)) (a b : Listing) → AreTextLines c ls a → AreTextLines d ls b → make_said c a ≡ make_said d b
 text_lines_one true true [] a b h i = absurd h
 text_lines_one true true (l ∷ ls) a b h i = ap (make_said true) (are_lines_one ls a b h.1 i.1)
 text_lines_one true false [] a b h i = absurd h

@@ -23,6 +23,8 @@ use Rattle.triplets.specs.LineReading.{line_start, line_run, start_step, at_plac
 use Rattle.triplets.specs.HeadingReading.{heading_step, is_whole, in_heading, in_line, begin_line, from_beginning}
 use Rattle.triplets.specs.LineFaults.{IsGoodLine, IsGoodFirstLine, IsFaultIn, IsLineFault}
 use Rattle.triplets.specs.Texts.{with_front, lines_of, nothing_listed, listed_then, AreTextLines, IsFirstBad, IsFirstShown, Fault}
+use Rattle.triplets.specs.BegunLines.{AreBegunVectors}
+use Rattle.triplets.specs.KeptTexts.{AreKept}
 use Rattle.triplets.specs.TextReading.{Said, Kept, kept_start, moved, new_line, ended, fault_here, text_run, outcome, group_of}
 use Rattle.triplets.proofs.TextRuns.{faulty, run_faulty}
 use Rattle.triplets.proofs.LineBegun.{line_going, line_stopped, state_of}
@@ -30,9 +32,11 @@ use Rattle.triplets.proofs.LineEnds.{is_line_prefix}
 use Rattle.triplets.proofs.LinePlaces.{line_more, take_front}
 use Rattle.triplets.proofs.Partials.{blanks_more}
 use Rattle.triplets.proofs.Bytes.{IsMark, mark_is}
-use Rattle.triplets.proofs.Headings.{heading_stopped, heading_going, IsBegun, begun_more, whole_heading, other_beginning}
+use Rattle.triplets.proofs.Headings.{heading_stopped, heading_going, IsBegun, begun_more, whole_heading, other_beginning, no_vector}
 use Rattle.triplets.proofs.FirstLines.{blanks_line, blanks_read, blanks_prefix, beginning_fault, word_prefix, word_fault, short_word_fault, IsApart, no_whole, first_of_line, line_of_first}
 use Rattle.triplets.proofs.TextEnds.{IsOutcome, InLine, outcome_all, front_nil, front_front, said_then, an_ending, no_ending}
+use Rattle.triplets.proofs.BegunRows.{begun_row}
+use Rattle.triplets.proofs.KeptLines.{KeptAfter, IsKeptSoFar, kept_all}
 use Rattle.triplets.proofs.TextShown.{IsShownSoFar, shown_all, shown_more, not_last, some_line}
 
 abbrev nothing_said : Bool → Said
@@ -43,10 +47,16 @@ abbrev pub IsTextOutcome : Result Said Fault → List (List ℕ) → Type 0
 IsTextOutcome (Ok said) lines = AreTextLines said.generated lines said.listing
 IsTextOutcome (Err f) lines = (i : ℕ) × (before : ℕ) × (f.line ≡ 1 + i) × (f.column ≡ before + 1) × IsFirstBad IsGoodFirstLine lines i before f.kind
 
--- what a text gives, and what it shows where it may go on
+-- what is kept of a text
+abbrev pub IsTextKept : Result Kept Fault → List (List ℕ) → Type 0
+IsTextKept (Ok k) lines = AreKept lines k.said.generated k.said.listing k.line k.column
+IsTextKept (Err f) lines = Unit {0}
+
+-- what a text gives, and what it shows and what is kept of it where it may go on
 pub record IsGiven (r : Result Kept Fault) (lines : List (List ℕ)) : Type 0 where
   pub outcome_is : IsTextOutcome (outcome r) lines
   pub shown_is : IsShownSoFar IsGoodFirstLine r 1 lines
+  pub kept_is : IsTextKept r lines
 
 -- ---- behind line 1
 
@@ -57,6 +67,29 @@ line_outcome (Err f) l ls h t = (t.0 + 1, t.1, omega (arith, t.2), t.3, rw add-o
 heading_outcome : (x : Result Said Fault) (l : List ℕ) (ls : List (List ℕ)) → IsHeading l → IsOutcome x (nothing_said true) 2 ls → IsTextOutcome x (l ∷ ls)
 heading_outcome (Ok said) l ls h t = subst (λ (x : Said). AreTextLines x.generated (l ∷ ls) x.listing) (sym t.2) (h, t.1)
 heading_outcome (Err f) l ls h t = (t.0 + 1, t.1, omega (arith, t.2), t.3, rw add-one (inr h, t.4))
+
+-- what is kept of the lines behind line 1, with line 1 before them
+kept_behind : (k : Kept) (g : Bool) (l : List ℕ) (ls : List (List ℕ)) (t : KeptAfter k (nothing_said g) 2 ls) → AreTextLines g (l ∷ t.ended) t.said → IsTextKept (Ok k) (l ∷ ls)
+kept_behind k g l ls t h = record {
+  ended = l ∷ t.ended;
+  begun = t.begun;
+  lines_are = ap (λ (x : List (List ℕ)). l ∷ x) t.lines_are;
+  said = t.said;
+  vectors = t.vectors;
+  ended_say = subst (λ x. AreTextLines x (l ∷ t.ended) t.said) (sym t.generated_is) h;
+  begun_says = t.begun_says;
+  listing_is = t.listing_is;
+  line_is = omega (arith, t.line_is);
+  column_is = t.column_is;
+}
+
+line_kept : (r : Result Kept Fault) (l : List ℕ) (ls : List (List ℕ)) → IsLine l nothing_listed → IsKeptSoFar r (nothing_said false) 2 ls → IsTextKept r (l ∷ ls)
+line_kept (Ok k) l ls h t = kept_behind k false l ls t (nothing_listed, t.said, h, t.ended_say, refl)
+line_kept (Err f) l ls h t = tt
+
+heading_kept : (r : Result Kept Fault) (l : List ℕ) (ls : List (List ℕ)) → IsHeading l → IsKeptSoFar r (nothing_said true) 2 ls → IsTextKept r (l ∷ ls)
+heading_kept (Ok k) l ls h t = kept_behind k true l ls t (h, t.ended_say)
+heading_kept (Err f) l ls h t = tt
 
 -- what is kept behind line 1
 abbrev behind_first : Bool → Kept
@@ -73,22 +106,28 @@ behind_shown : (g : Bool) (bs : List ℕ) → IsShownSoFar IsGoodLine (text_run 
 behind_shown g bs =
     subst (λ ls. IsShownSoFar IsGoodLine (text_run (Ok (behind_first g)) bs) 2 ls) (front_nil bs) (shown_all bs (behind_first g) places.Start (nothing_said g) 2 [] [] (behind_in_line g))
 
+behind_kept : (g : Bool) (bs : List ℕ) → IsKeptSoFar (text_run (Ok (behind_first g)) bs) (nothing_said g) 2 (lines_of bs)
+behind_kept g bs =
+    subst (λ ls. IsKeptSoFar (text_run (Ok (behind_first g)) bs) (nothing_said g) 2 ls) (front_nil bs) (kept_all bs (behind_first g) places.Start (nothing_said g) 2 [] [] (behind_in_line g))
+
 behind_line : (l bs : List ℕ) → IsLine l nothing_listed → IsGiven (text_run (Ok (behind_first false)) bs) (l ∷ lines_of bs)
 behind_line l bs h = record {
   outcome_is = line_outcome (outcome (text_run (Ok (behind_first false)) bs)) l (lines_of bs) h (behind_outcome false bs);
   shown_is = shown_more IsGoodFirstLine (text_run (Ok (behind_first false)) bs) 1 l (lines_of bs) (inl (nothing_listed, h)) (behind_shown false bs);
+  kept_is = line_kept (text_run (Ok (behind_first false)) bs) l (lines_of bs) h (behind_kept false bs);
 }
 
 behind_heading : (l bs : List ℕ) → IsHeading l → IsGiven (text_run (Ok (behind_first true)) bs) (l ∷ lines_of bs)
 behind_heading l bs h = record {
   outcome_is = heading_outcome (outcome (text_run (Ok (behind_first true)) bs)) l (lines_of bs) h (behind_outcome true bs);
   shown_is = shown_more IsGoodFirstLine (text_run (Ok (behind_first true)) bs) 1 l (lines_of bs) (inr h) (behind_shown true bs);
+  kept_is = heading_kept (text_run (Ok (behind_first true)) bs) l (lines_of bs) h (behind_kept true bs);
 }
 
 -- ---- a fault in line 1
 
 first_fault : (f : Fault) (xs l : List ℕ) (ls : List (List ℕ)) (n : ℕ) → f.line ≡ 1 → f.column ≡ n + 1 → IsFaultIn IsGoodFirstLine l n f.kind → (n < length l) ⊎ (ls ≢ []) → IsGiven (text_run (faulty f) xs) (l ∷ ls)
-first_fault f xs l ls n e c h s = subst (λ r. IsGiven r (l ∷ ls)) (sym (run_faulty f xs)) (record { outcome_is = (0, n, e, c, h); shown_is = (0, n, e, c, (h, s)) })
+first_fault f xs l ls n e c h s = subst (λ r. IsGiven r (l ∷ ls)) (sym (run_faulty f xs)) (record { outcome_is = (0, n, e, c, h); shown_is = (0, n, e, c, (h, s)); kept_is = tt })
 
 byte_given : (ls : List (List ℕ)) (f : Fault) (xs before : List ℕ) (b : ℕ) → f.line ≡ 1 → f.column ≡ length before + 1 → ((rest : List ℕ) → IsFaultIn IsGoodFirstLine (before ++ b ∷ rest) (length before) f.kind) →
     IsGiven (text_run (faulty f) xs) (with_front before (with_front (b ∷ []) ls))
@@ -117,8 +156,29 @@ first_shown : (r : Result Kept Fault) (l : List ℕ) (ls : List (List ℕ)) (m :
 first_shown (Ok k) l ls m a t = λ i before kind h. t i before kind (shown_back l ls m i before kind a h)
 first_shown (Err f) l ls m a t = (t.0, t.1, t.2, t.3, bad_shown l ls m t.0 t.1 f.kind a t.4)
 
-first_given : (r : Result Kept Fault) (l : List ℕ) (ls : List (List ℕ)) (m : ℕ) → IsApart l m → IsOutcome (outcome r) (nothing_said false) 1 (l ∷ ls) → IsShownSoFar IsGoodLine r 1 (l ∷ ls) → IsGiven r (l ∷ ls)
-first_given r l ls m a o s = record { outcome_is = first_outcome (outcome r) l ls m a o; shown_is = first_shown r l ls m a s }
+kept_by_lines : (r : Result Kept Fault) (ls : List (List ℕ)) → IsKeptSoFar r (nothing_said false) 1 ls → IsTextKept r ls
+kept_by_lines (Ok k) ls t = record {
+  ended = t.ended;
+  begun = t.begun;
+  lines_are = t.lines_are;
+  said = t.said;
+  vectors = t.vectors;
+  ended_say = subst (λ x. AreTextLines x t.ended t.said) (sym t.generated_is) t.ended_say;
+  begun_says = t.begun_says;
+  listing_is = t.listing_is;
+  line_is = omega (arith, t.line_is);
+  column_is = t.column_is;
+}
+kept_by_lines (Err f) ls t = tt
+
+-- what the reader of lines of the grammar says of these
+record IsByLines (r : Result Kept Fault) (lines : List (List ℕ)) : Type 0 where
+  outcome_is : IsOutcome (outcome r) (nothing_said false) 1 lines
+  shown_is : IsShownSoFar IsGoodLine r 1 lines
+  kept_is : IsKeptSoFar r (nothing_said false) 1 lines
+
+first_given : (r : Result Kept Fault) (l : List ℕ) (ls : List (List ℕ)) (m : ℕ) → IsApart l m → IsByLines r (l ∷ ls) → IsGiven r (l ∷ ls)
+first_given r l ls m a h = record { outcome_is = first_outcome (outcome r) l ls m a h.outcome_is; shown_is = first_shown r l ls m a h.shown_is; kept_is = kept_by_lines r (l ∷ ls) h.kept_is }
 
 apart_front : (before rest : List ℕ) → IsPrefixIn IsGoodLine before → (IsPrefixIn IsHeading before → ⊥) → IsApart (before ++ rest) (length before)
 apart_front before rest g n = record {
@@ -126,10 +186,9 @@ apart_front before rest g n = record {
   heading = λ h. n (subst (IsPrefixIn IsHeading) (take_front before rest) h);
 }
 
-apart_given : (ls : List (List ℕ)) (r : Result Kept Fault) (before : List ℕ) → IsPrefixIn IsGoodLine before → (IsPrefixIn IsHeading before → ⊥) → IsOutcome (outcome r) (nothing_said false) 1 (with_front before ls) →
-    IsShownSoFar IsGoodLine r 1 (with_front before ls) → IsGiven r (with_front before ls)
-apart_given [] r before g n o s = first_given r before [] (length before) (subst (λ (x : List ℕ). IsApart x (length before)) (append-nil before) (apart_front before [] g n)) o s
-apart_given (l ∷ ls) r before g n o s = first_given r (before ++ l) ls (length before) (apart_front before l g n) o s
+apart_given : (ls : List (List ℕ)) (r : Result Kept Fault) (before : List ℕ) → IsPrefixIn IsGoodLine before → (IsPrefixIn IsHeading before → ⊥) → IsByLines r (with_front before ls) → IsGiven r (with_front before ls)
+apart_given [] r before g n h = first_given r before [] (length before) (subst (λ (x : List ℕ). IsApart x (length before)) (append-nil before) (apart_front before [] g n)) h
+apart_given (l ∷ ls) r before g n h = first_given r (before ++ l) ls (length before) (apart_front before l g n) h
 
 -- what is kept in line 1, where nothing is listed yet
 abbrev first_kept : ℕ → TextPlace → Kept
@@ -140,7 +199,26 @@ line_given : (bs : List ℕ) (p : LinePlace) (c : ℕ) (before : List ℕ) → c
 line_given bs p c before e w n =
     let k = first_kept c (texts.Line p) in
     let h : InLine k p (nothing_said false) 1 before [] = record { place = refl; generated = refl; ops = refl; centrings = refl; line = refl; column = e; run = w } in
-    apart_given (lines_of bs) (text_run (Ok k) bs) before (is_line_prefix before (state_of p []) w) n (outcome_all bs k p (nothing_said false) 1 before [] h) (shown_all bs k p (nothing_said false) 1 before [] h)
+    apart_given (lines_of bs) (text_run (Ok k) bs) before (is_line_prefix before (state_of p []) w) n (record {
+      outcome_is = outcome_all bs k p (nothing_said false) 1 before [] h;
+      shown_is = shown_all bs k p (nothing_said false) 1 before [] h;
+      kept_is = kept_all bs k p (nothing_said false) 1 before [] h;
+    })
+
+-- what is kept of line 1 before its first vector
+kept_in_first : (p : TextPlace) (c : ℕ) (before : List ℕ) → c ≡ length before + 1 → AreBegunVectors before [] → IsTextKept (Ok (first_kept c p)) ((before ++ []) ∷ [])
+kept_in_first p c before e h = record {
+  ended = [];
+  begun = before;
+  lines_are = ap (λ (x : List ℕ). x ∷ []) (append-nil before);
+  said = nothing_listed;
+  vectors = [];
+  ended_say = refl;
+  begun_says = h;
+  listing_is = refl;
+  line_is = refl;
+  column_is = e;
+}
 
 -- ---- the heading
 
@@ -188,6 +266,7 @@ heading_all : (bs : List ℕ) → HeadingAfter bs
 heading_all [] ks p hs c g e = record {
   outcome_is = heading_end (is_whole p) ks p hs c g e refl;
   shown_is = not_last IsGoodFirstLine (heading_before ks hs ++ []) (subst (IsPrefixIn IsGoodFirstLine) (sym (append-nil (heading_before ks hs))) (word_prefix ks p hs g));
+  kept_is = kept_in_first (texts.Heading p) c (heading_before ks hs) e (no_vector ks hs);
 }
 heading_all (b ∷ bs) ks p hs c g e = heading_byte (b == 10) b bs ks p hs c (heading_all bs) g e
 
@@ -257,9 +336,10 @@ begin_all : (bs : List ℕ) → BeginningAfter bs
 begin_all [] ks c h = record {
   outcome_is = (nothing_listed, nothing_listed, blanks_line ks, refl, refl);
   shown_is = not_last IsGoodFirstLine (blanks_text ks ++ []) (subst (IsPrefixIn IsGoodFirstLine) (sym (append-nil (blanks_text ks))) (blanks_prefix ks));
+  kept_is = kept_in_first texts.Beginning c (blanks_text ks) h (begun_row (blanks_text ks) line_start (blanks_read ks));
 }
 begin_all (b ∷ bs) ks c h = begin_byte (b == 10) b bs ks c (begin_all bs) h
 
--- what the bytes of a text give and show
+-- what the bytes of a text give and show, and what is kept of them
 pub text_given : (bytes : List ℕ) → IsGiven (text_run (Ok kept_start) bytes) (lines_of bytes)
 text_given bytes = subst (λ ls. IsGiven (text_run (Ok kept_start) bytes) ls) (front_nil bytes) (begin_all bytes [] 1 refl)

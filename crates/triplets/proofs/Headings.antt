@@ -12,6 +12,8 @@ use Rattle.triplets.specs.declared.heading.HeadingPlace.TheVariants as words
 use Rattle.triplets.specs.Marks.{mark}
 use Rattle.triplets.specs.Grammar.{Blank, space, tab, carriage_return, blank_byte, blanks_text}
 use Rattle.triplets.specs.Lines.{comment_text}
+use Rattle.triplets.specs.Bytes.{opening}
+use Rattle.triplets.specs.BegunLines.{AreBegunVectors}
 use Rattle.triplets.specs.Headings.{IsHeading}
 use Rattle.triplets.specs.Places.{IsPrefixIn}
 use Rattle.triplets.specs.HeadingReading.{letter_step, behind_word, heading_step, is_whole}
@@ -253,6 +255,19 @@ other_beginning bs b n m h =
       | inl e ↦ n e
       | inr e ↦ m e.0 e.1
     ]
+
+-- no vector stands where it begins
+pub no_vector : (bs : List Blank) (hs : List ℕ) → AreBegunVectors (blanks_text bs ++ (103 ∷ hs)) []
+no_vector bs hs c rest e =
+    elim (begins_by c.before bs opening _ hs (sym (append_assoc (blanks_text c.before) _ rest) ∙ sym e)) [
+      | inl z ↦ omega (arith, z)
+      | inr z ↦ blank_no_bracket z.0 (sym z.1)
+    ]
+  where
+    blank_no_bracket : (k : Blank) → blank_byte k ≢ opening
+    blank_no_bracket space e = omega arith
+    blank_no_bracket tab e = omega arith
+    blank_no_bracket carriage_return e = omega arith
 
 -- ---- the faults of the reader
 

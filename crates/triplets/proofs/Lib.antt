@@ -22,6 +22,8 @@ pub mod LineKinds
 pub mod LinePlaces
 pub mod TextEnds
 pub mod TextShown
+pub mod BegunRows
+pub mod KeptLines
 pub mod Headings
 pub mod HeadingKinds
 pub mod FirstLines
@@ -29,8 +31,7 @@ pub mod FirstTexts
 pub mod FirstShown
 pub mod Answered
 pub mod OneFault
-pub mod BegunRows
-pub mod KeptLines
+pub mod FirstKept
 mod RowTexts
 mod Terms
 mod NumberTrees

@@ -29,9 +29,9 @@ pub fn one_begun_row()
     ensures { (line : List ℕ) (vs vs' : List Vector) → AreBegunVectors line vs → AreBegunVectors line vs' → vs ≡ vs' }
 {}
 
-/// What is kept of a text is one listing, and its next byte has one place.
+/// What is kept of a text is one listing, of generators or not, and its next byte has one place.
 pub fn one_kept()
-    ensures { (text : List ℕ) (g g' : Listing) (l l' c c' : ℕ) → IsKept text g l c → IsKept text g' l' c' → (g ≡ g') × (l ≡ l') × (c ≡ c') }
+    ensures { (text : List ℕ) (b b' : Bool) (g g' : Listing) (l l' c c' : ℕ) → IsKept text b g l c → IsKept text b' g' l' c' → (b ≡ b') × (g ≡ g') × (l ≡ l') × (c ≡ c') }
 {}
 
 /// The limit that contracts name by its number.

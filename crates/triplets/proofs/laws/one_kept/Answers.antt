@@ -1,4 +1,4 @@
-use Rattle.triplets.proofs.KeptLines.{one_kept}
+use Rattle.triplets.proofs.FirstKept.{one_kept}
 use Rattle.triplets.proofs.laws.one_kept.Goals as goal
 
 pub returns : goal.returns

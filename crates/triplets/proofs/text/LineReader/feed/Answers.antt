@@ -1,8 +1,8 @@
-use Rattle.std.proofs.Common.{get_or, refl, ◌∙◌, arith, inr, Ok, Err}
+use Rattle.std.proofs.Common.{get_or, refl, ◌∙◌, ◌++◌, arith, inr, Ok, Err}
 use Rattle.triplets.specs.TextReading.{kept, byte_step}
 use Rattle.triplets.proofs.TextFacts.{text_more, text_fault, gives_along, again, again_stands, stands_all, all_read, err_stands}
 use Rattle.triplets.proofs.Answered.{answer_so_far}
-use Rattle.triplets.proofs.KeptLines.{reader_keeps}
+use Rattle.triplets.proofs.FirstKept.{reader_keeps}
 use Rattle.triplets.proofs.text.LineReader.feed.Goals as goal
 
 pub returns-in-Some-clause-stands : goal.returns-in-Some-clause-stands
@@ -41,4 +41,4 @@ returns-clause-answer c text h =
 
 pub returns-clause-told : goal.returns-clause-told
 returns-clause-told c text h =
-    reader_keeps c.loop-byte.self _ (all_read text c.args.piece.now c.loop-byte.byte-index (kept c.loop-byte.self) (omega arith) (c.loop-byte.invariant.run text h))
+    reader_keeps c.loop-byte.self (text ++ c.args.piece.now) (all_read text c.args.piece.now c.loop-byte.byte-index (kept c.loop-byte.self) (omega arith) (c.loop-byte.invariant.run text h))

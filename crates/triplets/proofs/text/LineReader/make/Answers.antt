@@ -1,4 +1,4 @@
-use Rattle.triplets.proofs.KeptLines.{keeps_nothing}
+use Rattle.triplets.proofs.FirstKept.{keeps_nothing}
 use Rattle.triplets.proofs.text.LineReader.make.Goals as goal
 
 pub returns-clause-told : goal.returns-clause-told
