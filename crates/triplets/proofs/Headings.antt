@@ -24,25 +24,25 @@ heading_going p = Ok p
 abbrev pub heading_stopped : TextKind → Result HeadingPlace TextKind
 heading_stopped k = Err k
 
-abbrev heading_advance : Result HeadingPlace TextKind → ℕ → Result HeadingPlace TextKind
+abbrev pub heading_advance : Result HeadingPlace TextKind → ℕ → Result HeadingPlace TextKind
 heading_advance (Err k) b = Err k
 heading_advance (Ok p) b = heading_step b p
 
 -- the bytes behind the first letter one by one
-abbrev heading_run : Result HeadingPlace TextKind → List ℕ → Result HeadingPlace TextKind
+abbrev pub heading_run : Result HeadingPlace TextKind → List ℕ → Result HeadingPlace TextKind
 heading_run r [] = r
 heading_run r (b ∷ bs) = heading_run (heading_advance r b) bs
 
-heading_run-append : (r : Result HeadingPlace TextKind) (xs ys : List ℕ) → heading_run r (xs ++ ys) ≡ heading_run (heading_run r xs) ys
+pub heading_run-append : (r : Result HeadingPlace TextKind) (xs ys : List ℕ) → heading_run r (xs ++ ys) ≡ heading_run (heading_run r xs) ys
 heading_run-append r [] ys = refl
 heading_run-append r (x ∷ xs) ys = heading_run-append (heading_advance r x) xs ys
 
-run_heading_stopped : (k : TextKind) (xs : List ℕ) → heading_run (heading_stopped k) xs ≡ heading_stopped k
+pub run_heading_stopped : (k : TextKind) (xs : List ℕ) → heading_run (heading_stopped k) xs ≡ heading_stopped k
 run_heading_stopped k [] = refl
 run_heading_stopped k (x ∷ xs) = run_heading_stopped k xs
 
 -- the word behind its first letter
-abbrev other_letters : List ℕ
+abbrev pub other_letters : List ℕ
 other_letters = codes "enerators"
 
 -- ---- the beginning of a heading
@@ -171,7 +171,7 @@ blanks_run (space ∷ ks) xs = blanks_run ks xs
 blanks_run (tab ∷ ks) xs = blanks_run ks xs
 blanks_run (carriage_return ∷ ks) xs = blanks_run ks xs
 
-comment_run : (cs : List ℕ) → heading_run (heading_going words.Comment) cs ≡ heading_going words.Comment
+pub comment_run : (cs : List ℕ) → heading_run (heading_going words.Comment) cs ≡ heading_going words.Comment
 comment_run [] = refl
 comment_run (c ∷ cs) = comment_run cs
 

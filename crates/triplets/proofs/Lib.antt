@@ -29,6 +29,7 @@ pub mod FirstTexts
 pub mod FirstShown
 pub mod Answered
 pub mod OneFault
+pub mod HeadingLaws
 mod RowTexts
 mod Terms
 mod NumberTrees

@@ -1,8 +1,14 @@
 // What a text says is one thing, for a text of any length, and the limit of what is read, in numbers. A call does nothing:
 // its contract is the law.
-ghost use Rattle.std.specs.Prelude.{◌≡◌, ℕ, Bool, List};
+ghost use Rattle.std.specs.Prelude.{◌≡◌, ◌≢◌, ◌==◌, ◌++◌, ℕ, Bool, List, [], if◌then◌else◌};
 ghost use Rattle.symmetry.specs.Groups.{Listing};
+ghost use Rattle.triplets.specs.Bytes.{hash};
+ghost use Rattle.triplets.specs.Grammar.{Blank, blanks_text};
+ghost use Rattle.triplets.specs.Headings.{heading_word};
+ghost use Rattle.triplets.specs.LineFaults.{HasLineKind};
 ghost use Rattle.triplets.specs.Texts.{Fault, IsGroupText, IsTextFault};
+ghost use Rattle.triplets.specs.declared.fault.TextKind.{TextKind};
+ghost use Rattle.triplets.specs.declared.fault.TextKind.TheVariants.{MissingPart, UnknownSign};
 ghost use Rattle.triplets.specs.declared.group.TheConstants.{MOST_BYTES};
 
 /// A text lists one thing, and its operations are generators or are not.
@@ -19,6 +25,11 @@ pub fn one_fault()
 /// A text with a fault lists nothing.
 pub fn no_listing_and_fault()
     ensures { (text : List ℕ) (b : Bool) (g : Listing) (f : Fault) → IsTextFault text f → IsGroupText text b g → ⊥ }
+{}
+
+/// Behind letters of the heading's word a comment comes too early, and any other byte is one that cannot stand there.
+pub fn kind_in_heading()
+    ensures { (blanks : List Blank) (letters rest : List ℕ) (b : ℕ) (kind : TextKind) → letters ++ rest ≡ heading_word → letters ≢ [] → HasLineKind (blanks_text blanks ++ letters) b kind → kind ≡ (if b == hash then MissingPart else UnknownSign) }
 {}
 
 /// The limit that contracts name by its number.

@@ -26,7 +26,7 @@ mod write;
 pub use fault::{TextFault, TextKind, TripletFault};
 pub use frieze::{Frieze, write_frieze};
 pub use group::{MOST_BYTES, read_group};
-pub use laws::{limit_in_numbers, no_listing_and_fault, one_fault, one_listing};
+pub use laws::{kind_in_heading, limit_in_numbers, no_listing_and_fault, one_fault, one_listing};
 pub use text::LineReader;
 pub use triplet::read_triplet;
 pub use write::{NoMemory, Triplet, write_triplet};
