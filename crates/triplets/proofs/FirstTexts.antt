@@ -258,7 +258,7 @@ heading_moved (Ok q) b bs ks p hs c further g e w =
 
 heading_byte : (t : Bool) (b : ℕ) (bs : List ℕ) (ks : List Blank) (p : HeadingPlace) (hs : List ℕ) (c : ℕ) → HeadingAfter bs → IsBegun p hs → c ≡ length (heading_before ks hs) + 1 →
     (let k = first_kept c (texts.Heading p) in
-     IsGiven (text_run (cond t (new_line (ended (heading_ending (is_whole p)) true k) k) (moved (in_heading (heading_step b p)) None k)) bs) (with_front (heading_before ks hs) (cond t ([] ∷ lines_of bs) (with_front (b ∷ []) (lines_of bs)))))
+    IsGiven (text_run (cond t (new_line (ended (heading_ending (is_whole p)) true k) k) (moved (in_heading (heading_step b p)) None k)) bs) (with_front (heading_before ks hs) (cond t ([] ∷ lines_of bs) (with_front (b ∷ []) (lines_of bs)))))
 heading_byte true b bs ks p hs c further g e = heading_line (is_whole p) bs ks p hs c g e refl
 heading_byte false b bs ks p hs c further g e = heading_moved (heading_step b p) b bs ks p hs c further g e refl
 
@@ -322,13 +322,13 @@ begin_moved b bs ks c further h =
       | inl x ↦ subst motive (sym x.0) (
           subst (λ ls. IsGiven (text_run (Ok (first_kept (c + 1) (texts.Heading words.G))) bs) ls) (front_front (blanks_text ks) (103 ∷ []) (lines_of bs) ∙ ap (λ y. with_front (blanks_text ks) (with_front (y ∷ []) (lines_of bs))) (sym x.1))
           (heading_all bs ks words.G [] (c + 1) refl (omega (arith, h, length-append (blanks_text ks) (103 ∷ []))))
-        )
+          )
       | inr x ↦ subst motive (sym x.0) (begin_by (mark b) b bs ks c further refl (mark_is b) x.1 h)
     ]
 
 begin_byte : (t : Bool) (b : ℕ) (bs : List ℕ) (ks : List Blank) (c : ℕ) → BeginningAfter bs → c ≡ length (blanks_text ks) + 1 →
     (let k = first_kept c texts.Beginning in
-     IsGiven (text_run (cond t (new_line (ended (an_ending None) false k) k) (moved (from_beginning b) None k)) bs) (with_front (blanks_text ks) (cond t ([] ∷ lines_of bs) (with_front (b ∷ []) (lines_of bs)))))
+    IsGiven (text_run (cond t (new_line (ended (an_ending None) false k) k) (moved (from_beginning b) None k)) bs) (with_front (blanks_text ks) (cond t ([] ∷ lines_of bs) (with_front (b ∷ []) (lines_of bs)))))
 begin_byte true b bs ks c further h = behind_line (blanks_text ks ++ []) bs (blanks_line ks)
 begin_byte false b bs ks c further h = begin_moved b bs ks c further h
 

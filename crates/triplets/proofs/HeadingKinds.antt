@@ -2,6 +2,8 @@
 use Rattle.std.proofs.Common.{◌≡◌, ◌≢◌, ℕ, ◌≤◌, Bool, true, false, List, [], ◌∷◌, ◌++◌, Result, Err, refl, sym, ◌∙◌, ap, subst, arith, inl, inr, ◌⊎◌}
 use Rattle.std.specs.Prelude.{codes}
 use Rattle.triplets.specs.declared.fault.TextKind.{TextKind}
+use Rattle.triplets.specs.declared.fault.TextKind.TheVariants as kinds
+use Rattle.triplets.specs.declared.marks.Mark.TheVariants as marks
 use Rattle.triplets.specs.declared.heading.HeadingPlace.{HeadingPlace}
 use Rattle.triplets.specs.declared.heading.HeadingPlace.TheVariants as words
 use Rattle.triplets.specs.Marks.{mark}
@@ -54,7 +56,7 @@ Seen f hs = IsInWord (line_seen f (103 ∷ hs))
 along : (f : LineSeen) (hs xs : List ℕ) → hs ≡ xs → Seen f xs → Seen f hs
 along f hs xs e h = subst (Seen f) (sym e) h
 
-abbrev IsCommented : HeadingPlace → Type 0
+abbrev pub IsCommented : HeadingPlace → Type 0
 IsCommented words.Comment = Unit {0}
 IsCommented _ = ⊥
 
@@ -94,13 +96,18 @@ not_fresh m n h (inl x) = omega (arith, h, x)
 not_fresh m n h (inr (inl x)) = omega (arith, h, x)
 not_fresh m n h (inr (inr x)) = omega (arith, h, x.0)
 
+-- behind the word and its beginnings the table says nothing of a byte that begins no comment
+pub other_kind : (bs : List Blank) (p : HeadingPlace) (hs : List ℕ) (b : ℕ) → IsBegun p hs → (IsCommented p → ⊥) → mark b ≢ marks.Hash → HasLineKind (blanks_text bs ++ (103 ∷ hs)) b kinds.UnknownSign
+other_kind bs p hs b g n m =
+    let before : List ℕ = blanks_text bs ++ (103 ∷ hs) in
+    let f = line_seen line_seen_start before in
+    let w : IsInWord f = seen_blanks bs p line_seen_start hs (record { bracket = refl; used = refl }) g n in
+    between_kind (mark b) f (λ a. line_stands a false before) b kinds.UnknownSign refl (mark_is b) w.between w.no_end (not_fresh f.mark f.commas w.letter) (line_uses before) m refl
+
 -- a comment comes too early, or the byte is none that may stand there
 pub heading_kind : (bs : List Blank) (p : HeadingPlace) (hs : List ℕ) (b : ℕ) (k : TextKind) → IsBegun p hs → heading_step b p ≡ heading_stopped k → HasLineKind (blanks_text bs ++ (103 ∷ hs)) b k
 heading_kind bs p hs b k g e =
-    let before : List ℕ = blanks_text bs ++ (103 ∷ hs) in
-    let f = line_seen line_seen_start before in
-    let w : IsInWord f = seen_blanks bs p line_seen_start hs (record { bracket = refl; used = refl }) g (no_comment p b k e) in
     elim (stopped_by p b k e) [
       | inl x ↦ inl x
-      | inr x ↦ between_kind (mark b) f (λ a. line_stands a false before) b k refl (mark_is b) w.between w.no_end (not_fresh f.mark f.commas w.letter) (line_uses before) x.0 x.1
+      | inr x ↦ subst (HasLineKind (blanks_text bs ++ (103 ∷ hs)) b) (sym x.1) (other_kind bs p hs b g (no_comment p b k e) x.0)
     ]

@@ -26,25 +26,25 @@ heading_going p = Ok p
 abbrev pub heading_stopped : TextKind → Result HeadingPlace TextKind
 heading_stopped k = Err k
 
-abbrev heading_advance : Result HeadingPlace TextKind → ℕ → Result HeadingPlace TextKind
+abbrev pub heading_advance : Result HeadingPlace TextKind → ℕ → Result HeadingPlace TextKind
 heading_advance (Err k) b = Err k
 heading_advance (Ok p) b = heading_step b p
 
 -- the bytes behind the first letter one by one
-abbrev heading_run : Result HeadingPlace TextKind → List ℕ → Result HeadingPlace TextKind
+abbrev pub heading_run : Result HeadingPlace TextKind → List ℕ → Result HeadingPlace TextKind
 heading_run r [] = r
 heading_run r (b ∷ bs) = heading_run (heading_advance r b) bs
 
-heading_run-append : (r : Result HeadingPlace TextKind) (xs ys : List ℕ) → heading_run r (xs ++ ys) ≡ heading_run (heading_run r xs) ys
+pub heading_run-append : (r : Result HeadingPlace TextKind) (xs ys : List ℕ) → heading_run r (xs ++ ys) ≡ heading_run (heading_run r xs) ys
 heading_run-append r [] ys = refl
 heading_run-append r (x ∷ xs) ys = heading_run-append (heading_advance r x) xs ys
 
-run_heading_stopped : (k : TextKind) (xs : List ℕ) → heading_run (heading_stopped k) xs ≡ heading_stopped k
+pub run_heading_stopped : (k : TextKind) (xs : List ℕ) → heading_run (heading_stopped k) xs ≡ heading_stopped k
 run_heading_stopped k [] = refl
 run_heading_stopped k (x ∷ xs) = run_heading_stopped k xs
 
 -- the word behind its first letter
-abbrev other_letters : List ℕ
+abbrev pub other_letters : List ℕ
 other_letters = codes "enerators"
 
 -- ---- the beginning of a heading
@@ -173,7 +173,7 @@ blanks_run (space ∷ ks) xs = blanks_run ks xs
 blanks_run (tab ∷ ks) xs = blanks_run ks xs
 blanks_run (carriage_return ∷ ks) xs = blanks_run ks xs
 
-comment_run : (cs : List ℕ) → heading_run (heading_going words.Comment) cs ≡ heading_going words.Comment
+pub comment_run : (cs : List ℕ) → heading_run (heading_going words.Comment) cs ≡ heading_going words.Comment
 comment_run [] = refl
 comment_run (c ∷ cs) = comment_run cs
 
@@ -236,7 +236,7 @@ no_heading bs p hs b k g e h =
     let r = heading_read bs ((hs ++ b ∷ []) ++ h.0) (subst IsHeading (append_assoc (blanks_text bs) (103 ∷ (hs ++ b ∷ [])) h.0) h.1) in
     let s : heading_run (heading_going words.G) (hs ++ b ∷ []) ≡ heading_stopped k = heading_run-append (heading_going words.G) hs (b ∷ []) ∙ (ap (λ (x : Result HeadingPlace TextKind). heading_advance x b) (begun_run p hs g) ∙ e) in
     let t : heading_run (heading_going words.G) ((hs ++ b ∷ []) ++ h.0) ≡ heading_stopped k =
-        heading_run-append (heading_going words.G) (hs ++ b ∷ []) h.0 ∙ (ap (λ (x : Result HeadingPlace TextKind). heading_run x h.0) s ∙ run_heading_stopped k h.0) in
+    heading_run-append (heading_going words.G) (hs ++ b ∷ []) h.0 ∙ (ap (λ (x : Result HeadingPlace TextKind). heading_run x h.0) s ∙ run_heading_stopped k h.0) in
     let z : heading_going r.last ≡ heading_stopped k = sym r.run_is ∙ t in
     cc
 
@@ -290,9 +290,9 @@ stopped_by p b k h = by_place p h
             elim (eqb_tells b 35) [
               | inl x ↦ inl (x.1, kind_is kinds.MissingPart (sym (ap (λ t. cond t (heading_stopped kinds.MissingPart) (heading_stopped kinds.UnknownSign)) x.0) ∙ e))
               | inr x ↦ inr (
-                  (λ y. let z : (b == 35) ≡ true = ap (λ c. c == 35) (hash_is y) in let w : true ≡ false = sym z ∙ x.0 in cc),
-                  kind_is kinds.UnknownSign (sym (ap (λ t. cond t (heading_stopped kinds.MissingPart) (heading_stopped kinds.UnknownSign)) x.0) ∙ e),
-                )
+                (λ y. let z : (b == 35) ≡ true = ap (λ c. c == 35) (hash_is y) in let w : true ≡ false = sym z ∙ x.0 in cc),
+                kind_is kinds.UnknownSign (sym (ap (λ t. cond t (heading_stopped kinds.MissingPart) (heading_stopped kinds.UnknownSign)) x.0) ∙ e),
+              )
             ]
 
     behind : (m : Mark) → mark b ≡ m → behind_word m ≡ heading_stopped k → ((b ≡ 35) × (k ≡ kinds.MissingPart)) ⊎ ((mark b ≢ marks.Hash) × (k ≡ kinds.UnknownSign))

@@ -32,6 +32,7 @@ pub mod FirstShown
 pub mod Answered
 pub mod OneFault
 pub mod FirstKept
+pub mod HeadingLaws
 mod RowTexts
 mod Terms
 mod NumberTrees

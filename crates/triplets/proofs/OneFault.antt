@@ -47,7 +47,7 @@ row_one below (inl h) (inr h') = absurd (h'.0 h.0)
 row_one below (inr h) (inl h') = absurd (h.0 h'.0)
 row_one below (inr h) (inr h') = below h.1 h'.1
 
-one_line_kind : (before : List ℕ) (b : ℕ) (k k' : TextKind) → HasLineKind before b k → HasLineKind before b k' → k ≡ k'
+pub one_line_kind : (before : List ℕ) (b : ℕ) (k k' : TextKind) → HasLineKind before b k → HasLineKind before b k' → k ≡ k'
 one_line_kind before b k k' = row_one (row_one (row_one (row_one (row_one (row_one (row_one (row_one (λ e e'. e ∙ sym e'))))))))
 
 one_kind_at : (before : List ℕ) (at : Option ℕ) (k k' : TextKind) → HasLineKindAt before at k → HasLineKindAt before at k' → k ≡ k'

@@ -1,11 +1,17 @@
 // What a text says is one thing, for a text of any length, and the limit of what is read, in numbers. A call does nothing:
 // its contract is the law.
-ghost use Rattle.std.specs.Prelude.{◌≡◌, ℕ, Bool, List};
+ghost use Rattle.std.specs.Prelude.{◌≡◌, ◌≢◌, ◌==◌, ◌++◌, ℕ, Bool, List, [], if◌then◌else◌};
 ghost use Rattle.symmetry.specs.Groups.{Listing};
 ghost use Rattle.symmetry.specs.Vectors.{Vector};
 ghost use Rattle.triplets.specs.BegunLines.{AreBegunVectors};
+ghost use Rattle.triplets.specs.Bytes.{hash};
+ghost use Rattle.triplets.specs.Grammar.{Blank, blanks_text};
+ghost use Rattle.triplets.specs.Headings.{heading_word};
 ghost use Rattle.triplets.specs.KeptTexts.{IsKept};
+ghost use Rattle.triplets.specs.LineFaults.{HasLineKind};
 ghost use Rattle.triplets.specs.Texts.{Fault, IsGroupText, IsTextFault};
+ghost use Rattle.triplets.specs.declared.fault.TextKind.{TextKind};
+ghost use Rattle.triplets.specs.declared.fault.TextKind.TheVariants.{MissingPart, UnknownSign};
 ghost use Rattle.triplets.specs.declared.group.TheConstants.{MOST_BYTES};
 
 /// A text lists one thing, and its operations are generators or are not.
@@ -32,6 +38,11 @@ pub fn one_begun_row()
 /// What is kept of a text is one listing, of generators or not, and its next byte has one place.
 pub fn one_kept()
     ensures { (text : List ℕ) (b b' : Bool) (g g' : Listing) (l l' c c' : ℕ) → IsKept text b g l c → IsKept text b' g' l' c' → (b ≡ b') × (g ≡ g') × (l ≡ l') × (c ≡ c') }
+{}
+
+/// Behind letters of the heading's word a comment comes too early, and any other byte is one that cannot stand there.
+pub fn kind_in_heading()
+    ensures { (blanks : List Blank) (letters rest : List ℕ) (b : ℕ) (kind : TextKind) → letters ++ rest ≡ heading_word → letters ≢ [] → HasLineKind (blanks_text blanks ++ letters) b kind → kind ≡ (if b == hash then MissingPart else UnknownSign) }
 {}
 
 /// The limit that contracts name by its number.

@@ -3,8 +3,9 @@
 //
 // Promises to the crates above: exactly the triplets and the texts of the grammar are read, each with its value;
 // of any other the first bad line, the column at which no good line goes on, and what is wrong there. A text says one
-// thing: it has one listing, or one fault and no listing. It may come in pieces, cut anywhere. A motion has one written
-// form, and where the grammar can say the motion, that form is read as the motion again.
+// thing: it has one listing, of generators exactly where line 1 is the heading, or one fault and no listing. It may
+// come in pieces, cut anywhere. A motion has one written form, and where the grammar can say the motion, that form is
+// read as the motion again.
 #![tactic(auto)]
 
 mod denominator;
@@ -26,11 +27,14 @@ pub use fault::{TextFault, TextKind, TripletFault};
 pub use frieze::{Frieze, write_frieze};
 pub use group::{MOST_BYTES, read_group};
 pub use laws::{
-    limit_in_numbers, no_listing_and_fault, one_begun_row, one_fault, one_kept, one_listing,
+    kind_in_heading, limit_in_numbers, no_listing_and_fault, one_begun_row, one_fault, one_kept,
+    one_listing,
 };
 pub use text::LineReader;
 pub use triplet::read_triplet;
 pub use write::{NoMemory, Triplet, write_triplet};
 
+#[cfg(test)]
+mod heading_tests;
 #[cfg(test)]
 mod tests;

@@ -13,11 +13,11 @@ use std::test::Fail;
 
 /// A bad line, and its column and kind.
 #[derive(Clone, Copy)]
-struct BadLine(&'static str, u32, TextKind);
+pub struct BadLine(pub &'static str, pub u32, pub TextKind);
 
 /// A text, and how many operations and centring vectors it lists.
 #[derive(Clone, Copy)]
-struct GoodText(&'static str, usize, usize);
+pub struct GoodText(pub &'static str, pub usize, pub usize);
 
 /// A bad triplet, and its place and kind.
 #[derive(Clone, Copy)]
@@ -25,10 +25,23 @@ struct BadTriplet(&'static str, usize, TextKind);
 
 /// What is compared of an answer.
 #[derive(Clone, Copy, Debug, PartialEq, Eq)]
-struct Summary {
-    fault: Option<TextFault>,
-    ops: usize,
-    centrings: usize,
+pub struct Summary {
+    pub fault: Option<TextFault>,
+    pub ops: usize,
+    pub centrings: usize,
+    pub generated: bool,
+}
+
+impl Summary {
+    /// The answer to a text with this fault.
+    pub fn of_fault(line: u32, column: u32, kind: TextKind) -> Summary {
+        Summary {
+            fault: Some(TextFault::At { line, column, kind }),
+            ops: 0,
+            centrings: 0,
+            generated: false,
+        }
+    }
 }
 
 fn summary_of(answer: Result<Listed, TextFault>) -> Summary {
@@ -37,11 +50,13 @@ fn summary_of(answer: Result<Listed, TextFault>) -> Summary {
             fault: None,
             ops: listed.ops.len(),
             centrings: listed.centrings.len(),
+            generated: listed.generated,
         },
         Err(fault) => Summary {
             fault: Some(fault),
             ops: 0,
             centrings: 0,
+            generated: false,
         },
     }
 }
@@ -61,7 +76,7 @@ fn read_in_pieces(alloc: Global, bytes: &[u8], size: usize) -> Result<Listed, Te
     reader.finish()
 }
 
-fn compare(rt: &(impl Abort + Print), alloc: Global, text: &str, want: Summary) {
+pub fn compare(rt: &(impl Abort + Print), alloc: Global, text: &str, want: Summary) {
     let bytes = text.as_bytes();
     assert!(rt; bytes.len() <= MOST_BYTES);
     assert_eq!(rt; summary_of(read_group(alloc, bytes)), want, "{text}");
@@ -247,17 +262,7 @@ static BAD_TRIPLETS: [BadTriplet; 10] = [
 #[test]
 fn a_bad_line_has_its_column_and_kind(rt: HostRuntime) {
     for BadLine(text, column, kind) in BAD_LINES {
-        let at = TextFault::At {
-            line: 1,
-            column,
-            kind,
-        };
-        let want = Summary {
-            fault: Some(at),
-            ops: 0,
-            centrings: 0,
-        };
-        compare(&rt, rt.alloc(), text, want);
+        compare(&rt, rt.alloc(), text, Summary::of_fault(1, column, kind));
     }
 }
 
@@ -272,6 +277,7 @@ fn a_good_text_lists_its_operations_and_vectors(rt: HostRuntime) {
                 fault: None,
                 ops,
                 centrings,
+                generated: false,
             },
         );
     }
@@ -279,28 +285,10 @@ fn a_good_text_lists_its_operations_and_vectors(rt: HostRuntime) {
 
 #[test]
 fn the_first_bad_line_counts(rt: HostRuntime) {
-    let at = TextFault::At {
-        line: 2,
-        column: 4,
-        kind: TextKind::MissingPart,
-    };
-    let want = Summary {
-        fault: Some(at),
-        ops: 0,
-        centrings: 0,
-    };
+    let want = Summary::of_fault(2, 4, TextKind::MissingPart);
     compare(&rt, rt.alloc(), "x,y,z\nx,y", want);
     compare(&rt, rt.alloc(), "\nx,y\nx,y,z", want);
-    let at = TextFault::At {
-        line: 2,
-        column: 5,
-        kind: TextKind::MissingPart,
-    };
-    let want = Summary {
-        fault: Some(at),
-        ops: 0,
-        centrings: 0,
-    };
+    let want = Summary::of_fault(2, 5, TextKind::MissingPart);
     compare(&rt, rt.alloc(), "(0,0,0)+\nx,y\r\nx;y", want);
 }
 
