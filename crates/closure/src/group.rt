@@ -103,7 +103,8 @@ impl Group {
         Ok(Group { ops, lattice })
     }
 
-    /// The operations, each once modulo the lattice, in the order in which they were first listed.
+    /// The operations, each once modulo the lattice, in the order in which they were first listed, or where they
+    /// were generated with the identity first and the others with the lexicographically greatest matrix first.
     pub fn ops(&self) -> &[Motion3]
         ensures ops { map motion_of result.now ≡ (group_listing self.now).ops }
         ensures group { IsGroup (group_listing self.now) }
