@@ -13,7 +13,8 @@ use Rattle.closure.specs.declared.generated_error.GeneratedError.TheVariants as 
 use Rattle.closure.specs.Derived.{IsGeneratedError}
 use Rattle.plane_lattice.specs.FrameOf.{IsFrameFault}
 use Rattle.plane_lattice.proofs.FrameListings.{one_frame_fault}
-use Rattle.closure.proofs.OneDerived.{one_generated_error, no_generated_and_error}
+use Rattle.closure.proofs.GeneratedErrors.{no_error}
+use Rattle.closure.proofs.OneDerived.{one_error}
 use Rattle.closure.proofs.OneError.{one_group_error, no_group_and_error}
 use Rattle.triplets.specs.Texts.{IsGroupText}
 use Rattle.triplets.proofs.OneFault.{one_flag, one_listing, one_fault, no_listing_and_fault}
@@ -71,7 +72,7 @@ module _ (input : List ℕ) where
     one_cause (of_generators g) (of_text f) p q e e' = absurd (no_listing_and_fault input true p.1.0 f q.1 p.1.1)
     one_cause (of_generators g) (of_group g') p q e e' = absurd (not_both_kinds q.1.0 p.1.0 q.1.1 p.1.1)
     one_cause (of_generators g) (of_generators g') (short, (l, text, error)) (short', (l', text', error')) e e' =
-        ap of_generators (one_generated_error l g g' (known_of_generators g r e) (known_of_generators g' r' e') error
+        ap of_generators (one_error l g g' (known_of_generators g r e) (known_of_generators g' r' e') error
         (subst (λ (l : Listing). IsGeneratedError l g') (one_listing input true true l' l text' text) error'))
 
   pub no_group_and_cause : (r : Refusal) (g : Listing) (c : Cause) → IsShort input → ListsGroup input g → IsCause input c → obstacle_of c ≡ obstacles.Refused r → ⊥
@@ -86,7 +87,7 @@ module _ (input : List ℕ) where
       go (of_group error) (inr of) (short', (l, text', is)) e = not_both_kinds l of.generators text' of.is_text
       go (of_generators error) (inl text) (short', (l, text', is)) e = not_both_kinds g l text text'
       go (of_generators error) (inr of) (short', (l, text', is)) e =
-          known_of_generators error r e (no_generated_and_error of.generators error of.limits
+          known_of_generators error r e (no_error of.generators of.limits error
           (subst (λ (l : Listing). IsGeneratedError l error) (one_listing input true true l of.generators text' of.is_text) is))
 
 -- ---- why a group has no answer
