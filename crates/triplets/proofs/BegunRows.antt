@@ -1,6 +1,6 @@
 -- The vectors that the reader has kept of a line are those that stand whole at its beginning.
 use Rattle.std.proofs.Common.{◌≡◌, ℕ, ◌+◌, ◌≤◌, List, [], ◌∷◌, ◌++◌, length, Option, Some, None, Result, Ok, Err, refl, sym, ◌∙◌, ap, subst, arith, inl, inr, ◌⊎◌, append_assoc, length-append}
-use Rattle.std.proofs.lemmas.List.{append-nil, append_cancel_left}
+use Rattle.std.proofs.lemmas.List.{append-nil}
 use Rattle.symmetry.specs.Vectors.{Vector}
 use Rattle.motions.specs.Views.{parts}
 use Rattle.motions.specs.declared.motion.Sign.TheVariants.{Plus}
@@ -16,10 +16,10 @@ use Rattle.triplets.specs.declared.line.LinePlace.TheVariants as places
 use Rattle.triplets.specs.Marks.{mark}
 use Rattle.triplets.specs.TripletReading.{step}
 use Rattle.triplets.specs.Grammar.{blanks_text}
-use Rattle.triplets.specs.Lines.{Centring, centring_text, centring_value, Centrings, one, further, centrings_text, centrings_value, empty, operation, row, form_text}
+use Rattle.triplets.specs.Lines.{Centring, centring_text, centring_value, Centrings, one, further, centrings_text, centrings_value, empty, operation, row}
 use Rattle.triplets.specs.LineReading.{in_operation, coordinate_sign, place_step, completed, with_vector, LineState, line_start, at_place, line_step, line_advance, line_run}
 use Rattle.triplets.specs.BegunLines.{AreBegunVectors}
-use Rattle.triplets.proofs.LineBegun.{line_going, line_stopped, line_run-append, run_line_stopped, state_of, going_line_is, placed_by, LineBegun, at_start, at_opening, at_operation, at_vector, at_closed, at_behind, at_comment, prior_text, prior_value, line_text, line_state, closed_text, in_bracket, bracket_more, closed_more, all_of, line_goes}
+use Rattle.triplets.proofs.LineBegun.{line_going, line_run-append, run_line_stopped, state_of, going_line_is, placed_by, LineBegun, at_start, at_opening, at_operation, at_vector, at_closed, at_behind, at_comment, prior_text, prior_value, line_text, line_state, closed_text, in_bracket, bracket_more, closed_more, all_of, line_goes}
 use Rattle.triplets.proofs.LineRuns.{centrings_run}
 
 -- ---- more bytes, no fewer vectors

@@ -1,5 +1,5 @@
 -- What a text gives from its line 1 on.
-use Rattle.std.proofs.Common.{◌≡◌, ◌≢◌, ℕ, zero, suc, ◌+◌, ◌<◌, Bool, true, false, cond, List, [], ◌∷◌, ◌++◌, length, take, Option, Some, None, Result, Ok, Err, refl, sym, ◌∙◌, ap, subst, arith, inl, inr, ◌⊎◌, length-append, add-one}
+use Rattle.std.proofs.Common.{◌≡◌, ◌≢◌, ℕ, zero, suc, ◌+◌, ◌<◌, Bool, true, false, cond, List, [], ◌∷◌, ◌++◌, length, Option, None, Result, Ok, Err, refl, sym, ◌∙◌, ap, subst, arith, inl, inr, ◌⊎◌, length-append, add-one}
 use Rattle.std.specs.Prelude.{◌==◌}
 use Rattle.std.proofs.lemmas.Bool.Decides.{eqb_tells}
 use Rattle.std.proofs.lemmas.List.{append-nil}
@@ -21,20 +21,20 @@ use Rattle.triplets.specs.Headings.{IsHeading}
 use Rattle.triplets.specs.Places.{IsPrefixIn}
 use Rattle.triplets.specs.LineReading.{line_start, line_run, start_step, at_place}
 use Rattle.triplets.specs.HeadingReading.{heading_step, is_whole, in_heading, in_line, begin_line, from_beginning}
-use Rattle.triplets.specs.LineFaults.{IsGoodLine, IsGoodFirstLine, IsFaultIn, IsLineFault}
-use Rattle.triplets.specs.Texts.{with_front, lines_of, nothing_listed, listed_then, AreTextLines, IsFirstBad, IsFirstShown, Fault}
+use Rattle.triplets.specs.LineFaults.{IsGoodLine, IsGoodFirstLine, IsFaultIn}
+use Rattle.triplets.specs.Texts.{with_front, lines_of, nothing_listed, AreTextLines, IsFirstBad, IsFirstShown, Fault}
 use Rattle.triplets.specs.BegunLines.{AreBegunVectors}
 use Rattle.triplets.specs.KeptTexts.{AreKept}
-use Rattle.triplets.specs.TextReading.{Said, Kept, kept_start, moved, new_line, ended, fault_here, text_run, outcome, group_of}
+use Rattle.triplets.specs.TextReading.{Said, Kept, kept_start, moved, new_line, ended, fault_here, text_run, outcome}
 use Rattle.triplets.proofs.TextRuns.{faulty, run_faulty}
-use Rattle.triplets.proofs.LineBegun.{line_going, line_stopped, state_of}
+use Rattle.triplets.proofs.LineBegun.{line_going, state_of}
 use Rattle.triplets.proofs.LineEnds.{is_line_prefix}
 use Rattle.triplets.proofs.LinePlaces.{line_more, take_front}
 use Rattle.triplets.proofs.Partials.{blanks_more}
 use Rattle.triplets.proofs.Bytes.{IsMark, mark_is}
-use Rattle.triplets.proofs.Headings.{heading_stopped, heading_going, IsBegun, begun_more, whole_heading, other_beginning, no_vector}
+use Rattle.triplets.proofs.Headings.{IsBegun, begun_more, whole_heading, other_beginning, no_vector}
 use Rattle.triplets.proofs.FirstLines.{blanks_line, blanks_read, blanks_prefix, beginning_fault, word_prefix, word_fault, short_word_fault, IsApart, no_whole, first_of_line, line_of_first}
-use Rattle.triplets.proofs.TextEnds.{IsOutcome, InLine, outcome_all, front_nil, front_front, said_then, an_ending, no_ending}
+use Rattle.triplets.proofs.TextEnds.{IsOutcome, InLine, outcome_all, front_nil, front_front, an_ending, no_ending}
 use Rattle.triplets.proofs.BegunRows.{begun_row}
 use Rattle.triplets.proofs.KeptLines.{KeptAfter, IsKeptSoFar, kept_all}
 use Rattle.triplets.proofs.TextShown.{IsShownSoFar, shown_all, shown_more, not_last, some_line}
@@ -258,7 +258,7 @@ heading_moved (Ok q) b bs ks p hs c further g e w =
 
 heading_byte : (t : Bool) (b : ℕ) (bs : List ℕ) (ks : List Blank) (p : HeadingPlace) (hs : List ℕ) (c : ℕ) → HeadingAfter bs → IsBegun p hs → c ≡ length (heading_before ks hs) + 1 →
     (let k = first_kept c (texts.Heading p) in
-     IsGiven (text_run (cond t (new_line (ended (heading_ending (is_whole p)) true k) k) (moved (in_heading (heading_step b p)) None k)) bs) (with_front (heading_before ks hs) (cond t ([] ∷ lines_of bs) (with_front (b ∷ []) (lines_of bs)))))
+    IsGiven (text_run (cond t (new_line (ended (heading_ending (is_whole p)) true k) k) (moved (in_heading (heading_step b p)) None k)) bs) (with_front (heading_before ks hs) (cond t ([] ∷ lines_of bs) (with_front (b ∷ []) (lines_of bs)))))
 heading_byte true b bs ks p hs c further g e = heading_line (is_whole p) bs ks p hs c g e refl
 heading_byte false b bs ks p hs c further g e = heading_moved (heading_step b p) b bs ks p hs c further g e refl
 
@@ -322,13 +322,13 @@ begin_moved b bs ks c further h =
       | inl x ↦ subst motive (sym x.0) (
           subst (λ ls. IsGiven (text_run (Ok (first_kept (c + 1) (texts.Heading words.G))) bs) ls) (front_front (blanks_text ks) (103 ∷ []) (lines_of bs) ∙ ap (λ y. with_front (blanks_text ks) (with_front (y ∷ []) (lines_of bs))) (sym x.1))
           (heading_all bs ks words.G [] (c + 1) refl (omega (arith, h, length-append (blanks_text ks) (103 ∷ []))))
-        )
+          )
       | inr x ↦ subst motive (sym x.0) (begin_by (mark b) b bs ks c further refl (mark_is b) x.1 h)
     ]
 
 begin_byte : (t : Bool) (b : ℕ) (bs : List ℕ) (ks : List Blank) (c : ℕ) → BeginningAfter bs → c ≡ length (blanks_text ks) + 1 →
     (let k = first_kept c texts.Beginning in
-     IsGiven (text_run (cond t (new_line (ended (an_ending None) false k) k) (moved (from_beginning b) None k)) bs) (with_front (blanks_text ks) (cond t ([] ∷ lines_of bs) (with_front (b ∷ []) (lines_of bs)))))
+    IsGiven (text_run (cond t (new_line (ended (an_ending None) false k) k) (moved (from_beginning b) None k)) bs) (with_front (blanks_text ks) (cond t ([] ∷ lines_of bs) (with_front (b ∷ []) (lines_of bs)))))
 begin_byte true b bs ks c further h = behind_line (blanks_text ks ++ []) bs (blanks_line ks)
 begin_byte false b bs ks c further h = begin_moved b bs ks c further h
 

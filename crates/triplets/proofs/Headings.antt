@@ -236,7 +236,7 @@ no_heading bs p hs b k g e h =
     let r = heading_read bs ((hs ++ b ∷ []) ++ h.0) (subst IsHeading (append_assoc (blanks_text bs) (103 ∷ (hs ++ b ∷ [])) h.0) h.1) in
     let s : heading_run (heading_going words.G) (hs ++ b ∷ []) ≡ heading_stopped k = heading_run-append (heading_going words.G) hs (b ∷ []) ∙ (ap (λ (x : Result HeadingPlace TextKind). heading_advance x b) (begun_run p hs g) ∙ e) in
     let t : heading_run (heading_going words.G) ((hs ++ b ∷ []) ++ h.0) ≡ heading_stopped k =
-        heading_run-append (heading_going words.G) (hs ++ b ∷ []) h.0 ∙ (ap (λ (x : Result HeadingPlace TextKind). heading_run x h.0) s ∙ run_heading_stopped k h.0) in
+    heading_run-append (heading_going words.G) (hs ++ b ∷ []) h.0 ∙ (ap (λ (x : Result HeadingPlace TextKind). heading_run x h.0) s ∙ run_heading_stopped k h.0) in
     let z : heading_going r.last ≡ heading_stopped k = sym r.run_is ∙ t in
     cc
 
@@ -290,9 +290,9 @@ stopped_by p b k h = by_place p h
             elim (eqb_tells b 35) [
               | inl x ↦ inl (x.1, kind_is kinds.MissingPart (sym (ap (λ t. cond t (heading_stopped kinds.MissingPart) (heading_stopped kinds.UnknownSign)) x.0) ∙ e))
               | inr x ↦ inr (
-                  (λ y. let z : (b == 35) ≡ true = ap (λ c. c == 35) (hash_is y) in let w : true ≡ false = sym z ∙ x.0 in cc),
-                  kind_is kinds.UnknownSign (sym (ap (λ t. cond t (heading_stopped kinds.MissingPart) (heading_stopped kinds.UnknownSign)) x.0) ∙ e),
-                )
+                (λ y. let z : (b == 35) ≡ true = ap (λ c. c == 35) (hash_is y) in let w : true ≡ false = sym z ∙ x.0 in cc),
+                kind_is kinds.UnknownSign (sym (ap (λ t. cond t (heading_stopped kinds.MissingPart) (heading_stopped kinds.UnknownSign)) x.0) ∙ e),
+              )
             ]
 
     behind : (m : Mark) → mark b ≡ m → behind_word m ≡ heading_stopped k → ((b ≡ 35) × (k ≡ kinds.MissingPart)) ⊎ ((mark b ≢ marks.Hash) × (k ≡ kinds.UnknownSign))
