@@ -1,7 +1,6 @@
 -- What the reader keeps of a whole text, and that it is one thing.
-use Rattle.std.proofs.Common.{◌≡◌, ℕ, ◌+◌, Bool, false, List, [], ◌∷◌, length, map, Ok, refl, sym, ◌∙◌, ap, subst}
+use Rattle.std.proofs.Common.{◌≡◌, ℕ, ◌+◌, Bool, false, List, [], length, map, Ok, refl, sym, ◌∙◌, ap, subst}
 use Rattle.std.proofs.lemmas.List.{same_from_push}
-use Rattle.symmetry.specs.Vectors.{Vector}
 use Rattle.symmetry.specs.Groups.{Listing}
 use Rattle.motions.specs.Views.{motion_of, parts}
 use Rattle.motions.specs.declared.motion.Motion3.{Motion3}
