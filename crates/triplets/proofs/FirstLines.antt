@@ -1,5 +1,5 @@
 -- The faults of line 1.
-use Rattle.std.proofs.Common.{◌≡◌, ◌≢◌, ℕ, ◌+◌, ◌<◌, ◌≤◌, Bool, true, false, List, [], ◌∷◌, ◌++◌, length, take, None, Result, Ok, refl, sym, ◌∙◌, ap, subst, arith, inl, inr, ◌⊎◌, append_assoc}
+use Rattle.std.proofs.Common.{◌≡◌, ◌≢◌, ℕ, ◌+◌, false, List, [], ◌∷◌, ◌++◌, length, take, None, Ok, refl, sym, ◌∙◌, subst, arith, inl, inr, append_assoc}
 use Rattle.std.proofs.lemmas.Bool.{cases_lt}
 use Rattle.std.proofs.lemmas.List.{append-nil, take-take}
 use Rattle.triplets.specs.declared.fault.TextKind.{TextKind}
@@ -14,7 +14,7 @@ use Rattle.triplets.specs.HeadingReading.{heading_step, is_whole}
 use Rattle.triplets.specs.Places.{IsPrefixIn}
 use Rattle.triplets.specs.LineFaults.{IsGoodLine, IsGoodFirstLine, IsPrefixOfGoodLine, IsFaultIn, IsLineFault}
 use Rattle.triplets.specs.Texts.{nothing_listed}
-use Rattle.triplets.proofs.LineBegun.{line_going, line_stopped, line_run-append}
+use Rattle.triplets.proofs.LineBegun.{line_going, line_stopped}
 use Rattle.triplets.proofs.LineKinds.{line_kind}
 use Rattle.triplets.proofs.LinePlaces.{fault_from, end_from, line_more, no_line_prefix, shorter}
 use Rattle.triplets.proofs.Headings.{heading_stopped, IsBegun, begun_prefix, no_heading, no_whole_heading, other_beginning}

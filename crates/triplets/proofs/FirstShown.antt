@@ -1,5 +1,5 @@
 -- Which faults a whole text has and shows.
-use Rattle.std.proofs.Common.{◌≡◌, ℕ, zero, suc, ◌+◌, List, [], ◌∷◌, Result, Ok, Err, subst, arith}
+use Rattle.std.proofs.Common.{◌≡◌, ℕ, zero, suc, List, [], ◌∷◌, Result, Ok, Err, subst, arith}
 use Rattle.triplets.specs.declared.fault.TextKind.{TextKind}
 use Rattle.triplets.specs.LineFaults.{IsGoodLine, IsGoodFirstLine}
 use Rattle.triplets.specs.Texts.{lines_of, IsFirstBad, Fault, IsTextFault, IsFirstShown, IsShownFault}

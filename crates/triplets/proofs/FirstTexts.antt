@@ -1,5 +1,5 @@
 -- What a text gives from its line 1 on.
-use Rattle.std.proofs.Common.{◌≡◌, ◌≢◌, ℕ, zero, suc, ◌+◌, ◌<◌, Bool, true, false, cond, List, [], ◌∷◌, ◌++◌, length, take, Option, Some, None, Result, Ok, Err, refl, sym, ◌∙◌, ap, subst, arith, inl, inr, ◌⊎◌, length-append, add-one}
+use Rattle.std.proofs.Common.{◌≡◌, ◌≢◌, ℕ, zero, suc, ◌+◌, ◌<◌, Bool, true, false, cond, List, [], ◌∷◌, ◌++◌, length, Option, None, Result, Ok, Err, refl, sym, ◌∙◌, ap, subst, arith, inl, inr, ◌⊎◌, length-append, add-one}
 use Rattle.std.specs.Prelude.{◌==◌}
 use Rattle.std.proofs.lemmas.Bool.Decides.{eqb_tells}
 use Rattle.std.proofs.lemmas.List.{append-nil}
@@ -21,18 +21,18 @@ use Rattle.triplets.specs.Headings.{IsHeading}
 use Rattle.triplets.specs.Places.{IsPrefixIn}
 use Rattle.triplets.specs.LineReading.{line_start, line_run, start_step, at_place}
 use Rattle.triplets.specs.HeadingReading.{heading_step, is_whole, in_heading, in_line, begin_line, from_beginning}
-use Rattle.triplets.specs.LineFaults.{IsGoodLine, IsGoodFirstLine, IsFaultIn, IsLineFault}
-use Rattle.triplets.specs.Texts.{with_front, lines_of, nothing_listed, listed_then, AreTextLines, IsFirstBad, IsFirstShown, Fault}
-use Rattle.triplets.specs.TextReading.{Said, Kept, kept_start, moved, new_line, ended, fault_here, text_run, outcome, group_of}
+use Rattle.triplets.specs.LineFaults.{IsGoodLine, IsGoodFirstLine, IsFaultIn}
+use Rattle.triplets.specs.Texts.{with_front, lines_of, nothing_listed, AreTextLines, IsFirstBad, IsFirstShown, Fault}
+use Rattle.triplets.specs.TextReading.{Said, Kept, kept_start, moved, new_line, ended, fault_here, text_run, outcome}
 use Rattle.triplets.proofs.TextRuns.{faulty, run_faulty}
-use Rattle.triplets.proofs.LineBegun.{line_going, line_stopped, state_of}
+use Rattle.triplets.proofs.LineBegun.{line_going, state_of}
 use Rattle.triplets.proofs.LineEnds.{is_line_prefix}
 use Rattle.triplets.proofs.LinePlaces.{line_more, take_front}
 use Rattle.triplets.proofs.Partials.{blanks_more}
 use Rattle.triplets.proofs.Bytes.{IsMark, mark_is}
-use Rattle.triplets.proofs.Headings.{heading_stopped, heading_going, IsBegun, begun_more, whole_heading, other_beginning}
+use Rattle.triplets.proofs.Headings.{IsBegun, begun_more, whole_heading, other_beginning}
 use Rattle.triplets.proofs.FirstLines.{blanks_line, blanks_read, blanks_prefix, beginning_fault, word_prefix, word_fault, short_word_fault, IsApart, no_whole, first_of_line, line_of_first}
-use Rattle.triplets.proofs.TextEnds.{IsOutcome, InLine, outcome_all, front_nil, front_front, said_then, an_ending, no_ending}
+use Rattle.triplets.proofs.TextEnds.{IsOutcome, InLine, outcome_all, front_nil, front_front, an_ending, no_ending}
 use Rattle.triplets.proofs.TextShown.{IsShownSoFar, shown_all, shown_more, not_last, some_line}
 
 abbrev nothing_said : Bool → Said

@@ -1,5 +1,5 @@
 -- The kind of a fault of the heading.
-use Rattle.std.proofs.Common.{◌≡◌, ◌≢◌, ℕ, ◌≤◌, Bool, true, false, List, [], ◌∷◌, ◌++◌, Result, Err, refl, sym, ◌∙◌, ap, subst, arith, inl, inr, ◌⊎◌}
+use Rattle.std.proofs.Common.{◌≡◌, ◌≢◌, ℕ, ◌≤◌, false, List, [], ◌∷◌, ◌++◌, refl, sym, ◌∙◌, subst, arith, inl, inr}
 use Rattle.std.specs.Prelude.{codes}
 use Rattle.triplets.specs.declared.fault.TextKind.{TextKind}
 use Rattle.triplets.specs.declared.fault.TextKind.TheVariants as kinds
@@ -12,7 +12,7 @@ use Rattle.triplets.specs.Grammar.{Blank, space, tab, carriage_return, blank_byt
 use Rattle.triplets.specs.HeadingReading.{heading_step}
 use Rattle.triplets.specs.LineFaults.{line_stands, is_end_of_part, HasLineKind}
 use Rattle.triplets.proofs.Bytes.{mark_is}
-use Rattle.triplets.proofs.LineSeen.{LineSeen, line_seen, line_seen_step, line_seen_start, Between, between_blank, blank_keeps}
+use Rattle.triplets.proofs.LineSeen.{LineSeen, line_seen, line_seen_step, line_seen_start, Between, between_blank}
 use Rattle.triplets.proofs.LineKinds.{Fresh, between_kind, line_uses}
 use Rattle.triplets.proofs.Headings.{heading_stopped, IsBegun, stopped_by}
 

@@ -1,5 +1,5 @@
 -- What is kept of a line stays within its bounds, also in the heading.
-use Rattle.std.proofs.Common.{◌≡◌, ℕ, ◌+◌, ◌≤◌, Bool, true, false, cond, Option, Result, Ok, Err, refl, sym, subst}
+use Rattle.std.proofs.Common.{◌≡◌, ℕ, ◌+◌, ◌≤◌, Bool, true, false, cond, Result, Ok, Err, refl, sym, subst}
 use Rattle.std.specs.Prelude.{◌==◌}
 use Rattle.triplets.specs.declared.fault.TextKind.{TextKind}
 use Rattle.triplets.specs.declared.marks.Mark.{Mark}
@@ -12,7 +12,7 @@ use Rattle.triplets.specs.declared.place.TextPlace.{TextPlace}
 use Rattle.triplets.specs.declared.place.TextPlace.TheVariants as texts
 use Rattle.triplets.specs.Marks.{mark}
 use Rattle.triplets.specs.LineReading.{start_step, place_step}
-use Rattle.triplets.specs.HeadingReading.{in_heading, in_line, begin_line, from_beginning, text_step, heading_step, IsTextPlaceSmall}
+use Rattle.triplets.specs.HeadingReading.{in_heading, in_line, begin_line, text_step, heading_step, IsTextPlaceSmall}
 use Rattle.triplets.specs.PlaceBounds.{IsPlaceWithin, IsTextPlaceWithin}
 use Rattle.triplets.proofs.LineBounds.{placed, place_within, place_small}
 

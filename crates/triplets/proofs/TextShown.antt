@@ -1,9 +1,8 @@
 -- Which faults a text shows that may go on.
-use Rattle.std.proofs.Common.{◌≡◌, ◌≢◌, ℕ, zero, suc, ◌+◌, Bool, true, false, cond, List, [], ◌∷◌, ◌++◌, length, take, drop, Option, Some, None, Result, Ok, Err, refl, sym, ◌∙◌, ap, subst, arith, inl, inr, append_assoc, length-append, add-one}
+use Rattle.std.proofs.Common.{◌≡◌, ◌≢◌, ℕ, zero, suc, ◌+◌, Bool, true, false, cond, List, [], ◌∷◌, ◌++◌, length, Option, Some, None, Result, Ok, Err, refl, sym, ap, subst, arith, inl, inr, length-append, add-one}
 use Rattle.std.specs.Prelude.{◌==◌}
-use Rattle.std.proofs.lemmas.List.{append-nil, take-append-drop}
+use Rattle.std.proofs.lemmas.List.{append-nil}
 use Rattle.symmetry.specs.Vectors.{Vector}
-use Rattle.symmetry.specs.Groups.{Listing}
 use Rattle.triplets.specs.declared.fault.TextKind.{TextKind}
 use Rattle.triplets.specs.declared.fault.TextKind.TheVariants as kinds
 use Rattle.motions.specs.declared.motion.Motion3.{Motion3}
@@ -17,7 +16,7 @@ use Rattle.triplets.specs.declared.line.LinePlace.TheVariants as places
 use Rattle.triplets.specs.HeadingReading.{in_line}
 use Rattle.triplets.specs.Texts.{with_front, lines_of, Fault, IsFirstShown}
 use Rattle.triplets.specs.TextReading.{Said, Kept, moved, new_line, ended, fault_here, text_run}
-use Rattle.triplets.proofs.TextRuns.{keeping, faulty, run_faulty}
+use Rattle.triplets.proofs.TextRuns.{run_faulty}
 use Rattle.triplets.proofs.LineBegun.{line_going, line_stopped}
 use Rattle.triplets.proofs.LineEnds.{is_line_prefix}
 use Rattle.triplets.proofs.LinePlaces.{byte_fault, shorter}

@@ -1,5 +1,5 @@
 -- The place and the kind of a fault.
-use Rattle.std.specs.Prelude.{◌≡◌, ◌⊎◌, ℕ, ◌+◌, ◌<◌, ◌≤◌, ◌==◌, ◌&&◌, ◌||◌, nat_le, Bool, true, false, if◌then◌else◌, IsTrue, List, [], ◌∷◌, ◌++◌, length, take, slice_get, Option, Some, None}
+use Rattle.std.specs.Prelude.{◌≡◌, ◌⊎◌, ℕ, ◌+◌, ◌≤◌, ◌==◌, ◌&&◌, ◌||◌, nat_le, Bool, true, false, if◌then◌else◌, IsTrue, List, [], ◌∷◌, take, slice_get, Option, Some, None}
 use Rattle.triplets.specs.Bytes.{comma, hash, slash}
 use Rattle.triplets.specs.Places.{IsPrefixIn, IsPlaceIn}
 use Rattle.triplets.specs.declared.marks.Axis.{Axis}
