@@ -1,5 +1,5 @@
 -- How large the numbers are that an origin is written with.
-use Rattle.std.proofs.Common.{◌≡◌, ¬, ℕ, ◌*◌, ℤ, ◌+ℤ◌, pos, ◌*ℤ◌, ◌≤ℤ◌, List, [], ◌∷◌, arith}
+use Rattle.std.proofs.Common.{◌≡◌, ℕ, ◌*◌, ℤ, ◌+ℤ◌, pos, ◌*ℤ◌, ◌≤ℤ◌, List, [], ◌∷◌, arith}
 use Rattle.std.specs.Prelude.{unsigned_abs}
 use Rattle.std.proofs.lemmas.Int.{ints}
 use Rattle.fractions.specs.declared.part.TheConstants.{UNIT}

@@ -7,5 +7,6 @@ pub mod EntrySizes
 pub mod OneAnswer
 pub mod GroupAnswers
 pub mod Reading
+mod InputGroups
 pub mod Pieces
 pub mod RunFacts
