@@ -63,7 +63,7 @@ fn minor(a: Part, b: Part, c: Part, d: Part) -> i64
 }
 
 /// The quotient of two numbers, rounded down.
-fn floor(x: i128, d: i128) -> i128
+pub fn floor(x: i128, d: i128) -> i128
     requires x { IsWithin largest_scaled x }
     requires d { IsWithin largest_scaled d }
     requires positive { pos 1 ≤ℤ d }
@@ -85,7 +85,7 @@ pub(crate) fn whole_part(scaled: &[i128; 3], d: i128) -> [i128; 3]
 }
 
 /// The vector without a combination of the basis.
-pub(crate) fn without(v: &[Part; 3], basis: &Basis, c: &[i128; 3]) -> [Part; 3]
+pub fn without(v: &[Part; 3], basis: &Basis, c: &[i128; 3]) -> [Part; 3]
     requires vector { IsVectorWithin (2 ^ 20) (parts v.now) }
     requires coefficients { IsVectorWithin largest_scaled (vector_of c.now) }
     requires rest { IsVectorWithin largest_home (minus (parts v.now) (combination (basis_of basis.now) (vector_of c.now))) }

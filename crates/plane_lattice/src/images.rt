@@ -9,7 +9,7 @@ use fractions::Part;
 use motions::Motion3;
 
 /// The image of a vector of a basis under the matrix of the motion, and how large it is.
-pub(crate) fn image(m: &Motion3, v: &[Part; 3]) -> [Part; 3]
+pub fn image(m: &Motion3, v: &[Part; 3]) -> [Part; 3]
     requires motion { IsSmall (motion_of m.now) }
     requires vector { IsVectorWithin largest_entry (parts v.now) }
     ensures is { parts result ≡ image (motion_of m.now).matrix (parts v.now) }

@@ -22,9 +22,13 @@ mod space;
 #[cfg(test)]
 mod tests;
 
+pub use coordinates::{floor, without};
 pub use dual_basis::DualBasis;
 pub use frame::Frame;
+pub use images::image;
 pub use laws::{
     general_section_by_list, mean_is_above, one_frame_fault, one_general_section, section_by_list,
     section_of_height, seen_once, special_in_steps,
 };
+pub use make::{has_vectors, spans_lattice};
+pub use skews::turns_far;

@@ -70,7 +70,7 @@ fn is_frame(group: &Group, plane: &Miller, dual: &DualBasis) -> bool
 }
 
 /// Whether a, b and tau are in the lattice.
-fn has_vectors(group: &Group, dual: &DualBasis) -> bool
+pub fn has_vectors(group: &Group, dual: &DualBasis) -> bool
     ensures { IsTrue result
         ↔ (IsInLattice (group_listing group.now) (basis_of dual.now.basis).a
         × IsInLattice (group_listing group.now) (basis_of dual.now.basis).b
@@ -80,7 +80,7 @@ fn has_vectors(group: &Group, dual: &DualBasis) -> bool
 }
 
 /// Whether each vector of the lattice is a whole combination of the basis.
-fn spans_lattice(group: &Group, dual: &DualBasis) -> bool
+pub fn spans_lattice(group: &Group, dual: &DualBasis) -> bool
     requires { pos 1 ≤ℤ volume (basis_of dual.now.basis) }
     ensures { IsTrue result
         ↔ ((v : Vector) → IsInLattice (group_listing group.now) v → IsCombination (basis_of dual.now.basis) v) }

@@ -40,7 +40,7 @@ fn skews(m: &Motion3, plane: &Miller, dual: &DualBasis) -> bool
 }
 
 /// Whether the operation takes a, b or tau to a combination with a coefficient above 500 in size.
-fn turns_far(m: &Motion3, dual: &DualBasis) -> bool
+pub fn turns_far(m: &Motion3, dual: &DualBasis) -> bool
     requires motion { IsSmall (motion_of m.now) }
     requires volume { pos 1 ≤ℤ volume (basis_of dual.now.basis) }
     ensures { IsTrue result

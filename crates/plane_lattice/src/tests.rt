@@ -66,11 +66,14 @@ fn group_of(alloc: Global, ops: &[Motion3], centrings: &[[Part; 3]]) -> Result<G
 {
     let ops = Vec::from_slice(alloc, ops)?;
     let centrings = Vec::from_slice(alloc, centrings)?;
-    Group::make(alloc, Listed {
-        ops,
-        centrings,
-        generated: false,
-    })
+    Group::make(
+        alloc,
+        Listed {
+            ops,
+            centrings,
+            generated: false,
+        },
+    )
 }
 
 // a, -c and -1/2,1/2,0

@@ -1,0 +1,72 @@
+// Rod frames of a group and a direction.
+ghost use Rattle.std.specs.Prelude.{◌*◌, ◌≤ℤ◌, pos, unsigned_abs};
+ghost use Rattle.fractions.specs.declared.part.TheConstants.{UNIT};
+ghost use Rattle.symmetry.specs.Sizes.{IsVectorWithin};
+ghost use Rattle.motions.specs.Views.{parts};
+ghost use Rattle.plane_lattice.specs.Coordinates.{vectors, volume};
+
+use crate::axes::{axis, is_rod_frame};
+use crate::direction::Direction;
+use crate::skews::is_rod_skewed;
+use closure::Group;
+use fractions::Part;
+use motions::{Basis, FrameFault};
+use plane_lattice::DualBasis;
+
+/// The vectors a and b of a rod frame. Each entry is at most 1000 cell edges in size.
+#[derive(Clone, Copy, PartialEq, Eq, Debug)]
+pub struct RodBasis {
+    pub a: [Part; 3],
+    pub b: [Part; 3],
+    pub ghost a_in_range: { IsVectorWithin (1000 * unsigned_abs UNIT) (parts a) },
+    pub ghost b_in_range: { IsVectorWithin (1000 * unsigned_abs UNIT) (parts b) },
+}
+
+/// A rod frame: the axis of a direction, and vectors a and b that with it are a right-handed basis of the lattice.
+#[derive(Clone, Copy, PartialEq, Eq, Debug)]
+pub struct RodFrame {
+    pub direction: Direction,
+    pub axis: [Part; 3],
+    pub a: [Part; 3],
+    pub b: [Part; 3],
+    pub ghost axis_in_range: { IsVectorWithin (1000 * unsigned_abs UNIT) (parts axis) },
+    pub ghost a_in_range: { IsVectorWithin (1000 * unsigned_abs UNIT) (parts a) },
+    pub ghost b_in_range: { IsVectorWithin (1000 * unsigned_abs UNIT) (parts b) },
+    pub ghost right_handed: { pos 1 ≤ℤ volume (vectors a b axis) },
+}
+
+impl RodFrame {
+    ghost use Rattle.std.specs.Prelude.{◌≡◌, ◌↔◌, IfOk};
+    ghost use Rattle.motions.specs.declared.frame_fault.FrameFault.{FrameFault};
+    ghost use Rattle.penetration.specs.FrameOf.{IsRodFrameFault, IsRodFrameOf};
+
+    /// The rod frame of a group and a direction with the vectors a and b.
+    ///
+    /// [`NotFrame`](FrameFault::NotFrame) comes exactly where with the axis they are no right-handed basis of the lattice,
+    /// else [`Skewed`](FrameFault::Skewed) exactly where an operation that keeps the direction has a matrix entry above 500
+    /// in size, written in that basis.
+    pub fn make(
+        group: &Group,
+        direction: Direction,
+        basis: RodBasis,
+    ) -> Result<RodFrame, FrameFault>
+        ensures ok { IfOk result (IsRodFrameOf group.now direction basis) }
+        ensures faults { (fault : FrameFault) → (result ≡ Err fault) ↔ IsRodFrameFault group.now direction basis fault }
+    {
+        let axis = axis(group, &direction);
+        let RodBasis { a, b } = basis;
+        let dual = DualBasis::make(Basis { a, b, tau: axis });
+        if !is_rod_frame(group, &direction, &dual) {
+            return Err(FrameFault::NotFrame);
+        }
+        if is_rod_skewed(group, &direction, &dual) {
+            return Err(FrameFault::Skewed);
+        }
+        Ok(RodFrame {
+            direction,
+            axis,
+            a,
+            b,
+        })
+    }
+}
