@@ -139,11 +139,14 @@ fn group_of(alloc: Global, ops: &[Motion3], centrings: &[[Part; 3]]) -> Result<G
 {
     let ops = Vec::from_slice(alloc, ops)?;
     let centrings = Vec::from_slice(alloc, centrings)?;
-    Group::make(alloc, Listed {
-        ops,
-        centrings,
-        generated: false,
-    })
+    Group::make(
+        alloc,
+        Listed {
+            ops,
+            centrings,
+            generated: false,
+        },
+    )
 }
 
 // a, b and c
