@@ -22,12 +22,12 @@ module _ (input : List ℕ) (g : Listing) (short : IsShort input) (lists : Lists
 
   pub reduced_refused : (row : Vector) (r : Refusal) → RefusesInput row input r → RefusesReduced g row r
   reduced_refused row r (inl p) = absurd (group_and_refusal r p)
-  reduced_refused row r (inr (short', (some, q))) = q g lists
+  reduced_refused row r (inr (short', some, q)) = q g lists
 
 -- one that lists none is refused for one reason
 one_reason : (row : Vector) (input : List ℕ) (r r' : Refusal) → RefusesInput row input r → IsRefusedInput input r' → r ≡ r'
 one_reason row input r r' (inl p) q = one_refusal (image_rows row) input r r' (inl p) (inl q)
-one_reason row input r r' (inr (short, ((g, lists), p))) q = absurd (group_and_refusal input g short lists r' q)
+one_reason row input r r' (inr (short, (g, lists), p)) q = absurd (group_and_refusal input g short lists r' q)
 
 not_refused : (read : Result Vector Refusal) (row : Vector) (r : Refusal) → AsksRow read row → RefusesWords read r → ⊥
 not_refused read row r p q = cc

@@ -123,13 +123,13 @@ module _ (question : Question) (input : List ℕ) where
   one_refusal r r' (inl (c, p, e)) (inl (d, q, e')) =
       let same : obstacle_of c ≡ obstacle_of d = ap obstacle_of (one_cause input r r' c d p q e e') in
       let is : obstacles.Refused r ≡ obstacles.Refused r' = sym e ∙ same ∙ e' in cc
-  one_refusal r r' (inl (c, p, e)) (inr (short, ((g, lists), q))) = absurd (no_group_and_cause input r g c short lists p e)
-  one_refusal r r' (inr (short, ((g, lists), p))) (inl (c, q, e)) = absurd (no_group_and_cause input r' g c short lists q e)
-  one_refusal r r' (inr (short, ((g, lists), p))) (inr (short', (some, q))) = one_question_refusal g question r r' (p g lists) (q g lists)
+  one_refusal r r' (inl (c, p, e)) (inr (short, (g, lists), q)) = absurd (no_group_and_cause input r g c short lists p e)
+  one_refusal r r' (inr (short, (g, lists), p)) (inl (c, q, e)) = absurd (no_group_and_cause input r' g c short lists q e)
+  one_refusal r r' (inr (short, (g, lists), p)) (inr (short', some, q)) = one_question_refusal g question r r' (p g lists) (q g lists)
 
   pub fair_and_refusal : (r : Refusal) → IsFairInput question input → RefusesInput question input r → ⊥
   fair_and_refusal r fair (inl (c, p, e)) = no_group_and_cause input r fair.group c fair.short fair.lists p e
-  fair_and_refusal r fair (inr (short, (some, p))) = fair_and_question_refusal fair.group question r fair.fair (p fair.group fair.lists)
+  fair_and_refusal r fair (inr (short, some, p)) = fair_and_question_refusal fair.group question r fair.fair (p fair.group fair.lists)
 
   pub answer_and_refusal : (text : List ℕ) (r : Refusal) → AnswersInput question input text → RefusesInput question input r → ⊥
   answer_and_refusal text r answer = fair_and_refusal r (record {

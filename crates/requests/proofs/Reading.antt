@@ -78,7 +78,7 @@ module _ (read : Result Asked Refusal) (question : Question) (asks : IsRequest r
       → IfErr result (IsGroupsObstacle group question) → IfErr result (IsObstacle read left faults faults')
   kept_from_answer (Ok text) faults faults' same o = tt
   kept_from_answer (Err (obstacles.Refused r)) faults faults' same o = (
-    inr (about question, asks, λ input is. let of = is_of input is in inr (of.short, (of.some, λ g lists. o g (of.is_of g lists)))),
+    inr (about question, asks, λ input is. let of = is_of input is in inr (of.short, of.some, λ g lists. o g (of.is_of g lists))),
     same,
   )
   kept_from_answer (Err obstacles.ReadFault) faults faults' same o = absurd o
