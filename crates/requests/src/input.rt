@@ -31,12 +31,11 @@ pub fn group_of<S: Source>(alloc: Global, source: &mut S) -> Result<Group, Obsta
     ensures within { ReadsWithin (S.left source.old) (S.left source.new) 65537 }
 {
     let listed = read_listed(alloc, source)?;
-    let group = if listed.generated {
-        Group::generated(alloc, listed)?
+    if listed.generated {
+        Ok(Group::generated(alloc, listed)?)
     } else {
-        Group::make(alloc, listed)?
-    };
-    Ok(group)
+        Ok(Group::make(alloc, listed)?)
+    }
 }
 
 /// Reads a source to its end, piece by piece: what its text lists.
