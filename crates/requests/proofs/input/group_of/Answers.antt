@@ -1,4 +1,4 @@
-use Rattle.std.proofs.Common.{◌≡◌, ◌×◌, Bool, ℕ, List, Some, subst}
+use Rattle.std.proofs.Common.{◌≡◌, Bool, ℕ, List, Some, subst}
 use Rattle.std.proofs.lemmas.Result.{err_from_is_err_and}
 use Rattle.motions.specs.Views.{listing_of}
 use Rattle.triplets.specs.Texts.{IsGroupText}
@@ -24,3 +24,17 @@ returns-in_err-make-clause-obstacle g c =
     let p = err_from_is_err_and c.from_residual-in_err-make.result c.from_residual-in_err-make.ensures.1 in
     rw (p.1, p.2) (group_obstacle left _ _ c.in_ok-listed.ensures.unfailed listing
     (subst lists c.if-listed.false c.in_ok-listed.ensures.text) c.in_err-make.field-0.0 c.in_err-make.ensures.refused)
+
+pub returns-in_ok-generated-clause-group : goal.returns-in_ok-generated-clause-group
+returns-in_ok-generated-clause-group g c input is =
+    let text = c.in_ok-listed.ensures.text input is in
+    let listing = listing_of c.in_ok-listed.listed in
+    group_generated input c.in_ok-generated.field-0.0 text.0 listing (subst (λ (b : Bool). IsGroupText input b listing) c.if-listed.true text.1)
+    c.in_ok-generated.ensures.limits c.in_ok-generated.ensures.listing
+
+pub returns-in_ok-make-clause-group : goal.returns-in_ok-make-clause-group
+returns-in_ok-make-clause-group g c input is =
+    let text = c.in_ok-listed.ensures.text input is in
+    let listing = listing_of c.in_ok-listed.listed in
+    group_listed input c.in_ok-make.field-0.0 text.0 listing (subst (λ (b : Bool). IsGroupText input b listing) c.if-listed.false text.1)
+    c.in_ok-make.ensures.limits c.in_ok-make.ensures.made
