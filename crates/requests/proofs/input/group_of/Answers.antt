@@ -29,12 +29,12 @@ pub returns-in_ok-generated-clause-group : goal.returns-in_ok-generated-clause-g
 returns-in_ok-generated-clause-group g c input is =
     let text = c.in_ok-listed.ensures.text input is in
     let listing = listing_of c.in_ok-listed.listed in
-    group_generated input c.in_ok-generated.field-0.0 text.0 listing (subst (λ (b : Bool). IsGroupText input b listing) c.if-listed.true text.1)
+    group_generated input c.in_ok-generated.field-0 text.0 listing (subst (λ (b : Bool). IsGroupText input b listing) c.if-listed.true text.1)
     c.in_ok-generated.ensures.limits c.in_ok-generated.ensures.listing
 
 pub returns-in_ok-make-clause-group : goal.returns-in_ok-make-clause-group
 returns-in_ok-make-clause-group g c input is =
     let text = c.in_ok-listed.ensures.text input is in
     let listing = listing_of c.in_ok-listed.listed in
-    group_listed input c.in_ok-make.field-0.0 text.0 listing (subst (λ (b : Bool). IsGroupText input b listing) c.if-listed.false text.1)
+    group_listed input c.in_ok-make.field-0 text.0 listing (subst (λ (b : Bool). IsGroupText input b listing) c.if-listed.false text.1)
     c.in_ok-make.ensures.limits c.in_ok-make.ensures.made
