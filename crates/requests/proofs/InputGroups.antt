@@ -1,5 +1,5 @@
 -- The Group of a listed text is that of each listing of its group.
-use Rattle.std.proofs.Common.{true, false, ℕ, List, ◌⊎◌, sym, subst, inl, inr}
+use Rattle.std.proofs.Common.{true, false, ℕ, List, ◌⊎◌, subst, inl, inr}
 use Rattle.symmetry.specs.Groups.{Listing}
 use Rattle.closure.specs.Derived.{GeneratesWithinLimits}
 use Rattle.closure.specs.Generated.{IsDerivedListing}
@@ -10,7 +10,7 @@ use Rattle.closure.proofs.DerivedListings.{derived_within}
 use Rattle.closure.proofs.OneGroup.{group_of_derived}
 use Rattle.triplets.specs.Texts.{IsGroupText}
 use Rattle.triplets.proofs.OneFault.{one_flag, one_listing}
-use Rattle.requests.specs.Inputs.{IsGeneratedBy, IsGroupOfInput, IsShort, ListsGroup}
+use Rattle.requests.specs.Inputs.{IsGeneratedBy, IsGroupOfInput, IsShort}
 
 module _ (input : List ℕ) (group : Group) (short : IsShort input) where
   -- of a text that lists all operations

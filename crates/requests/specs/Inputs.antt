@@ -1,5 +1,5 @@
 -- The group that an input lists, or why there is none.
-use Rattle.std.specs.Prelude.{◌≡◌, ℕ, ◌<◌, ◌≤◌, ◌⊎◌, Bool, true, false, List, length}
+use Rattle.std.specs.Prelude.{◌≡◌, ℕ, ◌<◌, ◌≤◌, ◌⊎◌, true, false, List, length}
 use Rattle.symmetry.specs.Groups.{Listing, IsGroup}
 use Rattle.triplets.specs.Texts.{Fault, IsGroupText, IsTextFault}
 use Rattle.closure.specs.Derived.{GeneratesWithinLimits, IsGeneratedError}
