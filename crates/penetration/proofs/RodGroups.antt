@@ -32,10 +32,10 @@ use Rattle.recognition.specs.RationalRods.{rational_rod}
 use Rattle.recognition.proofs.RodTypeLemma.{same_rod, moved_same}
 use Rattle.penetration.specs.Lines.{IsOnLine, InLineStabiliser}
 use Rattle.penetration.specs.RodFrames.{IsRodFrame, AreRodOperations, DiffersAlong, levelled}
-use Rattle.penetration.specs.RodSections.{ActsAs, SameRod, ListsAlong, AreSections, counted, rod_at}
+use Rattle.penetration.specs.RodSections.{ActsAs, SameRod, ListsAlong, AreSections, counted, drift, rod_at}
 use Rattle.penetration.proofs.DirectionSigns.{multiple_turned}
 use Rattle.penetration.proofs.LineImages.{multiple_cancel_pos, stabiliser_by_direction}
-use Rattle.penetration.proofs.RodActions.{drift, shift_is, acts, acts_product, acts_same, drift_product, unit_positive}
+use Rattle.penetration.proofs.RodActions.{shift_is, acts, acts_product, acts_same, drift_product, unit_positive}
 
 abbrev K : Kind
 K = modulo_lattice rod_line

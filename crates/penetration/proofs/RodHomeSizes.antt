@@ -15,7 +15,8 @@ use Rattle.closure.specs.Fineness.{IsTooFine}
 use Rattle.plane_lattice.specs.Bounds.{largest_entry, largest_cross}
 use Rattle.plane_lattice.specs.Coordinates.{volume}
 use Rattle.plane_lattice.specs.Laws.QuotientLaws.{div_euclid_from, div_euclid_below}
-use Rattle.penetration.specs.RodFrames.{IsRodFrame, rod_home_shift, whole_turns}
+use Rattle.penetration.specs.RodFrames.{IsRodFrame}
+use Rattle.penetration.specs.RodHomes.{rod_home_shift, whole_turns}
 use Rattle.penetration.proofs.VolumeBound.{volume_bound}
 
 -- the cell of the edges, in parts
