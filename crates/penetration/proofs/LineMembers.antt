@@ -22,7 +22,7 @@ use Rattle.plane_lattice.specs.Coordinates.{volume, scaled}
 use Rattle.plane_lattice.specs.Laws.QuotientLaws.{scaled-combination, scaled-plus}
 use Rattle.penetration.specs.Lines.{IsOnLine, InLineStabiliser}
 use Rattle.penetration.specs.RodFrames.{IsRodFrame, KeepsDirection, DiffersAlong}
-use Rattle.penetration.specs.RodHomes.{IsNear}
+use Rattle.penetration.specs.RodHomes.{HasWholeSteps, IsNear, AreStepsBack}
 use Rattle.penetration.specs.RodSections.{counted, drift}
 use Rattle.penetration.proofs.DirectionSigns.{direction_sign, keeps_by_sign}
 use Rattle.penetration.proofs.LineImages.{stabiliser_by_direction}
@@ -194,7 +194,7 @@ module _ (g : Listing) (u : Vector) (f : Basis) (group : IsGroup g) (coprime : I
 
   -- where a member that is the same as a motion maps the line to itself, the coordinates of the motion's drift along a and b are whole
   pub whole_drift : (m n : Motion) → InLineStabiliser g u (counted at) n → SameModulo g n m
-      → ((q : ℤ) × (volume f *ℤ q ≡ (scaled f (drift m at)).x)) × ((q : ℤ) × (volume f *ℤ q ≡ (scaled f (drift m at)).y))
+      → HasWholeSteps f (drift m at)
   whole_drift m n in_it same =
       let (c, is) = frame.spans (minus n.shift m.shift) same.shift in
       let e = scaled_same n m same.matrix c is in
@@ -263,21 +263,18 @@ module _ (g : Listing) (u : Vector) (f : Basis) (group : IsGroup g) (coprime : I
   turned_choice m not n in_n near same = not (subst (λ w. KeepsDirection u (record { matrix = w; shift = m.shift })) same.matrix (keeps_direction_of n in_n))
 
   -- nothing, where the drift is not whole along a, or not along b
-  pub apart_choice : (m : Motion) → ¬ (((q : ℤ) × (volume f *ℤ q ≡ (scaled f (drift m at)).x)) × ((q : ℤ) × (volume f *ℤ q ≡ (scaled f (drift m at)).y)))
-      → IsChoice (SameModulo g) (IsNear f at) (InLineStabiliser g u (counted at)) m None
+  pub apart_choice : (m : Motion) → ¬ HasWholeSteps f (drift m at) → IsChoice (SameModulo g) (IsNear f at) (InLineStabiliser g u (counted at)) m None
   apart_choice m not n in_n near same = not (whole_drift m n in_n same)
 
   -- else the motion taken back by these and by the whole axes in the rest
   pub back_choice : (m : Motion) (c : Vector) → IsMember g m → KeepsDirection u m
-      → volume f *ℤ c.x ≡ (scaled f (drift m at)).x → volume f *ℤ c.y ≡ (scaled f (drift m at)).y
-      → pos 0 ≤ℤ ((scaled f (drift m at)).z -ℤ volume f *ℤ c.z) → ((scaled f (drift m at)).z -ℤ volume f *ℤ c.z) <ℤ volume f
-      → IsChoice (SameModulo g) (IsNear f at) (InLineStabiliser g u (counted at)) m (Some (taken_back f c m))
-  back_choice m c member keeps ex ey from below =
+      → AreStepsBack f (drift m at) c → IsChoice (SameModulo g) (IsNear f at) (InLineStabiliser g u (counted at)) m (Some (taken_back f c m))
+  back_choice m c member keeps steps =
       let rest = (scaled f (drift m at)).z -ℤ volume f *ℤ c.z in
-      let is : multiple (volume f) (drift (taken_back f c m) at) ≡ multiple rest f.tau = drift_along f at c m ex ey in
+      let is : multiple (volume f) (drift (taken_back f c m) at) ≡ multiple rest f.tau = drift_along f at c m steps.x steps.y in
       let same = taken_back_same m c in
       let in_it = in_by_drift (taken_back f c m) (volume f) rest (same_member g (taken_back f c m) m same member) keeps frame_volume is in
-      let near : IsNear f at (taken_back f c m) = record { over = volume f; positive = frame_volume; by = rest; is = is; from = from; below = below } in (
+      let near : IsNear f at (taken_back f c m) = record { over = volume f; positive = frame_volume; by = rest; is = is; from = steps.from; below = steps.below } in (
         in_it,
         near,
         same,

@@ -1,11 +1,12 @@
 -- Motions modulo the axis of a rod frame, and the one of each coset that is at home.
-use Rattle.std.specs.Prelude.{◌≡◌, ℤ, pos, ◌≤ℤ◌, ◌<ℤ◌}
+use Rattle.std.specs.Prelude.{◌≡◌, ℤ, pos, ◌-ℤ◌, ◌*ℤ◌, ◌≤ℤ◌, ◌<ℤ◌}
 use Rattle.std.specs.Int.{int_div_euclid}
 use Rattle.motions.specs.declared.motion.Motion3.{Motion3}
 use Rattle.motions.specs.Views.{parts}
 use Rattle.symmetry.specs.Vectors.{Vector, minus, multiple, unit_matrix}
 use Rattle.symmetry.specs.Motions.{Motion}
 use Rattle.symmetry.specs.Frames.{Basis, combination}
+use Rattle.plane_lattice.specs.Coordinates.{scaled, volume}
 use Rattle.plane_lattice.specs.PlaneLattice.{of_vector}
 use Rattle.penetration.specs.RodFrames.{coefficient}
 use Rattle.penetration.specs.RodSections.{drift}
@@ -27,6 +28,17 @@ pub record IsNear (f : Basis) (at : Vector) (m : Motion) : Type 0 where
   pub is : multiple over (drift m at) ≡ multiple by f.tau
   pub from : pos 0 ≤ℤ by
   pub below : by <ℤ over
+
+-- the coordinates of the vector along a and b are whole
+abbrev pub HasWholeSteps : Basis → Vector → Type 0
+HasWholeSteps f v = ((q : ℤ) × (volume f *ℤ q ≡ (scaled f v).x)) × ((q : ℤ) × (volume f *ℤ q ≡ (scaled f v).y))
+
+-- these coordinates, and the one along the axis rounded down
+pub record AreStepsBack (f : Basis) (v c : Vector) : Type 0 where
+  pub x : volume f *ℤ c.x ≡ (scaled f v).x
+  pub y : volume f *ℤ c.y ≡ (scaled f v).y
+  pub from : pos 0 ≤ℤ ((scaled f v).z -ℤ volume f *ℤ c.z)
+  pub below : ((scaled f v).z -ℤ volume f *ℤ c.z) <ℤ volume f
 
 -- the vector is a whole multiple of the axis
 abbrev pub IsAlongAxis : Basis → Vector → Type 0

@@ -51,7 +51,7 @@ fn is_same(v: &[Part; 3], w: &[Part; 3]) -> bool
 }
 
 /// Whether a motion takes the direction to itself or to its opposite.
-fn keeps_direction(m: &Motion3, direction: &Direction) -> bool
+pub(crate) fn keeps_direction(m: &Motion3, direction: &Direction) -> bool
     requires { IsSmall (motion_of m.now) }
     ensures { IsTrue result ↔ KeepsDirection (direction_of direction.now) (motion_of m.now) }
 {
