@@ -131,6 +131,10 @@ pub minus-minus : (v w : Vector) → minus v (minus v w) ≡ w
 unfolding plus multiple
 minus-minus v w = vector_path (omega (arith, ints)) (omega (arith, ints)) (omega (arith, ints))
 
+pub scaled_multiple : (f : Basis) (k : ℤ) (v : Vector) → scaled f (multiple k v) ≡ multiple k (scaled f v)
+unfolding multiple
+scaled_multiple f k v = vector_path (dot-multiple (cross f.b f.tau) k v) (dot-multiple (cross f.tau f.a) k v) (dot-multiple (cross f.a f.b) k v)
+
 -- two vectors that differ by no multiple
 pub differ_by_none : (v w : Vector) (k : ℤ) (c : Vector) → minus v w ≡ multiple k c → k ≡ pos 0 → v ≡ w
 unfolding plus multiple

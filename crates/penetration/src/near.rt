@@ -20,7 +20,7 @@ ghost use Rattle.penetration.specs.RodHomes.{AreStepsBack, HasWholeSteps, IsNear
 ghost use Rattle.penetration.specs.RodSections.{counted, drift};
 
 use crate::frame::RodFrame;
-use crate::skews::keeps_direction;
+use crate::signs::keeps_direction;
 use fractions::{Part, whole_quotient};
 use motions::Motion3;
 use plane_lattice::{DualBasis, floor, image, without};
@@ -31,7 +31,7 @@ pub(crate) fn drift(m: &Motion3, point: &[Part; 3]) -> [Part; 3]
     requires motion { IsSmall (motion_of m.now) }
     requires point { IsVectorWithin largest_entry (parts point.now) }
     ensures is { parts result ≡ drift (motion_of m.now) (parts point.now) }
-    ensures small { IsVectorWithin (2 ^ 52) (parts result) }
+    ensures small { IsVectorWithin (2 ^ 46) (parts result) }
 {
     let turned = image(m, point);
     [
@@ -47,7 +47,7 @@ fn drift_along(turned: Part, shift: Part, point: Part) -> Part
     requires shift { IsWithin (2 ^ 40) shift.0 }
     requires point { IsWithin largest_entry point.0 }
     ensures is { result.0 ≡ turned.0 +ℤ shift.0 -ℤ point.0 }
-    ensures small { IsWithin (2 ^ 52) result.0 }
+    ensures small { IsWithin (2 ^ 46) result.0 }
 {
     Part(turned.0 + shift.0 - point.0)
 }
@@ -55,7 +55,7 @@ fn drift_along(turned: Part, shift: Part, point: Part) -> Part
 /// The whole steps along a and b, and the whole axes, that lead back along the line. None comes exactly where the
 /// coordinates along a and b are not whole.
 fn steps_back(dual: &DualBasis, v: &[Part; 3]) -> Option<[i128; 3]>
-    requires vector { IsVectorWithin (2 ^ 52) (parts v.now) }
+    requires vector { IsVectorWithin (2 ^ 46) (parts v.now) }
     requires volume { pos 1 ≤ℤ volume (basis_of dual.now.basis) }
     ensures is { MatchOption result (¬ HasWholeSteps (basis_of dual.now.basis) (parts v.now))
         (λ c. AreStepsBack (basis_of dual.now.basis) (parts v.now) (vector_of c)) }

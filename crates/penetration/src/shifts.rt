@@ -1,7 +1,7 @@
 // Motions of space modulo the axis of a rod frame.
-ghost use Rattle.std.specs.Prelude.{◌≡◌, ◌↔◌, ◌^◌, ◌≤ℤ◌, pos, IsTrue};
-ghost use Rattle.integers.specs.Size.{IsWithin};
+ghost use Rattle.std.specs.Prelude.{◌≡◌, ◌↔◌, ◌^◌, ◌≤ℤ◌, pos, IsTrue, MatchOption};
 ghost use Rattle.symmetry.specs.Sizes.{IsVectorWithin};
+ghost use Rattle.symmetry.specs.Vectors.{multiple};
 ghost use Rattle.motions.specs.BasisView.{basis_of};
 ghost use Rattle.motions.specs.Views.{motion_of, parts};
 ghost use Rattle.plane_lattice.specs.Coordinates.{volume};
@@ -65,14 +65,34 @@ impl Quotient for RodFrame {
     ghost homes = { λ q m n. axis_homes (basis_of_rod q) q.right_handed m n };
 }
 
+/// How often the vector has the third of the three vectors, of which it is a whole multiple. None comes exactly where it
+/// is none.
+pub(crate) fn axis_coordinate(dual: &DualBasis, v: &[Part; 3]) -> Option<i128>
+    requires vector { IsVectorWithin (2 ^ 52) (parts v.now) }
+    requires volume { pos 1 ≤ℤ volume (basis_of dual.now.basis) }
+    ensures { MatchOption result (¬ IsAlongAxis (basis_of dual.now.basis) (parts v.now))
+        (λ k. multiple k (basis_of dual.now.basis).tau ≡ parts v.now) }
+{
+    match dual.coordinates(v) {
+        Some(c) => {
+            if c[0] == 0 && c[1] == 0 {
+                Some(c[2])
+            } else {
+                None
+            }
+        }
+        None => None,
+    }
+}
+
 /// Whether the vector is a whole multiple of the third of the three vectors.
 fn is_along_axis(dual: &DualBasis, v: &[Part; 3]) -> bool
     requires vector { IsVectorWithin (2 ^ 52) (parts v.now) }
     requires volume { pos 1 ≤ℤ volume (basis_of dual.now.basis) }
     ensures { IsTrue result ↔ IsAlongAxis (basis_of dual.now.basis) (parts v.now) }
 {
-    match dual.coordinates(v) {
-        Some(c) => c[0] == 0 && c[1] == 0,
+    match axis_coordinate(dual, v) {
+        Some(_) => true,
         None => false,
     }
 }
