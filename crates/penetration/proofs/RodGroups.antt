@@ -32,10 +32,10 @@ use Rattle.recognition.specs.RationalRods.{rational_rod}
 use Rattle.recognition.proofs.RodTypeLemma.{same_rod, moved_same}
 use Rattle.penetration.specs.Lines.{IsOnLine, InLineStabiliser}
 use Rattle.penetration.specs.RodFrames.{IsRodFrame, AreRodOperations, DiffersAlong, levelled}
-use Rattle.penetration.specs.RodSections.{ActsAs, SameRod, ListsAlong, AreSections, counted, rod_at}
-use Rattle.penetration.proofs.DirectionSigns.{multiple_turned}
+use Rattle.penetration.specs.RodSections.{ActsAs, SameRod, ListsAlong, AreSections, counted, drift, rod_at}
+use Rattle.penetration.proofs.DirectionSigns.{multiple_turned, sign_is_sign}
 use Rattle.penetration.proofs.LineImages.{multiple_cancel_pos, stabiliser_by_direction}
-use Rattle.penetration.proofs.RodActions.{drift, shift_is, acts, acts_product, acts_same, drift_product, unit_positive}
+use Rattle.penetration.proofs.RodActions.{shift_is, acts, acts_product, acts_same, drift_product, unit_positive}
 
 abbrev K : Kind
 K = modulo_lattice rod_line
@@ -50,10 +50,6 @@ from_same : (m n : RodOperation) → IsSame K m n → SameRod m n
 from_same m n h =
     let (k, e) = same_rod m n h in
     record { matrix = ap (λ (x : RodOperation). x.matrix) e; along = ap (λ (x : RodOperation). x.along) e; times = k; shift = ap (λ (x : RodOperation). x.shift) e }
-
-sign_is_sign : (s : Sign) → IsSign (sign_value s)
-sign_is_sign Plus = inl refl
-sign_is_sign Minus = inr refl
 
 same_sym : (m n : RodOperation) → SameRod m n → SameRod n m
 same_sym m n h = record { matrix = sym h.matrix; along = sym h.along; times = negsuc 0 *ℤ h.times; shift = turned m.shift n.shift h.times h.shift }

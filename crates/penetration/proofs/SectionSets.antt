@@ -18,9 +18,9 @@ use Rattle.recognition.specs.RationalRods.{RationalRod, IsRationalRod, IsListedR
 use Rattle.recognition.proofs.RodTypeLemma.{contains_rod, from_list, motion_of_rod, to_list}
 use Rattle.penetration.specs.Lines.{SamePoint}
 use Rattle.penetration.specs.RodFrames.{IsRodFrame, AreRodOperations, IsAcross, levelled}
-use Rattle.penetration.specs.RodSections.{AreSections, InRodSection, ListsAlong, counted, point_on_axis}
+use Rattle.penetration.specs.RodSections.{AreSections, InRodSection, ListsAlong, counted, drift, point_on_axis}
 use Rattle.penetration.proofs.LatticeMultiples.{lattice-multiple}
-use Rattle.penetration.proofs.RodActions.{drift, shift_is, acts, acts_once}
+use Rattle.penetration.proofs.RodActions.{shift_is, acts, acts_once}
 use Rattle.penetration.proofs.RodGroups.{in_stabiliser, listed_op, motion_of_op}
 
 -- the motion, and then so many times the axis

@@ -1,9 +1,10 @@
 // Rod frames of a group and a direction.
-ghost use Rattle.std.specs.Prelude.{◌*◌, ◌≤ℤ◌, pos, unsigned_abs};
+ghost use Rattle.std.specs.Prelude.{◌≡◌, ◌*◌, ◌*ℤ◌, ◌≤ℤ◌, pos, unsigned_abs};
 ghost use Rattle.fractions.specs.declared.part.TheConstants.{UNIT};
 ghost use Rattle.symmetry.specs.Sizes.{IsVectorWithin};
 ghost use Rattle.motions.specs.Views.{parts};
-ghost use Rattle.plane_lattice.specs.Coordinates.{vectors, volume};
+ghost use Rattle.closure.specs.declared.limits.TheConstants.{MAX_RESIDUES};
+ghost use Rattle.plane_lattice.specs.Coordinates.{HoldsEdges, vectors, volume};
 
 use crate::axes::{axis, is_rod_frame};
 use crate::direction::Direction;
@@ -22,7 +23,11 @@ pub struct RodBasis {
     pub ghost b_in_range: { IsVectorWithin (1000 * unsigned_abs UNIT) (parts b) },
 }
 
-/// A rod frame: the axis of a direction, and vectors a and b that with it are a right-handed basis of the lattice.
+/// A rod frame: the axis of a direction, and vectors a and b that with it are a right-handed basis of a lattice that holds
+/// all whole vectors.
+///
+/// Its cell is at least the cell of the edges divided by [`MAX_RESIDUES`](closure::MAX_RESIDUES), so that a translation
+/// brought home along the axis fits an `i64`.
 #[derive(Clone, Copy, PartialEq, Eq, Debug)]
 pub struct RodFrame {
     pub direction: Direction,
@@ -33,12 +38,16 @@ pub struct RodFrame {
     pub ghost a_in_range: { IsVectorWithin (1000 * unsigned_abs UNIT) (parts a) },
     pub ghost b_in_range: { IsVectorWithin (1000 * unsigned_abs UNIT) (parts b) },
     pub ghost right_handed: { pos 1 ≤ℤ volume (vectors a b axis) },
+    pub ghost holds_edges: { ∥ HoldsEdges (vectors a b axis) ∥₁ },
+    pub ghost large: { (UNIT *ℤ UNIT *ℤ UNIT) ≤ℤ (pos MAX_RESIDUES *ℤ volume (vectors a b axis)) },
 }
 
 impl RodFrame {
-    ghost use Rattle.std.specs.Prelude.{◌≡◌, ◌↔◌, IfOk};
+    ghost use Rattle.std.specs.Prelude.{◌↔◌, IfOk};
     ghost use Rattle.motions.specs.declared.frame_fault.FrameFault.{FrameFault};
+    ghost use Rattle.motions.specs.BasisView.{basis_of};
     ghost use Rattle.penetration.specs.FrameOf.{IsRodFrameFault, IsRodFrameOf};
+    ghost use Rattle.penetration.specs.RodFrameView.{basis_of_rod};
 
     /// The rod frame of a group and a direction with the vectors a and b.
     ///
@@ -67,6 +76,17 @@ impl RodFrame {
             axis,
             a,
             b,
+        })
+    }
+
+    /// The dual basis of a, b and the axis.
+    pub fn dual(&self) -> DualBasis
+        ensures { basis_of result.basis ≡ basis_of_rod self.now }
+    {
+        DualBasis::make(Basis {
+            a: self.a,
+            b: self.b,
+            tau: self.axis,
         })
     }
 }

@@ -17,7 +17,7 @@ use Rattle.plane_lattice.proofs.Scanning.{keeps_true, true_keeps}
 -- ---- what a filtered list contains
 
 module _ (p : Motion → Bool) where
-  filter-has : (xs : List Motion) (k : ℕ) (d : Motion) → k < length (filter p xs)
+  pub filter-has : (xs : List Motion) (k : ℕ) (d : Motion) → k < length (filter p xs)
       → Contains xs (get_or (filter p xs) k d) × (p (get_or (filter p xs) k d) ≡ true)
   filter-has [] k d h = absurd (omega arith)
   filter-has (x ∷ xs) k d h = by (λ j l. filter-has xs j d l) (p x) refl k h
@@ -32,7 +32,7 @@ module _ (p : Motion → Bool) where
       by more true e (suc k) h = later _ (more k (omega arith))
       by more false e k h = later _ (more k h)
 
-  has-filter : (xs : List Motion) (y : Motion) → Contains xs y → p y ≡ true → Contains (filter p xs) y
+  pub has-filter : (xs : List Motion) (y : Motion) → Contains xs y → p y ≡ true → Contains (filter p xs) y
   has-filter [] y (k, within, is) t = absurd (omega arith)
   has-filter (x ∷ xs) y (zero, within, is) t = by (p x) (ap p is ∙ t)
     where
@@ -48,7 +48,7 @@ module _ (p : Motion → Bool) where
       by false j l e = (j, l, e)
 
 -- of two numbers one is less, or they are equal
-lt_trichotomy : (j k : ℕ) → (j < k) ⊎ ((j ≡ k) ⊎ (k < j))
+pub lt_trichotomy : (j k : ℕ) → (j < k) ⊎ ((j ≡ k) ⊎ (k < j))
 lt_trichotomy zero zero = inr (inl refl)
 lt_trichotomy zero (suc k) = inl (omega arith)
 lt_trichotomy (suc j) zero = inr (inr (omega arith))

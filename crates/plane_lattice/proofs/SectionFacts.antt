@@ -197,7 +197,7 @@ seen_in_steps f c d k m e first second p a b third t = record {
 -- ---- sizes
 
 -- three coefficients are near, or they are far
-near_or_far : (n : ℕ) (v : Vector) → IsVectorWithin n v ⊎ (¬ IsVectorWithin n v)
+pub near_or_far : (n : ℕ) (v : Vector) → IsVectorWithin n v ⊎ (¬ IsVectorWithin n v)
 near_or_far n v =
     elim (dec_lt n (nat_abs v.x)) [
       | yes h ↦ inr (λ near. absurd (omega (arith, near.x.most)))

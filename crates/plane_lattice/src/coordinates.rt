@@ -8,7 +8,7 @@ ghost use Rattle.symmetry.specs.Sizes.{IsVectorWithin};
 ghost use Rattle.symmetry.specs.Vectors.{cross, dot, minus};
 ghost use Rattle.motions.specs.BasisView.{basis_of};
 ghost use Rattle.motions.specs.Views.{parts, vector_of};
-ghost use Rattle.plane_lattice.specs.Bounds.{largest_combined, largest_cross, largest_entry, largest_home, largest_scaled};
+ghost use Rattle.plane_lattice.specs.Bounds.{largest_combined, largest_cross, largest_entry, largest_scaled};
 ghost use Rattle.plane_lattice.specs.Coordinates.{floors, IsCombination, IsPlaneCombination, scaled, volume};
 
 use fractions::{Part, UNIT};
@@ -86,9 +86,9 @@ pub(crate) fn whole_part(scaled: &[i128; 3], d: i128) -> [i128; 3]
 
 /// The vector without a combination of the basis.
 pub fn without(v: &[Part; 3], basis: &Basis, c: &[i128; 3]) -> [Part; 3]
-    requires vector { IsVectorWithin (2 ^ 20) (parts v.now) }
+    requires vector { IsVectorWithin (2 ^ 40) (parts v.now) }
     requires coefficients { IsVectorWithin largest_scaled (vector_of c.now) }
-    requires rest { IsVectorWithin largest_home (minus (parts v.now) (combination (basis_of basis.now) (vector_of c.now))) }
+    requires rest { IsVectorWithin (2 ^ 62) (minus (parts v.now) (combination (basis_of basis.now) (vector_of c.now))) }
     ensures { parts result ≡ minus (parts v.now) (combination (basis_of basis.now) (vector_of c.now)) }
 {
     [
@@ -122,9 +122,9 @@ fn wide_multiple(x: i128, part: Part) -> i128
 
 /// A number of parts less another.
 fn difference(part: Part, taken: i128) -> Part
-    requires part { IsWithin (2 ^ 20) part.0 }
+    requires part { IsWithin (2 ^ 40) part.0 }
     requires taken { IsWithin largest_combined taken }
-    requires rest { IsWithin largest_home (part.0 -ℤ taken) }
+    requires rest { IsWithin (2 ^ 62) (part.0 -ℤ taken) }
     ensures { result.0 ≡ part.0 -ℤ taken }
 {
     Part((part.0 as i128 - taken) as i64)

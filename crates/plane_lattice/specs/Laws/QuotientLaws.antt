@@ -55,7 +55,7 @@ div_euclid_below (negsuc a) (pos (suc b)) h = omega (arith, ints)
 div_euclid_below x (negsuc b) h = absurd (omega (arith, ints))
 
 -- two quotients with remainders from 0 to below d are one
-one_quotient : (x d p q : ℤ) → pos 1 ≤ℤ d → pos 0 ≤ℤ (x -ℤ d *ℤ p) → (x -ℤ d *ℤ p) <ℤ d → pos 0 ≤ℤ (x -ℤ d *ℤ q) → (x -ℤ d *ℤ q) <ℤ d → p ≡ q
+pub one_quotient : (x d p q : ℤ) → pos 1 ≤ℤ d → pos 0 ≤ℤ (x -ℤ d *ℤ p) → (x -ℤ d *ℤ p) <ℤ d → pos 0 ≤ℤ (x -ℤ d *ℤ q) → (x -ℤ d *ℤ q) <ℤ d → p ≡ q
 one_quotient x d p q h from below from' below' =
     let apart : d *ℤ (p -ℤ q) ≡ d *ℤ p -ℤ d *ℤ q = mul_add d p (neg_ℤ q) ∙ ap (λ z. d *ℤ p +ℤ z) (mul_neg d q) in
     let none : p -ℤ q ≡ pos 0 = small_multiple d (p -ℤ q) (omega (arith, ints)) (omega (arith, ints)) in
@@ -97,7 +97,7 @@ module _ (f : Basis) (spans : pos 1 ≤ℤ volume f) where
 
 -- ---- motions followed by shifts
 
-translation_of : Vector → Motion3
+pub translation_of : Vector → Motion3
 translation_of v = record {
   w = (pos 1 ∷ pos 0 ∷ pos 0 ∷ []) ∷ (pos 0 ∷ pos 1 ∷ pos 0 ∷ []) ∷ (pos 0 ∷ pos 0 ∷ pos 1 ∷ []) ∷ [];
   t = of_vector v;
@@ -119,13 +119,13 @@ shift_is : (f : Basis) (s : Motion) → plane_shift f s → IsPlaneShift f s
 shift_is f s (m, h, e) = subst (IsPlaneShift f) e h
 
 -- a motion and then a translation
-followed_by-translation : (m s : Motion) → s.matrix ≡ unit_matrix → followed_by m s ≡ record { matrix = m.matrix; shift = plus m.shift s.shift }
+pub followed_by-translation : (m s : Motion) → s.matrix ≡ unit_matrix → followed_by m s ≡ record { matrix = m.matrix; shift = plus m.shift s.shift }
 followed_by-translation m s e =
     motion_path (ap (λ w. product w m.matrix) e ∙ product-unit_left m.matrix)
     (ap (λ w. plus (image w m.shift) s.shift) e ∙ ap (λ v. plus v s.shift) (image-unit m.shift))
 
 -- a translation and then a motion
-translation-followed_by : (m s : Motion) → s.matrix ≡ unit_matrix
+pub translation-followed_by : (m s : Motion) → s.matrix ≡ unit_matrix
     → followed_by s m ≡ record { matrix = m.matrix; shift = plus (image m.matrix s.shift) m.shift }
 translation-followed_by m s e = motion_path (ap (product m.matrix) e ∙ product-unit_right m.matrix) refl
 
@@ -176,7 +176,7 @@ plane_home_is_same f m =
     }
 
 -- two vectors that are one without their whole parts differ by these
-exchanged : (v w p q : Vector) → minus v p ≡ minus w q → v ≡ plus w (minus p q)
+pub exchanged : (v w p q : Vector) → minus v p ≡ minus w q → v ≡ plus w (minus p q)
 unfolding plus multiple
 exchanged v w p q e =
     let x : v.x +ℤ negsuc 0 *ℤ p.x ≡ w.x +ℤ negsuc 0 *ℤ q.x = ap (λ (u : Vector). u.x) e in
@@ -241,7 +241,7 @@ image_keeps_plane f w a b v (c, e, flat) =
     subst (IsPlaneCombination f) (sym is)
     (plane-plus f (multiple c.x (image w f.a)) (multiple c.y (image w f.b)) (plane-multiple f c.x (image w f.a) a) (plane-multiple f c.y (image w f.b) b))
 
-cancelled : (u v w : Vector) → plus u v ≡ plus v w → w ≡ u
+pub cancelled : (u v w : Vector) → plus u v ≡ plus v w → w ≡ u
 unfolding plus
 cancelled u v w e =
     let x : u.x +ℤ v.x ≡ v.x +ℤ w.x = ap (λ (u : Vector). u.x) e in

@@ -1,10 +1,10 @@
 -- Entry by entry.
-use Rattle.std.proofs.Common.{◌≡◌, ℤ, ◌+ℤ◌, ◌-ℤ◌, ◌*ℤ◌, negsuc, ◌∙◌, ap, lit<, sym, subst}
+use Rattle.std.proofs.Common.{◌≡◌, ◌^◌, ℤ, ◌+ℤ◌, ◌-ℤ◌, ◌*ℤ◌, negsuc, ◌∙◌, ap, lit<, sym, subst}
 use Rattle.integers.specs.Size.{IsWithin}
 use Rattle.integers.proofs.Ring.{neg_as_mul}
 use Rattle.symmetry.specs.Vectors.{plus, multiple}
 use Rattle.symmetry.proofs.VectorLaws.{vector_path}
-use Rattle.plane_lattice.specs.Bounds.{largest_combined, largest_home}
+use Rattle.plane_lattice.specs.Bounds.{largest_combined}
 use Rattle.plane_lattice.proofs.Wide.{wide, wide_is}
 use Rattle.plane_lattice.proofs.coordinates.without.Goals as goal
 
@@ -13,8 +13,8 @@ module _ (t p s : ℤ) (small : IsWithin largest_combined p) (is : p ≡ s) wher
   taken : t -ℤ wide p ≡ t +ℤ negsuc 0 *ℤ s
   taken = ap (λ z. t -ℤ z) (wide_is largest_combined p (lit< tt) small ∙ is) ∙ ap (λ z. t +ℤ z) (neg_as_mul s)
 
-  rest_within : IsWithin largest_home (t +ℤ negsuc 0 *ℤ s) → IsWithin largest_home (t -ℤ wide p)
-  rest_within h = let P : ℤ → Type 0 = IsWithin largest_home in subst P (sym taken) h
+  rest_within : IsWithin (2 ^ 62) (t +ℤ negsuc 0 *ℤ s) → IsWithin (2 ^ 62) (t -ℤ wide p)
+  rest_within h = let P : ℤ → Type 0 = IsWithin (2 ^ 62) in subst P (sym taken) h
 
 pub difference-requires-clause-rest : goal.difference-requires-clause-rest
 unfolding plus multiple

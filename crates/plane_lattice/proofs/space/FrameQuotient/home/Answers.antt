@@ -29,14 +29,18 @@ within q v small =
     let above = subst (λ d. pos 1 ≤ℤ d) (sym q.tau_gives) q.above in
     home_within (row_of q.plane) (basis_of_frame q) q.right_handed q.a_in_plane q.b_in_plane above q.a_in_range q.b_in_range q.tau_in_range q.plane.in_range v small
 
+pub without-requires-clause-vector : goal.without-requires-clause-vector
+without-requires-clause-vector c = IsVectorWithin-more c.requires (lit≤ tt)
+
 pub without-requires-clause-rest : goal.without-requires-clause-rest
 without-requires-clause-rest c =
     let q = c.args.self.now in
     let v = parts c.args.m.now.t in
-    subst (IsVectorWithin largest_home)
+    let P : Vector → Type 0 = IsVectorWithin (2 ^ 62) in
+    subst P
     (sym (without_whole (basis_of_frame q) (basis_of c.dual-dual.result.basis) v c.dual-dual.result.volume (vector_of c.scaled.result) (vector_of c.whole_part-whole.result)
     c.dual-dual.ensures c.dual-dual.result.volume_small c.dual-dual.result.volume_is c.scaled.ensures.is c.whole_part-whole.ensures.is))
-    (within q v c.requires)
+    (IsVectorWithin-more (within q v c.requires) (lit≤ tt))
 
 pub returns : goal.returns
 returns c =

@@ -15,16 +15,17 @@ use Rattle.closure.specs.Fineness.{IsTooFine}
 use Rattle.plane_lattice.specs.Bounds.{largest_entry, largest_cross}
 use Rattle.plane_lattice.specs.Coordinates.{volume}
 use Rattle.plane_lattice.specs.Laws.QuotientLaws.{div_euclid_from, div_euclid_below}
-use Rattle.penetration.specs.RodFrames.{IsRodFrame, rod_home_shift, whole_turns}
+use Rattle.penetration.specs.RodFrames.{IsRodFrame}
+use Rattle.penetration.specs.RodHomes.{rod_home_shift, whole_turns}
 use Rattle.penetration.proofs.VolumeBound.{volume_bound}
 
 -- the cell of the edges, in parts
 abbrev edge_cell : ℕ
 edge_cell = unsigned_abs UNIT * unsigned_abs UNIT * unsigned_abs UNIT
 
--- (a x b).v for a vector of at most 2^20 parts
+-- (a x b).v for a vector of at most 2^23 parts
 abbrev largest_along : ℕ
-largest_along = 3 * (largest_cross * 2 ^ 20)
+largest_along = 3 * (largest_cross * 2 ^ 23)
 
 -- how many whole axes such a vector has
 abbrev pub largest_turns : ℕ
@@ -38,7 +39,7 @@ cross_within ha hb = record {
   z = IsWithin-more (IsWithin-sub (IsWithin-mul ha.x hb.y) (IsWithin-mul ha.y hb.x)) (lit≤ tt);
 }
 
-along_within : {l v : Vector} → IsVectorWithin largest_cross l → IsVectorWithin (2 ^ 20) v → IsWithin largest_along (dot l v)
+along_within : {l v : Vector} → IsVectorWithin largest_cross l → IsVectorWithin (2 ^ 23) v → IsWithin largest_along (dot l v)
 unfolding dot
 along_within hl hv = IsWithin-more (IsWithin-add (IsWithin-add (IsWithin-mul hl.x hv.x) (IsWithin-mul hl.y hv.y)) (IsWithin-mul hl.z hv.z)) (lit≤ tt)
 
@@ -56,23 +57,19 @@ turns_within s v q positive from below small large = record { most = by (nat_abs
         let more : n * edge_cell ≤ n * (MAX_RESIDUES * nat_abs v) = mul-le-mul same cells in
         omega (arith, more, left)
 
-pub rod_home_within : (g : Listing) (u : Vector) (f : Basis) → IsRodFrame g u f → ¬ (IsTooFine g) → IsVectorWithin largest_entry f.a → IsVectorWithin largest_entry f.b
-    → IsVectorWithin largest_entry f.tau → (v : Vector) → IsVectorWithin (2 ^ 20) v → IsVectorWithin (2 ^ 62) (rod_home_shift f v)
+pub rod_home_within : (f : Basis) → pos 1 ≤ℤ volume f → (UNIT *ℤ UNIT *ℤ UNIT) ≤ℤ (pos MAX_RESIDUES *ℤ volume f) → IsVectorWithin largest_entry f.a → IsVectorWithin largest_entry f.b
+    → IsVectorWithin largest_entry f.tau → (v : Vector) → IsVectorWithin (2 ^ 23) v → IsVectorWithin (2 ^ 62) (rod_home_shift f v)
 unfolding plus multiple
-rod_home_within g u f frame fine a b tau v small =
-    let positive : pos 1 ≤ℤ volume f = at_least_one (volume f) frame.right_handed in
+rod_home_within f positive large a b tau v small =
     let s = dot (cross f.a f.b) v in
     let turns : IsWithin largest_turns (whole_turns f v) =
     turns_within s (volume f) (whole_turns f v) positive (div_euclid_from s (volume f) positive) (div_euclid_below s (volume f) positive)
-    (along_within (cross_within a b) small) (volume_bound f g frame.inside fine positive) in
+    (along_within (cross_within a b) small) large in
     record {
       x = IsWithin-more (IsWithin-add small.x (IsWithin-mul (minus_one) (IsWithin-mul turns tau.x))) (lit≤ tt);
       y = IsWithin-more (IsWithin-add small.y (IsWithin-mul (minus_one) (IsWithin-mul turns tau.y))) (lit≤ tt);
       z = IsWithin-more (IsWithin-add small.z (IsWithin-mul (minus_one) (IsWithin-mul turns tau.z))) (lit≤ tt);
     }
   where
-    at_least_one : (v : ℤ) → pos 0 <ℤ v → pos 1 ≤ℤ v
-    at_least_one v h = omega (arith, ints, h)
-
     minus_one : IsWithin 1 (negsuc 0)
     minus_one = record { most = lit≤ tt }
