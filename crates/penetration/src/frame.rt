@@ -53,7 +53,7 @@ impl RodFrame {
     ghost use Rattle.motions.specs.declared.frame_fault.FrameFault.{FrameFault};
     ghost use Rattle.motions.specs.BasisView.{basis_of};
     ghost use Rattle.penetration.specs.FrameOf.{IsRodFrameFault, IsRodFrameOf};
-    ghost use Rattle.penetration.specs.RodFrameView.{basis_of_rod};
+    ghost use Rattle.penetration.specs.RodFrameView.{basis_of_rod, IsRodMadeFor};
 
     /// The rod frame of a group and a direction with the vectors a and b.
     ///
@@ -66,6 +66,7 @@ impl RodFrame {
         basis: RodBasis,
     ) -> Result<RodFrame, FrameFault>
         ensures ok { IfOk result (IsRodFrameOf group.now direction basis) }
+        ensures made { IfOk result (IsRodMadeFor group.now) }
         ensures faults { (fault : FrameFault) → (result ≡ Err fault) ↔ IsRodFrameFault group.now direction basis fault }
     {
         let axis = axis(group, &direction);

@@ -114,11 +114,14 @@ fn group_of(alloc: Global, ops: &[Motion3], centrings: &[[Part; 3]]) -> Result<G
 {
     let ops = Vec::from_slice(alloc, ops)?;
     let centrings = Vec::from_slice(alloc, centrings)?;
-    Group::make(alloc, Listed {
-        ops,
-        centrings,
-        generated: false,
-    })
+    Group::make(
+        alloc,
+        Listed {
+            ops,
+            centrings,
+            generated: false,
+        },
+    )
 }
 
 // The operations at the height num/den, in the frame of the plane with the basis.

@@ -96,3 +96,6 @@ returns-clause-ok c =
           (subst (λ (b : BasisOfCode). ArePointsOf (levelled u (basis_of b) (rod_ops u (map motion_of c.ops.result.now)) (basis_of b).a)
           (levelled u (basis_of b) (rod_ops u (map motion_of c.ops.result.now)) (basis_of b).b) c.across-across.result) c.make-dual.ensures c.across-across.ensures);
     }
+
+pub returns-clause-made : goal.returns-clause-made
+returns-clause-made c = (c.args.basis, returns-clause-ok c)
