@@ -22,7 +22,12 @@ use std::alloc::Global;
 ///
 /// The frame is one that [`make`](RodFrame::make) gives for the group, and each entry of the point is at most 1000 cell
 /// edges in size.
-pub fn rod_at(alloc: Global, group: &Group, frame: &RodFrame, point: [Part; 3]) -> Result<Rod, NoMemory>
+pub fn rod_at(
+    alloc: Global,
+    group: &Group,
+    frame: &RodFrame,
+    point: [Part; 3],
+) -> Result<Rod, NoMemory>
     requires made { IsRodMadeFor group.now frame.now }
     requires point { IsVectorWithin largest_entry (parts point) }
     ensures { IfOk result (IsRodOf group.now frame.now point) }
