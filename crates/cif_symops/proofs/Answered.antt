@@ -1,0 +1,44 @@
+-- What is answered is what the file says.
+use Rattle.std.proofs.Common.{◌≡◌, ◌⊎◌, ℕ, true, List, length, None, Result, Err, sym, subst, inl, inr, arith}
+use Rattle.symmetry.specs.Groups.{Listing}
+use Rattle.motions.specs.declared.listed.Listed.{Listed}
+use Rattle.std.specs.Prelude.{IfOk}
+use Rattle.motions.specs.ListedSizes.{IsListedSmall}
+use Rattle.cif_symops.specs.declared.fault.CifFault.{CifFault}
+use Rattle.cif_symops.specs.declared.fault.CifFault.TheVariants as faults
+use Rattle.cif_symops.specs.Words.{Word, AreWords}
+use Rattle.cif_symops.specs.Layout.{Outcome, IsOutcome}
+use Rattle.cif_symops.specs.Reading.{seek}
+use Rattle.cif_symops.specs.Answers.{Says, FileSays, Gives, IsAnswer, AreAll, answer_of}
+use Rattle.cif_symops.proofs.WordLists.{words_exist}
+use Rattle.cif_symops.proofs.Layouts.{outcome_is, outcome_exists, words_whole}
+
+says : (bytes : List ℕ) (ws : List Word) (answer : Result Listed CifFault) → AreWords 0 true bytes ws → Gives bytes (seek None ws) answer → (answer ≡ Err faults.NoMemory) ⊎ FileSays bytes (answer_of answer)
+says bytes ws answer w (inl m) = inl m
+says bytes ws answer w (inr g) = inr (ws, seek None ws, w, outcome_exists ws (words_whole 0 true bytes ws w), g.says)
+
+only : (bytes : List ℕ) (ws : List Word) (o : Outcome) (answer : Result Listed CifFault) (said : Result Listing CifFault) → AreWords 0 true bytes ws → IsOutcome ws o → Says bytes o said → Gives bytes (seek None ws) answer → (answer ≡ Err faults.NoMemory) ⊎ (said ≡ answer_of answer)
+only bytes ws o answer said w k s (inl m) = inl m
+only bytes ws o answer said w k s (inr g) = inr (g.only said (subst (λ x. Says bytes x said) (outcome_is ws o (words_whole 0 true bytes ws w) k) s))
+
+all_answer : (bytes : List ℕ) (o : Outcome) (answer : Result Listed CifFault) → Gives bytes o answer → AreAll answer
+all_answer bytes o answer (inl m) = subst AreAll (sym m) tt
+all_answer bytes o answer (inr g) = g.all
+
+small_answer : (bytes : List ℕ) (o : Outcome) (answer : Result Listed CifFault) → Gives bytes o answer → IfOk answer (IsListedSmall 9)
+small_answer bytes o answer (inl m) = subst (λ x. IfOk x (IsListedSmall 9)) (sym m) tt
+small_answer bytes o answer (inr g) = g.small
+
+pub answered : (bytes : List ℕ) (answer : Result Listed CifFault) → ((ws : List Word) → AreWords 0 true bytes ws → Gives bytes (seek None ws) answer) → IsAnswer bytes answer
+answered bytes answer h =
+    let w = words_exist (length bytes) 0 true bytes (omega arith) in
+    record {
+      is = says bytes w.0 answer w.1 (h w.0 w.1);
+      only = λ said f. only bytes f.0 f.1 answer said f.2 f.3 f.4 (h f.0 f.2);
+      all = all_answer bytes (seek None w.0) answer (h w.0 w.1);
+    }
+
+pub answered_small : (bytes : List ℕ) (answer : Result Listed CifFault) → ((ws : List Word) → AreWords 0 true bytes ws → Gives bytes (seek None ws) answer) → IfOk answer (IsListedSmall 9)
+answered_small bytes answer h =
+    let w = words_exist (length bytes) 0 true bytes (omega arith) in
+    small_answer bytes (seek None w.0) answer (h w.0 w.1)
