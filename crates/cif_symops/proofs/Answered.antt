@@ -11,15 +11,16 @@ use Rattle.cif_symops.specs.Layout.{Outcome, IsOutcome}
 use Rattle.cif_symops.specs.Reading.{seek}
 use Rattle.cif_symops.specs.Answers.{Says, FileSays, Gives, IsAnswer, AreAll, answer_of}
 use Rattle.cif_symops.proofs.WordLists.{words_exist}
-use Rattle.cif_symops.proofs.Layouts.{outcome_is, outcome_exists, words_whole}
+use Rattle.cif_symops.proofs.Layouts.{outcome_exists, words_whole}
+use Rattle.cif_symops.proofs.OneAnswer.{one_answer}
 
 says : (bytes : List ℕ) (ws : List Word) (answer : Result Listed CifFault) → AreWords 0 true bytes ws → Gives bytes (seek None ws) answer → (answer ≡ Err faults.NoMemory) ⊎ FileSays bytes (answer_of answer)
 says bytes ws answer w (inl m) = inl m
 says bytes ws answer w (inr g) = inr (ws, seek None ws, w, outcome_exists ws (words_whole 0 true bytes ws w), g.says)
 
-only : (bytes : List ℕ) (ws : List Word) (o : Outcome) (answer : Result Listed CifFault) (said : Result Listing CifFault) → AreWords 0 true bytes ws → IsOutcome ws o → Says bytes o said → Gives bytes (seek None ws) answer → (answer ≡ Err faults.NoMemory) ⊎ (said ≡ answer_of answer)
-only bytes ws o answer said w k s (inl m) = inl m
-only bytes ws o answer said w k s (inr g) = inr (g.only said (subst (λ x. Says bytes x said) (outcome_is ws o (words_whole 0 true bytes ws w) k) s))
+only : (bytes : List ℕ) (answer : Result Listed CifFault) (said : Result Listing CifFault) → FileSays bytes said → (answer ≡ Err faults.NoMemory) ⊎ FileSays bytes (answer_of answer) → (answer ≡ Err faults.NoMemory) ⊎ (said ≡ answer_of answer)
+only bytes answer said f (inl m) = inl m
+only bytes answer said f (inr g) = inr (one_answer bytes said (answer_of answer) f g)
 
 all_answer : (bytes : List ℕ) (o : Outcome) (answer : Result Listed CifFault) → Gives bytes o answer → AreAll answer
 all_answer bytes o answer (inl m) = subst AreAll (sym m) tt
@@ -32,9 +33,10 @@ small_answer bytes o answer (inr g) = g.small
 pub answered : (bytes : List ℕ) (answer : Result Listed CifFault) → ((ws : List Word) → AreWords 0 true bytes ws → Gives bytes (seek None ws) answer) → IsAnswer bytes answer
 answered bytes answer h =
     let w = words_exist (length bytes) 0 true bytes (omega arith) in
+    let is = says bytes w.0 answer w.1 (h w.0 w.1) in
     record {
-      is = says bytes w.0 answer w.1 (h w.0 w.1);
-      only = λ said f. only bytes f.0 f.1 answer said f.2 f.3 f.4 (h f.0 f.2);
+      is = is;
+      only = λ said f. only bytes answer said f is;
       all = all_answer bytes (seek None w.0) answer (h w.0 w.1);
     }
 

@@ -10,7 +10,7 @@ use Rattle.triplets.proofs.LinePlaces.{shorter}
 use Rattle.cif_symops.specs.declared.word.Form.{Form}
 use Rattle.cif_symops.specs.declared.word.Form.TheVariants.{Bare, Quoted, TextField}
 use Rattle.cif_symops.specs.Words.{Word}
-use Rattle.cif_symops.specs.Operations.{IsOperation, IsMisreadAs, IsMisread, AreOperations, IsFirstMisread, AreOnlyOperations}
+use Rattle.cif_symops.specs.Operations.{IsOperation, IsMisreadAs, IsMisread, AreOperations, IsFirstMisread}
 
 not_behind : (l : List ℕ) (m n : ℕ) → IsPlaceIn IsGood l m → IsPlaceIn IsGood l n → m < n → ⊥
 not_behind l m n h h' lt =
@@ -66,20 +66,3 @@ none_misread [] ms n k h o = h
 none_misread (w ∷ ws) (m ∷ ms) n k (inl h) o = misread_none w n k m h o.0
 none_misread (w ∷ ws) (m ∷ ms) n k (inr h) o = none_misread ws ms n k h.1 o.1
 none_misread (w ∷ ws) [] n k h o = o
-
-pub are_operations : (ws : List Word) (ms : List Motion) → AreOnlyOperations ws ms → AreOperations ws ms
-are_operations [] [] h = tt
-are_operations (w ∷ ws) (m ∷ ms) h = ((h.0.0, h.0.1.is), are_operations ws ms h.1)
-are_operations [] (m ∷ ms) h = h
-are_operations (w ∷ ws) [] h = h
-
-pub only_operations : (ws : List Word) (ms ms' : List Motion) → AreOnlyOperations ws ms → AreOperations ws ms' → ms' ≡ ms
-only_operations [] [] [] h o = refl
-only_operations (w ∷ ws) (m ∷ ms) (m' ∷ ms') h o =
-    let e : m' ≡ m = h.0.1.only m' o.0.1 in
-    let f : ms' ≡ ms = only_operations ws ms ms' h.1 o.1 in
-    cc
-only_operations [] [] (m ∷ ms) h o = absurd o
-only_operations [] (m ∷ ms) ms' h o = absurd h
-only_operations (w ∷ ws) [] ms' h o = absurd h
-only_operations (w ∷ ws) (m ∷ ms) [] h o = absurd o

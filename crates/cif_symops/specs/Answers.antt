@@ -50,10 +50,9 @@ answer_of (Err fault) = Err fault
 abbrev pub AreAll : Result Listed CifFault → Type 0
 AreAll answer = IfOk answer (λ listed. listed.generated ≡ false)
 
--- an outcome says what was answered, and nothing else
+-- an outcome says what was answered
 pub record IsGiven (bytes : List ℕ) (outcome : Outcome) (answer : Result Listed CifFault) : Type 0 where
   pub says : Says bytes outcome (answer_of answer)
-  pub only : (said : Result Listing CifFault) → Says bytes outcome said → said ≡ answer_of answer
   pub all : AreAll answer
   pub small : IfOk answer (IsListedSmall 9)
 

@@ -1,9 +1,10 @@
 // One operation of a file, and the operations read so far.
 ghost use Rattle.std.specs.Prelude.{◌≡◌, ◌≤◌, ◌+◌, length, List, ◌++◌, [], ◌∷◌, IfOk, IfErr, if◌then◌else◌};
+ghost use Rattle.motions.specs.ListedSizes.{IsSmallWithin};
 ghost use Rattle.motions.specs.Views.{motion_of};
 ghost use Rattle.cif_symops.specs.Words.{Word, opening};
 ghost use Rattle.cif_symops.specs.Scanning.{word_of};
-ghost use Rattle.cif_symops.specs.Operations.{IsOnlyOperation, IsMisread, AreKept, IsFaultWithin};
+ghost use Rattle.cif_symops.specs.Operations.{IsOperation, IsMisread, AreKept, IsKeptWithin};
 ghost use Rattle.cif_symops.specs.Layout.{operations};
 ghost use Rattle.cif_symops.specs.Answers.{IsGiven};
 
@@ -33,7 +34,8 @@ fn read_operation(bytes: &[u8], token: Token) -> Result<Motion3, Misread>
     requires few { length bytes.now ≤ 16777216 }
     requires content { token.start + opening token.form ≤ token.end }
     requires within { token.end ≤ length bytes.now }
-    ensures found { IfOk result (λ m. IsOnlyOperation (word_of bytes.now token) (motion_of m)) }
+    ensures found { IfOk result (λ m. IsOperation (word_of bytes.now token) (motion_of m)) }
+    ensures small { IfOk result (λ m. IsSmallWithin 9 (motion_of m)) }
     ensures fault { IfErr result (λ f. IsMisread (word_of bytes.now token) f.offset f.kind) }
     ensures place { IfErr result (λ f. f.offset ≤ length bytes.now) }
 {
@@ -56,7 +58,7 @@ impl Operations {
     /// No operation yet.
     pub fn new(alloc: Global) -> Self
         ensures kept { AreKept [] result }
-        ensures place { IsFaultWithin 0 result }
+        ensures within { IsKeptWithin 0 result }
     {
         Operations {
             read: Vec::new(alloc),
@@ -70,7 +72,7 @@ impl Operations {
         requires content { token.start + opening token.form ≤ token.end }
         requires within { token.end ≤ length bytes.now }
         ensures kept { IfOk result (λ _. (ws : List Word) → AreKept ws self.old → AreKept (ws ++ word_of bytes.now token ∷ []) self.new) }
-        ensures place { IsFaultWithin (length bytes.now) self.old → IsFaultWithin (length bytes.now) self.new }
+        ensures within { IsKeptWithin (length bytes.now) self.old → IsKeptWithin (length bytes.now) self.new }
     {
         match self.fault {
             Some(_) => Ok(()),
@@ -98,7 +100,7 @@ impl Operations {
         requires content { token.start + opening token.form ≤ token.end }
         requires within { token.end ≤ length bytes.now }
         ensures kept { IfOk result (λ _. (ws : List Word) → AreKept ws self.old → AreKept (if here then ws ++ word_of bytes.now token ∷ [] else ws) self.new) }
-        ensures place { IsFaultWithin (length bytes.now) self.old → IsFaultWithin (length bytes.now) self.new }
+        ensures within { IsKeptWithin (length bytes.now) self.old → IsKeptWithin (length bytes.now) self.new }
     {
         if here { self.add(bytes, token) } else { Ok(()) }
     }
@@ -106,7 +108,7 @@ impl Operations {
     /// The operations, or the first fault.
     pub fn finish(self, alloc: Global, bytes: &[u8]) -> Result<Listed, CifFault>
         requires few { length bytes.now ≤ 16777216 }
-        requires place { IsFaultWithin (length bytes.now) self }
+        requires kept { IsKeptWithin (length bytes.now) self }
         ensures { (ws : List Word) → AreKept ws self → IsGiven bytes.now (operations ws) result }
     {
         match self.fault {
