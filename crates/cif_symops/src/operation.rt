@@ -71,7 +71,8 @@ impl Operations {
         requires few { length bytes.now ≤ 16777216 }
         requires content { token.start + opening token.form ≤ token.end }
         requires within { token.end ≤ length bytes.now }
-        ensures kept { IfOk result (λ _. (ws : List Word) → AreKept ws self.old → AreKept (ws ++ word_of bytes.now token ∷ []) self.new) }
+        ensures kept { IfOk result (λ _. (ws : List Word)
+            → AreKept ws self.old → AreKept (ws ++ word_of bytes.now token ∷ []) self.new) }
         ensures within { IsKeptWithin (length bytes.now) self.old → IsKeptWithin (length bytes.now) self.new }
     {
         match self.fault {
@@ -99,7 +100,8 @@ impl Operations {
         requires few { length bytes.now ≤ 16777216 }
         requires content { token.start + opening token.form ≤ token.end }
         requires within { token.end ≤ length bytes.now }
-        ensures kept { IfOk result (λ _. (ws : List Word) → AreKept ws self.old → AreKept (if here then ws ++ word_of bytes.now token ∷ [] else ws) self.new) }
+        ensures kept { IfOk result (λ _. (ws : List Word)
+            → AreKept ws self.old → AreKept (if here then ws ++ word_of bytes.now token ∷ [] else ws) self.new) }
         ensures within { IsKeptWithin (length bytes.now) self.old → IsKeptWithin (length bytes.now) self.new }
     {
         if here { self.add(bytes, token) } else { Ok(()) }
