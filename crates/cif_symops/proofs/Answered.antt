@@ -7,9 +7,9 @@ use Rattle.motions.specs.ListedSizes.{IsListedSmall}
 use Rattle.cif_symops.specs.declared.fault.CifFault.{CifFault}
 use Rattle.cif_symops.specs.declared.fault.CifFault.TheVariants as faults
 use Rattle.cif_symops.specs.Words.{Word, AreWords}
-use Rattle.cif_symops.specs.Layout.{Outcome, IsOutcome}
+use Rattle.cif_symops.specs.Layout.{Outcome}
 use Rattle.cif_symops.specs.Reading.{seek}
-use Rattle.cif_symops.specs.Answers.{Says, FileSays, Gives, IsAnswer, AreAll, answer_of}
+use Rattle.cif_symops.specs.Answers.{FileSays, Gives, IsAnswer, AreNoGenerators, answer_of}
 use Rattle.cif_symops.proofs.WordLists.{words_exist}
 use Rattle.cif_symops.proofs.Layouts.{outcome_exists, words_whole}
 use Rattle.cif_symops.proofs.OneAnswer.{one_answer}
@@ -22,13 +22,13 @@ only : (bytes : List ℕ) (answer : Result Listed CifFault) (said : Result Listi
 only bytes answer said f (inl m) = inl m
 only bytes answer said f (inr g) = inr (one_answer bytes said (answer_of answer) f g)
 
-all_answer : (bytes : List ℕ) (o : Outcome) (answer : Result Listed CifFault) → Gives bytes o answer → AreAll answer
-all_answer bytes o answer (inl m) = subst AreAll (sym m) tt
-all_answer bytes o answer (inr g) = g.all
+no_generators_answer : (bytes : List ℕ) (o : Outcome) (answer : Result Listed CifFault) → Gives bytes o answer → AreNoGenerators answer
+no_generators_answer bytes o answer (inl m) = subst AreNoGenerators (sym m) tt
+no_generators_answer bytes o answer (inr g) = g.no_generators
 
-small_answer : (bytes : List ℕ) (o : Outcome) (answer : Result Listed CifFault) → Gives bytes o answer → IfOk answer (IsListedSmall 9)
-small_answer bytes o answer (inl m) = subst (λ x. IfOk x (IsListedSmall 9)) (sym m) tt
-small_answer bytes o answer (inr g) = g.small
+smno_generators_answer : (bytes : List ℕ) (o : Outcome) (answer : Result Listed CifFault) → Gives bytes o answer → IfOk answer (IsListedSmall 9)
+smno_generators_answer bytes o answer (inl m) = subst (λ x. IfOk x (IsListedSmall 9)) (sym m) tt
+smno_generators_answer bytes o answer (inr g) = g.small
 
 pub answered : (bytes : List ℕ) (answer : Result Listed CifFault) → ((ws : List Word) → AreWords 0 true bytes ws → Gives bytes (seek None ws) answer) → IsAnswer bytes answer
 answered bytes answer h =
@@ -37,10 +37,10 @@ answered bytes answer h =
     record {
       is = is;
       only = λ said f. only bytes answer said f is;
-      all = all_answer bytes (seek None w.0) answer (h w.0 w.1);
+      no_generators = no_generators_answer bytes (seek None w.0) answer (h w.0 w.1);
     }
 
 pub answered_small : (bytes : List ℕ) (answer : Result Listed CifFault) → ((ws : List Word) → AreWords 0 true bytes ws → Gives bytes (seek None ws) answer) → IfOk answer (IsListedSmall 9)
 answered_small bytes answer h =
     let w = words_exist (length bytes) 0 true bytes (omega arith) in
-    small_answer bytes (seek None w.0) answer (h w.0 w.1)
+    smno_generators_answer bytes (seek None w.0) answer (h w.0 w.1)

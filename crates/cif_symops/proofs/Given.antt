@@ -1,17 +1,15 @@
 -- What the calls answer.
-use Rattle.std.proofs.Common.{◌≡◌, ℕ, false, List, [], ◌∷◌, map, Some, None, Result, Ok, Err, refl, sym, ◌∙◌, ap, subst, inr}
+use Rattle.std.proofs.Common.{◌≡◌, ℕ, false, List, [], map, Some, None, Result, Ok, Err, refl, sym, ◌∙◌, ap, subst, inr}
 use Rattle.symmetry.specs.Groups.{Listing}
 use Rattle.symmetry.specs.Motions.{Motion}
 use Rattle.symmetry.specs.Vectors.{Vector}
 use Rattle.motions.specs.declared.listed.Listed.{Listed}
 use Rattle.std.specs.Prelude.{◌^◌}
 use Rattle.std.specs.List.{All}
-use Rattle.std.proofs.lemmas.List.Elements.{All-nil, All-cons}
-use Rattle.motions.specs.declared.motion.Motion3.{Motion3}
+use Rattle.std.proofs.lemmas.List.Elements.{All-nil}
 use Rattle.motions.specs.ListedSizes.{IsSmallWithin, IsListedSmall}
 use Rattle.symmetry.specs.Sizes.{IsVectorWithin}
 use Rattle.motions.specs.Views.{motion_of, parts}
-use Rattle.triplets.specs.declared.fault.TextKind.{TextKind}
 use Rattle.cif_symops.specs.declared.fault.CifFault.{CifFault}
 use Rattle.cif_symops.specs.declared.fault.CifFault.TheVariants as faults
 use Rattle.cif_symops.specs.declared.operation.Misread.{Misread}
@@ -32,15 +30,15 @@ said_listing ops centrings = Ok (record { ops = ops; centrings = centrings })
 
 pub gives_without_end : (bytes : List ℕ) (o : Outcome) (w : Word) (f : CifFault) → o ≡ without_end w → f ≡ without_end_fault bytes w.form w.start → Gives bytes o (failed f)
 gives_without_end bytes o w f e k =
-    inr (subst (λ x. IsGiven bytes x (failed f)) (sym e) (record { says = ap said_fault k; all = tt; small = tt }))
+    inr (subst (λ x. IsGiven bytes x (failed f)) (sym e) (record { says = ap said_fault k; no_generators = tt; small = tt }))
 
 pub given_ragged : (bytes : List ℕ) (o : Outcome) (n : ℕ) (f : CifFault) → o ≡ ragged n → f ≡ ragged_fault bytes n → IsGiven bytes o (failed f)
 given_ragged bytes o n f e k =
-    subst (λ x. IsGiven bytes x (failed f)) (sym e) (record { says = ap said_fault k; all = tt; small = tt })
+    subst (λ x. IsGiven bytes x (failed f)) (sym e) (record { says = ap said_fault k; no_generators = tt; small = tt })
 
 pub gives_no_symops : (bytes : List ℕ) (o : Outcome) → o ≡ no_symops → Gives bytes o (failed faults.NoSymops)
 gives_no_symops bytes o e =
-    inr (subst (λ x. IsGiven bytes x (failed faults.NoSymops)) (sym e) (record { says = refl; all = tt; small = tt }))
+    inr (subst (λ x. IsGiven bytes x (failed faults.NoSymops)) (sym e) (record { says = refl; no_generators = tt; small = tt }))
 
 listed_small : (listed : Listed) → All (λ m. IsSmallWithin 9 (motion_of m)) listed.ops.items → listed.centrings.items ≡ [] → IsListedSmall 9 listed
 listed_small listed h c = record {
@@ -57,7 +55,7 @@ given_operations bytes ws kept listed n h s e c g =
     let same : answer_of (Ok listed) ≡ said_listing (map motion_of kept.read.items) [] = ap (λ x. said_listing x (map parts listed.centrings.items)) a ∙ ap (λ x. said_listing (map motion_of kept.read.items) x) b in
     record {
       says = subst (Say bytes ws) (sym same) (k, refl);
-      all = g;
+      no_generators = g;
       small = listed_small listed (subst (λ v. All (λ m. IsSmallWithin 9 (motion_of m)) v.items) (sym e) s) c;
     }
 
@@ -67,6 +65,6 @@ given_misread bytes ws kept m f n h e =
     let k : IsFirstMisread ws m.offset m.kind = subst (IsKept ws (map motion_of kept.read.items)) n h in
     record {
       says = (m.offset, m.kind, k, e);
-      all = tt;
+      no_generators = tt;
       small = tt;
     }

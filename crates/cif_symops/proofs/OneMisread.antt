@@ -1,7 +1,7 @@
 -- A word is one operation, or is misread in one way.
-use Rattle.std.proofs.Common.{◌≡◌, ℕ, ◌+◌, ◌<◌, List, [], ◌∷◌, ◌++◌, take, drop, Option, Some, None, refl, sym, ◌∙◌, ap, subst, inl, inr, arith, append_assoc}
+use Rattle.std.proofs.Common.{◌≡◌, ℕ, ◌+◌, ◌<◌, List, [], ◌∷◌, take, Option, Some, None, refl, sym, ◌∙◌, subst, inl, inr, arith}
 use Rattle.std.specs.Prelude.{slice_get}
-use Rattle.std.proofs.lemmas.List.{take-take, take-append-drop}
+use Rattle.std.proofs.lemmas.List.{take-take}
 use Rattle.symmetry.specs.Motions.{Motion}
 use Rattle.triplets.specs.declared.fault.TextKind.{TextKind}
 use Rattle.triplets.specs.Faults.{IsGood, IsPrefixOfGood, TableRow, HasKind, HasKindAt, IsFault}

@@ -16,19 +16,23 @@ use Rattle.cif_symops.specs.Operations.{AreOperations, IsFirstMisread}
 
 -- the fault of a word without its end
 abbrev pub without_end_fault : List ℕ → Form → ℕ → CifFault
-without_end_fault bytes TextField start = faults.TextField (position bytes start).line (position bytes start).column
-without_end_fault bytes _ start = faults.Quote (position bytes start).line (position bytes start).column
+without_end_fault bytes TextField start =
+    faults.TextField (position bytes start).line (position bytes start).column
+without_end_fault bytes _ start =
+    faults.Quote (position bytes start).line (position bytes start).column
 
 abbrev pub ragged_fault : List ℕ → ℕ → CifFault
 ragged_fault bytes start = faults.Ragged (position bytes start).line (position bytes start).column
 
 abbrev pub symop_fault : List ℕ → ℕ → TextKind → CifFault
-symop_fault bytes offset kind = faults.Symop (position bytes offset).line (position bytes offset).column kind
+symop_fault bytes offset kind =
+    faults.Symop (position bytes offset).line (position bytes offset).column kind
 
 -- what words of operations say: these operations, or the fault of the first that is none
 abbrev pub Say : List ℕ → List Word → Result Listing CifFault → Type 0
 Say bytes ws (Ok listing) = AreOperations ws listing.ops × (listing.centrings ≡ [])
-Say bytes ws (Err fault) = (offset : ℕ) × (kind : TextKind) × IsFirstMisread ws offset kind × (fault ≡ symop_fault bytes offset kind)
+Say bytes ws (Err fault) =
+    (offset : ℕ) × (kind : TextKind) × IsFirstMisread ws offset kind × (fault ≡ symop_fault bytes offset kind)
 
 -- what an outcome says
 abbrev pub Says : List ℕ → Outcome → Result Listing CifFault → Type 0
@@ -39,21 +43,22 @@ Says bytes (operations ws) said = Say bytes ws said
 
 -- what a file says: its operations, or its first fault
 abbrev pub FileSays : List ℕ → Result Listing CifFault → Type 0
-FileSays bytes said = (ws : List Word) × (outcome : Outcome) × AreWords 0 true bytes ws × IsOutcome ws outcome × Says bytes outcome said
+FileSays bytes said =
+    (ws : List Word) × (outcome : Outcome) × AreWords 0 true bytes ws × IsOutcome ws outcome × Says bytes outcome said
 
 -- what was answered
 abbrev pub answer_of : Result Listed CifFault → Result Listing CifFault
 answer_of (Ok listed) = Ok (listing_of listed)
 answer_of (Err fault) = Err fault
 
--- the operations that were answered are all that there are, and not generators
-abbrev pub AreAll : Result Listed CifFault → Type 0
-AreAll answer = IfOk answer (λ listed. listed.generated ≡ false)
+-- the operations that were answered are all operations of the group, and not its generators
+abbrev pub AreNoGenerators : Result Listed CifFault → Type 0
+AreNoGenerators answer = IfOk answer (λ listed. listed.generated ≡ false)
 
 -- an outcome says what was answered
 pub record IsGiven (bytes : List ℕ) (outcome : Outcome) (answer : Result Listed CifFault) : Type 0 where
   pub says : Says bytes outcome (answer_of answer)
-  pub all : AreAll answer
+  pub no_generators : AreNoGenerators answer
   pub small : IfOk answer (IsListedSmall 9)
 
 -- this was answered, or memory ran out
@@ -63,5 +68,6 @@ Gives bytes outcome answer = (answer ≡ Err faults.NoMemory) ⊎ IsGiven bytes 
 -- What a call answers to a file: memory ran out, or what the file says, which is one thing.
 pub record IsAnswer (bytes : List ℕ) (answer : Result Listed CifFault) : Type 0 where
   pub is : (answer ≡ Err faults.NoMemory) ⊎ FileSays bytes (answer_of answer)
-  pub only : (said : Result Listing CifFault) → FileSays bytes said → (answer ≡ Err faults.NoMemory) ⊎ (said ≡ answer_of answer)
-  pub all : AreAll answer
+  pub only : (said : Result Listing CifFault) → FileSays bytes said →
+      (answer ≡ Err faults.NoMemory) ⊎ (said ≡ answer_of answer)
+  pub no_generators : AreNoGenerators answer
