@@ -32,18 +32,18 @@ pub gives_without_end : (bytes : List ℕ) (o : Outcome) (w : Word) (f : CifFaul
     f ≡ without_end_fault bytes w.form w.start → Gives bytes o (failed f)
 gives_without_end bytes o w f e k =
     inr (subst (λ x. IsGiven bytes x (failed f)) (sym e)
-        (record { says = ap said_fault k; no_generators = tt; small = tt }))
+    (record { says = ap said_fault k; no_generators = tt; small = tt }))
 
 pub given_ragged : (bytes : List ℕ) (o : Outcome) (n : ℕ) (f : CifFault) → o ≡ ragged n →
     f ≡ ragged_fault bytes n → IsGiven bytes o (failed f)
 given_ragged bytes o n f e k =
     subst (λ x. IsGiven bytes x (failed f)) (sym e)
-        (record { says = ap said_fault k; no_generators = tt; small = tt })
+    (record { says = ap said_fault k; no_generators = tt; small = tt })
 
 pub gives_no_symops : (bytes : List ℕ) (o : Outcome) → o ≡ no_symops → Gives bytes o (failed faults.NoSymops)
 gives_no_symops bytes o e =
     inr (subst (λ x. IsGiven bytes x (failed faults.NoSymops)) (sym e)
-        (record { says = refl; no_generators = tt; small = tt }))
+    (record { says = refl; no_generators = tt; small = tt }))
 
 listed_small : (listed : Listed) → All (λ m. IsSmallWithin 9 (motion_of m)) listed.ops.items →
     listed.centrings.items ≡ [] → IsListedSmall 9 listed
@@ -60,12 +60,12 @@ pub given_operations : (bytes : List ℕ) (ws : List Word) (kept : Operations) (
     IsGiven bytes (operations ws) (Ok listed)
 given_operations bytes ws kept listed n h s e c g =
     let k : AreOperations ws (map motion_of kept.read.items) = subst
-        (IsKept ws (map motion_of kept.read.items)) n h in
+    (IsKept ws (map motion_of kept.read.items)) n h in
     let a : map motion_of listed.ops.items ≡ map motion_of kept.read.items = ap (λ v. map motion_of v.items) e in
     let b : map parts listed.centrings.items ≡ [] = ap (map parts) c in
     let same : answer_of (Ok listed) ≡ said_listing (map motion_of kept.read.items) [] = ap
-        (λ x. said_listing x (map parts listed.centrings.items)) a ∙ ap
-        (λ x. said_listing (map motion_of kept.read.items) x) b in
+    (λ x. said_listing x (map parts listed.centrings.items)) a ∙ ap
+    (λ x. said_listing (map motion_of kept.read.items) x) b in
     record {
       says = subst (Say bytes ws) (sym same) (k, refl);
       no_generators = g;

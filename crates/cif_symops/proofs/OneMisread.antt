@@ -15,7 +15,7 @@ use Rattle.cif_symops.specs.Operations.{IsOperation, IsMisreadAs, IsMisread, Are
 not_behind : (l : List ℕ) (m n : ℕ) → IsPlaceIn IsGood l m → IsPlaceIn IsGood l n → m < n → ⊥
 not_behind l m n h h' lt =
     h.here (omega (arith, h'.within)) (subst IsPrefixOfGood (take-take (m + 1) n l (omega arith))
-        (shorter IsGood (take n l) (m + 1) h'.prefix))
+    (shorter IsGood (take n l) (m + 1) h'.prefix))
 
 one_place : (l : List ℕ) (m n : ℕ) → IsPlaceIn IsGood l m → IsPlaceIn IsGood l n → m ≡ n
 one_place l m n h h' =
@@ -41,9 +41,11 @@ one_kind_at before (Some b) k k' h h' = one_kind before b k k' h h'
 
 one_fault : (l : List ℕ) (m n : ℕ) (k k' : TextKind) → IsFault l m k → IsFault l n k' → (m ≡ n) × (k ≡ k')
 one_fault l m n k k' h h' =
-    let e = one_place l m n h.place h'.place in
-    (e, one_kind_at (take m l) (slice_get l m) k k' h.kind_is
-        (subst (λ i. HasKindAt (take i l) (slice_get l i) k') (sym e) h'.kind_is))
+    let e = one_place l m n h.place h'.place in (
+      e,
+      one_kind_at (take m l) (slice_get l m) k k' h.kind_is
+          (subst (λ i. HasKindAt (take i l) (slice_get l i) k') (sym e) h'.kind_is),
+    )
 
 one_misread_as : (form : Form) (w : Word) (m n : ℕ) (k k' : TextKind) → IsMisreadAs form w m k →
     IsMisreadAs form w n k' → (m ≡ n) × (k ≡ k')
