@@ -79,10 +79,10 @@ axis_times_within f v t n positive e small =
     elim (zero_or_not f.tau.x) [
       | inr x ↦ factor_within n t f.tau.x v.x x (λ i. (e i).x) small.x
       | inl x ↦ elim (zero_or_not f.tau.y) [
-          | inr y ↦ factor_within n t f.tau.y v.y y (λ i. (e i).y) small.y
-          | inl y ↦ elim (zero_or_not f.tau.z) [
-              | inr z ↦ factor_within n t f.tau.z v.z z (λ i. (e i).z) small.z
-              | inl z ↦ absurd (no_volume f x y z positive)
-            ]
+        | inr y ↦ factor_within n t f.tau.y v.y y (λ i. (e i).y) small.y
+        | inl y ↦ elim (zero_or_not f.tau.z) [
+          | inr z ↦ factor_within n t f.tau.z v.z z (λ i. (e i).z) small.z
+          | inl z ↦ absurd (no_volume f x y z positive)
         ]
+      ]
     ]

@@ -59,7 +59,7 @@ no_larger v d r c most e below small =
           absurd (omega (arith, left, right, more, spread, e))
     ]
 
-rest_within : (v d r c : ℤ) (most : ℕ) → pos 0 ≤ℤ r → r <ℤ v → v *ℤ d ≡ r *ℤ c → IsWithin most c → IsWithin most d
+pub rest_within : (v d r c : ℤ) (most : ℕ) → pos 0 ≤ℤ r → r <ℤ v → v *ℤ d ≡ r *ℤ c → IsWithin most c → IsWithin most d
 rest_within v d r c most from below e small =
     record { most = no_larger (nat_abs v) (nat_abs d) (nat_abs r) (nat_abs c) most (sym (abs-mul v d) ∙ ap nat_abs e ∙ abs-mul r c) (omega (arith, ints)) small.most }
 

@@ -154,7 +154,7 @@ axis_keeps f m = (
       let s : Motion = record { matrix = unit_matrix; shift = v } in (
         s,
         shift_by f v (subst (IsAlongAxis f) (sym (image-multiple m.matrix p.shift.0 f.tau) ∙ ap (image m.matrix) p.shift.1)
-        (axis-multiple f p.shift.0 (image m.matrix f.tau) along)),
+            (axis-multiple f p.shift.0 (image m.matrix f.tau) along)),
         translation-followed_by m t p.matrix ∙ motion_path refl (plus_comm v m.shift) ∙ sym (followed_by-translation m s refl),
       ),
   λ keeps.

@@ -8,9 +8,10 @@ ghost use Rattle.plane_lattice.specs.Coordinates.{HoldsEdges, vectors, volume};
 
 use crate::axes::{axis, is_rod_frame};
 use crate::direction::Direction;
+use crate::means::across;
 use crate::skews::is_rod_skewed;
 use closure::Group;
-use fractions::Part;
+use fractions::{Part, Ratio};
 use motions::{Basis, FrameFault};
 use plane_lattice::DualBasis;
 
@@ -26,6 +27,10 @@ pub struct RodBasis {
 /// A rod frame: the axis of a direction, and vectors a and b that with it are a right-handed basis of a lattice that holds
 /// all whole vectors.
 ///
+/// `across` is a' and b', the vectors a and b without the mean of their coordinate along the axis over the operations that
+/// keep the direction, so that each of these takes them to whole combinations of the two. Vectors are counted in parts of
+/// the cell edges, and `across` in the edges themselves.
+///
 /// Its cell is at least the cell of the edges divided by [`MAX_RESIDUES`](closure::MAX_RESIDUES), so that a translation
 /// brought home along the axis fits an `i64`.
 #[derive(Clone, Copy, PartialEq, Eq, Debug)]
@@ -34,6 +39,7 @@ pub struct RodFrame {
     pub axis: [Part; 3],
     pub a: [Part; 3],
     pub b: [Part; 3],
+    pub across: [[Ratio; 3]; 2],
     pub ghost axis_in_range: { IsVectorWithin (1000 * unsigned_abs UNIT) (parts axis) },
     pub ghost a_in_range: { IsVectorWithin (1000 * unsigned_abs UNIT) (parts a) },
     pub ghost b_in_range: { IsVectorWithin (1000 * unsigned_abs UNIT) (parts b) },
@@ -47,7 +53,7 @@ impl RodFrame {
     ghost use Rattle.motions.specs.declared.frame_fault.FrameFault.{FrameFault};
     ghost use Rattle.motions.specs.BasisView.{basis_of};
     ghost use Rattle.penetration.specs.FrameOf.{IsRodFrameFault, IsRodFrameOf};
-    ghost use Rattle.penetration.specs.RodFrameView.{basis_of_rod};
+    ghost use Rattle.penetration.specs.RodFrameView.{basis_of_rod, IsRodMadeFor};
 
     /// The rod frame of a group and a direction with the vectors a and b.
     ///
@@ -60,6 +66,7 @@ impl RodFrame {
         basis: RodBasis,
     ) -> Result<RodFrame, FrameFault>
         ensures ok { IfOk result (IsRodFrameOf group.now direction basis) }
+        ensures made { IfOk result (IsRodMadeFor group.now) }
         ensures faults { (fault : FrameFault) → (result ≡ Err fault) ↔ IsRodFrameFault group.now direction basis fault }
     {
         let axis = axis(group, &direction);
@@ -71,11 +78,13 @@ impl RodFrame {
         if is_rod_skewed(group, &direction, &dual) {
             return Err(FrameFault::Skewed);
         }
+        let across = across(group.ops(), &direction, &dual);
         Ok(RodFrame {
             direction,
             axis,
             a,
             b,
+            across,
         })
     }
 

@@ -16,7 +16,7 @@ ghost use Rattle.penetration.specs.DirectionView.{direction_of};
 ghost use Rattle.penetration.specs.Lines.{InLineStabiliser};
 ghost use Rattle.penetration.specs.RodFrames.{IsRodFrame};
 ghost use Rattle.penetration.specs.RodFrameView.{basis_of_rod};
-ghost use Rattle.penetration.specs.RodHomes.{AreStepsBack, HasWholeSteps, IsNear};
+ghost use Rattle.penetration.specs.RodHomes.{AreStepsBack, HasWholeSteps, IsNear, IsNearSmall};
 ghost use Rattle.penetration.specs.RodSections.{counted, drift};
 
 use crate::frame::RodFrame;
@@ -77,8 +77,7 @@ pub(crate) fn near_member(frame: &RodFrame, m: &Motion3, point: &[Part; 3]) -> O
         IsMember g (motion_of m.now) →
         IsChoice (SameModulo g) (IsNear (basis_of_rod frame.now) (parts point.now))
         (InLineStabiliser g (direction_of frame.now.direction) (counted (parts point.now))) (motion_of m.now) (option_map motion_of result) }
-    ensures small { IfSome result (λ n. IsSmallWithin (unsigned_abs MAX_ENTRY) (motion_of n)) }
-    ensures near { IfSome result (λ n. IsVectorWithin (2 ^ 23) (motion_of n).shift) }
+    ensures small { IfSome result (λ n. IsNearSmall (motion_of n)) }
 {
     if !keeps_direction(m, &frame.direction) {
         return None;

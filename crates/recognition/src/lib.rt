@@ -9,7 +9,7 @@
 //
 //     let mut steps: Steps<L> = Steps::new(blank);
 //     let found = layer_type(alloc, &section, &mut steps)?;
-//     // The section of Pnma along b at the height 1/4: number 29, p [[0, 1], [1, 0]], x 0, y 72.
+//     // The section of Pnma along b at the height 1/4: number 29, p [[0, 1], [1, 0]], x 0, y 144.
 #![tactic(auto)]
 
 mod agreement;

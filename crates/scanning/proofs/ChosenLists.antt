@@ -60,7 +60,7 @@ module _ (Same : Motion → Motion → Type 0) (IsHome S : Motion → Type 0) wh
 -- ---- the list
 
 module _ (g : Listing) (apart : AllPairs (λ m n. ¬ SameModulo g m n) g.ops) where
-  covered : (S : Motion → Type 0) → ((m : Motion) → S m → IsMember g m) → AreCovered (SameModulo g) g.ops S
+  pub covered : (S : Motion → Type 0) → ((m : Motion) → S m → IsMember g m) → AreCovered (SameModulo g) g.ops S
   covered S members n in_it =
       let member = members n in_it in
       let (k, below, at) = at_from_Contains g.ops member.of member.listed in

@@ -130,7 +130,7 @@ vectors_more (Some v) xs ys zs e = ap (λ (x : List Vector). x ++ parts v ∷ []
 
 -- a byte of the text, from this place
 abbrev pub step_at : TextPlace → ℕ → Kept → Result Kept Fault
-step_at x b k = cond (b == 10) (new_line (ended (text_ending x) (is_heading x) k) k) (moved (text_step b x) (text_completed b x) k)
+step_at x b k = cond (b == 10) (new_line (ended (text_ending x) (is_heading x) k) k) (moved (text_step b x) (text_completed (mark b) x) k)
 
 -- the induction hypothesis
 abbrev pub ReadAfter : List ℕ → Type 0

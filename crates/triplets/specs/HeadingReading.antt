@@ -70,11 +70,11 @@ text_step b texts.Beginning = from_beginning b
 text_step b (texts.Heading p) = in_heading (heading_step b p)
 text_step b (texts.Line p) = in_line (place_step (mark b) p)
 
--- the vector that the byte completes
-abbrev pub text_completed : ℕ → TextPlace → Option (List Part)
-text_completed b texts.Beginning = None
-text_completed b (texts.Heading p) = None
-text_completed b (texts.Line p) = completed (mark b) p
+-- the vector that a byte of this meaning completes
+abbrev pub text_completed : Mark → TextPlace → Option (List Part)
+text_completed m texts.Beginning = None
+text_completed m (texts.Heading p) = None
+text_completed m (texts.Line p) = completed m p
 
 -- where a line may end, the operation that stands in it
 abbrev pub text_ending : TextPlace → Option (Option Motion3)

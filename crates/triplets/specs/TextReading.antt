@@ -13,6 +13,7 @@ use Rattle.triplets.specs.declared.fault.TextFault.TheVariants as faults
 use Rattle.triplets.specs.declared.text.LineReader.{LineReader}
 use Rattle.symmetry.specs.Groups.{Listing}
 use Rattle.motions.specs.Views.{listing_of}
+use Rattle.triplets.specs.Marks.{mark}
 use Rattle.triplets.specs.LineReading.{with_vector, operations_of}
 use Rattle.triplets.specs.HeadingReading.{text_step, text_completed, text_ending, is_heading}
 use Rattle.triplets.specs.Texts.{Fault, nothing_listed}
@@ -66,7 +67,7 @@ moved (Ok p) v k = Ok (record { said = said_vector v k.said; line = k.line; colu
 
 -- a byte of the text
 abbrev pub byte_step : ℕ → Kept → Result Kept Fault
-byte_step b k = if b == 10 then new_line (finished k) k else moved (text_step b k.place) (text_completed b k.place) k
+byte_step b k = if b == 10 then new_line (finished k) k else moved (text_step b k.place) (text_completed (mark b) k.place) k
 
 -- a byte, where there was no fault yet
 abbrev pub text_advance : Result Kept Fault → ℕ → Result Kept Fault

@@ -1,10 +1,11 @@
 // Where in a text the reader stands: line 1 may be the heading, and the others are lines of the grammar.
 ghost use Rattle.std.specs.Prelude.{◌≡◌};
+ghost use Rattle.triplets.specs.Marks.{mark};
 
 use crate::fault::TextKind;
 use crate::heading::HeadingPlace;
 use crate::line::LinePlace;
-use crate::marks::{Mark, mark_of};
+use crate::marks::Mark;
 use fractions::Part;
 use motions::Motion3;
 
@@ -22,36 +23,38 @@ pub enum TextPlace {
 impl TextPlace {
     ghost use Rattle.triplets.specs.HeadingReading.{from_beginning, text_step, text_completed, text_ending, is_heading, IsTextPlaceSmall};
 
-    fn from_beginning(byte: u8) -> Result<TextPlace, TextKind>
+    fn from_beginning(byte: u8, meaning: Mark) -> Result<TextPlace, TextKind>
+        requires { meaning ≡ mark byte }
         ensures { result ≡ from_beginning byte }
     {
         if byte == b'g' {
             return Ok(TextPlace::Heading(HeadingPlace::G));
         }
-        match mark_of(byte) {
+        match meaning {
             Mark::Blank => Ok(TextPlace::Beginning),
             mark => Ok(TextPlace::Line(LinePlace::Start.step(mark)?)),
         }
     }
 
-    /// Reads one more byte of a line.
-    pub fn step(self, byte: u8) -> Result<TextPlace, TextKind>
-        requires { IsTextPlaceSmall self }
+    /// Reads one more byte of a line, with its meaning.
+    pub fn step(self, byte: u8, meaning: Mark) -> Result<TextPlace, TextKind>
+        requires small { IsTextPlaceSmall self }
+        requires meaning { meaning ≡ mark byte }
         ensures { result ≡ text_step byte self }
     {
         match self {
-            TextPlace::Beginning => TextPlace::from_beginning(byte),
+            TextPlace::Line(place) => Ok(TextPlace::Line(place.step(meaning)?)),
+            TextPlace::Beginning => TextPlace::from_beginning(byte, meaning),
             TextPlace::Heading(place) => Ok(TextPlace::Heading(place.step(byte)?)),
-            TextPlace::Line(place) => Ok(TextPlace::Line(place.step(mark_of(byte))?)),
         }
     }
 
-    /// The centring vector that the byte completes.
-    pub fn completed(self, byte: u8) -> Option<[Part; 3]>
-        ensures { result ≡ text_completed byte self }
+    /// The centring vector that a byte of this meaning completes.
+    pub fn completed(self, meaning: Mark) -> Option<[Part; 3]>
+        ensures { result ≡ text_completed meaning self }
     {
         match self {
-            TextPlace::Line(place) => place.completed(mark_of(byte)),
+            TextPlace::Line(place) => place.completed(meaning),
             _ => None,
         }
     }

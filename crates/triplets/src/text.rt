@@ -5,6 +5,7 @@ ghost use Rattle.triplets.specs.Laws.PlaceLaws.{IsTextPlaceWithin-prop};
 
 use crate::fault::{TextFault, TextKind};
 use crate::line::LinePlace;
+use crate::marks::mark_of;
 use crate::place::TextPlace;
 use motions::Listed;
 use std::alloc::Global;
@@ -100,11 +101,12 @@ impl LineReader {
             self.place = TextPlace::Line(LinePlace::Start);
             return Ok(());
         }
-        let next = match self.place.step(byte) {
+        let meaning = mark_of(byte);
+        let next = match self.place.step(byte, meaning) {
             Ok(next) => next,
             Err(kind) => return Err(self.here(kind)),
         };
-        if let Some(vector) = self.place.completed(byte) {
+        if let Some(vector) = self.place.completed(meaning) {
             self.listed.centrings.push(vector)?;
         }
         self.column += 1;

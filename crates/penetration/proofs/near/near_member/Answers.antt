@@ -69,15 +69,12 @@ returns-clause-choice c = λ g group frame member.
 
 pub returns-clause-small : goal.returns-clause-small
 returns-clause-small c =
-    let P : Vector → Type 0 = IsVectorWithin (2 ^ 40) in
+    let P : Vector → Type 0 = IsVectorWithin (2 ^ 23) in
+    let near : IsVectorWithin (2 ^ 23) (parts c.without.result) = subst P (sym c.without.ensures)
+    (within c.args.frame.now (motion_of c.args.m.now) (parts c.args.point.now) (vector_of c.in_ok-back.back) (basis_of c.dual-dual.result.basis) c.dual-dual.ensures
+    (steps c.args.frame.now (motion_of c.args.m.now) (parts c.args.point.now) (vector_of c.in_ok-back.back) (parts c.drift.result) (basis_of c.dual-dual.result.basis) c.dual-dual.ensures c.drift.ensures.is c.in_ok-back.ensures.is)
+    c.requires.motion.matrix c.requires.point) in
     record {
-      small = record { matrix = c.requires.motion.small.matrix; shift = subst P (sym c.without.ensures) (IsVectorWithin-more (within c.args.frame.now (motion_of c.args.m.now) (parts c.args.point.now) (vector_of c.in_ok-back.back) (basis_of c.dual-dual.result.basis) c.dual-dual.ensures
-    (steps c.args.frame.now (motion_of c.args.m.now) (parts c.args.point.now) (vector_of c.in_ok-back.back) (parts c.drift.result) (basis_of c.dual-dual.result.basis) c.dual-dual.ensures c.drift.ensures.is c.in_ok-back.ensures.is)
-    c.requires.motion.matrix c.requires.point) (lit≤ tt)) };
-      matrix = c.requires.motion.matrix;
+      motion = record { small = record { matrix = c.requires.motion.small.matrix; shift = IsVectorWithin-more near (lit≤ tt) }; matrix = c.requires.motion.matrix };
+      shift = near;
     }
-
-pub returns-clause-near : goal.returns-clause-near
-returns-clause-near c = let P : Vector → Type 0 = IsVectorWithin (2 ^ 23) in subst P (sym c.without.ensures) (within c.args.frame.now (motion_of c.args.m.now) (parts c.args.point.now) (vector_of c.in_ok-back.back) (basis_of c.dual-dual.result.basis) c.dual-dual.ensures
-    (steps c.args.frame.now (motion_of c.args.m.now) (parts c.args.point.now) (vector_of c.in_ok-back.back) (parts c.drift.result) (basis_of c.dual-dual.result.basis) c.dual-dual.ensures c.drift.ensures.is c.in_ok-back.ensures.is)
-    c.requires.motion.matrix c.requires.point)

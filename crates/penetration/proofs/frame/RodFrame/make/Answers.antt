@@ -1,9 +1,10 @@
 -- With the axis the vectors are no frame, one that is skewed, or one that is given.
-use Rattle.std.proofs.Common.{◌≡◌, ◌↔◌, ◌≤ℤ◌, ◌<ℤ◌, ℤ, pos, Bool, IsTrue, subst, arith}
+use Rattle.std.proofs.Common.{◌≡◌, ◌↔◌, ◌≤◌, ◌≤ℤ◌, ◌<ℤ◌, ℤ, pos, Bool, IsTrue, List, length, map, refl, sym, subst, arith}
 use Rattle.std.proofs.lemmas.Int.{ints}
 use Rattle.symmetry.specs.Frames.{Basis}
 use Rattle.motions.specs.BasisView.{basis_of}
-use Rattle.motions.specs.Views.{parts}
+use Rattle.symmetry.specs.Motions.{Motion}
+use Rattle.motions.specs.Views.{motion_of, parts}
 use Rattle.motions.specs.declared.basis.Basis.{Basis as BasisOfCode}
 use Rattle.closure.specs.Groups.{group_listing}
 use Rattle.closure.proofs.OwnLattice.{own_fine}
@@ -12,8 +13,10 @@ use Rattle.plane_lattice.proofs.LatticeTests.{edges_held}
 use Rattle.penetration.specs.declared.frame.RodFrame.{RodFrame}
 use Rattle.penetration.specs.DirectionView.{direction_of}
 use Rattle.penetration.specs.FrameOf.{with_axis}
-use Rattle.penetration.specs.RodFrames.{IsRodFrame, IsRodSkewed}
+use Rattle.penetration.specs.RodFrames.{IsRodFrame, IsRodSkewed, levelled}
+use Rattle.penetration.specs.RodOperations.{ArePointsOf, rod_ops}
 use Rattle.penetration.proofs.FrameFaults.{no_fault, not_frame, skewed}
+use Rattle.penetration.proofs.RodSums.{rod_ops_are, some_rod}
 use Rattle.penetration.proofs.VolumeBound.{volume_bound}
 use Rattle.penetration.proofs.frame.RodFrame.make.Goals as goal
 
@@ -65,3 +68,34 @@ returns-clause-faults c fault =
     ((told (IsRodFrame g u) c.make-dual.ensures c.is_rod_frame.ensures).0 c.if-not-is_rod_frame.false)
     (λ h. absurd (cc (c.if-is_rod_skewed.false, tells.1 h))) in
     (λ e. absurd (cc e), λ h. absurd (none fault h))
+
+pub across-across-requires-clause-operations : goal.across-across-requires-clause-operations
+across-across-requires-clause-operations c k d h = (c.ops.ensures.small k d h).small
+
+pub across-across-requires-clause-some : goal.across-across-requires-clause-some
+across-across-requires-clause-some c =
+    let u = direction_of c.args.direction in
+    let some = some_rod (group_listing c.args.group.now) u c.ops.ensures.group in
+    subst (λ (ms : List Motion). 1 ≤ length (rod_ops u ms)) (sym c.ops.ensures.ops) (omega (arith, some))
+
+pub returns-clause-ok : goal.returns-clause-ok
+returns-clause-ok c =
+    let g = group_listing c.args.group.now in
+    let u = direction_of c.args.direction in
+    let f = with_axis c.args.basis (parts c.axis-axis.result) in
+    let tells = told (IsRodSkewed g u) c.make-dual.ensures c.is_rod_skewed.ensures in
+    record {
+      along = refl;
+      a = refl;
+      b = refl;
+      is_frame = (told (IsRodFrame g u) c.make-dual.ensures c.is_rod_frame.ensures).0 c.if-not-is_rod_frame.false;
+      not_skewed = λ s. cc (c.if-is_rod_skewed.false, tells.1 s);
+      rods = rod_ops u g.ops;
+      are_rods = rod_ops_are g u c.ops.ensures.apart;
+      across = subst (λ (ms : List Motion). ArePointsOf (levelled u f (rod_ops u ms) f.a) (levelled u f (rod_ops u ms) f.b) c.across-across.result) c.ops.ensures.ops
+          (subst (λ (b : BasisOfCode). ArePointsOf (levelled u (basis_of b) (rod_ops u (map motion_of c.ops.result.now)) (basis_of b).a)
+          (levelled u (basis_of b) (rod_ops u (map motion_of c.ops.result.now)) (basis_of b).b) c.across-across.result) c.make-dual.ensures c.across-across.ensures);
+    }
+
+pub returns-clause-made : goal.returns-clause-made
+returns-clause-made c = (c.args.basis, returns-clause-ok c)
