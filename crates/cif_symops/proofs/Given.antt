@@ -28,31 +28,44 @@ said_fault f = Err f
 abbrev pub said_listing : List Motion → List Vector → Result Listing CifFault
 said_listing ops centrings = Ok (record { ops = ops; centrings = centrings })
 
-pub gives_without_end : (bytes : List ℕ) (o : Outcome) (w : Word) (f : CifFault) → o ≡ without_end w → f ≡ without_end_fault bytes w.form w.start → Gives bytes o (failed f)
+pub gives_without_end : (bytes : List ℕ) (o : Outcome) (w : Word) (f : CifFault) → o ≡ without_end w →
+    f ≡ without_end_fault bytes w.form w.start → Gives bytes o (failed f)
 gives_without_end bytes o w f e k =
-    inr (subst (λ x. IsGiven bytes x (failed f)) (sym e) (record { says = ap said_fault k; no_generators = tt; small = tt }))
+    inr (subst (λ x. IsGiven bytes x (failed f)) (sym e)
+    (record { says = ap said_fault k; no_generators = tt; small = tt }))
 
-pub given_ragged : (bytes : List ℕ) (o : Outcome) (n : ℕ) (f : CifFault) → o ≡ ragged n → f ≡ ragged_fault bytes n → IsGiven bytes o (failed f)
+pub given_ragged : (bytes : List ℕ) (o : Outcome) (n : ℕ) (f : CifFault) → o ≡ ragged n →
+    f ≡ ragged_fault bytes n → IsGiven bytes o (failed f)
 given_ragged bytes o n f e k =
-    subst (λ x. IsGiven bytes x (failed f)) (sym e) (record { says = ap said_fault k; no_generators = tt; small = tt })
+    subst (λ x. IsGiven bytes x (failed f)) (sym e)
+    (record { says = ap said_fault k; no_generators = tt; small = tt })
 
 pub gives_no_symops : (bytes : List ℕ) (o : Outcome) → o ≡ no_symops → Gives bytes o (failed faults.NoSymops)
 gives_no_symops bytes o e =
-    inr (subst (λ x. IsGiven bytes x (failed faults.NoSymops)) (sym e) (record { says = refl; no_generators = tt; small = tt }))
+    inr (subst (λ x. IsGiven bytes x (failed faults.NoSymops)) (sym e)
+    (record { says = refl; no_generators = tt; small = tt }))
 
-listed_small : (listed : Listed) → All (λ m. IsSmallWithin 9 (motion_of m)) listed.ops.items → listed.centrings.items ≡ [] → IsListedSmall 9 listed
+listed_small : (listed : Listed) → All (λ m. IsSmallWithin 9 (motion_of m)) listed.ops.items →
+    listed.centrings.items ≡ [] → IsListedSmall 9 listed
 listed_small listed h c = record {
   ops = h;
-  centrings = subst (All (λ v. IsVectorWithin (2 ^ 40) (parts v))) (sym c) (All-nil (λ v. IsVectorWithin (2 ^ 40) (parts v)));
+  centrings = subst (All (λ v. IsVectorWithin (2 ^ 40) (parts v))) (sym c)
+      (All-nil (λ v. IsVectorWithin (2 ^ 40) (parts v)));
 }
 
 -- the operations
-pub given_operations : (bytes : List ℕ) (ws : List Word) (kept : Operations) (listed : Listed) → kept.fault ≡ None → AreKept ws kept → All (λ m. IsSmallWithin 9 (motion_of m)) kept.read.items → listed.ops ≡ kept.read → listed.centrings.items ≡ [] → listed.generated ≡ false → IsGiven bytes (operations ws) (Ok listed)
+pub given_operations : (bytes : List ℕ) (ws : List Word) (kept : Operations) (listed : Listed) →
+    kept.fault ≡ None → AreKept ws kept → All (λ m. IsSmallWithin 9 (motion_of m)) kept.read.items →
+    listed.ops ≡ kept.read → listed.centrings.items ≡ [] → listed.generated ≡ false →
+    IsGiven bytes (operations ws) (Ok listed)
 given_operations bytes ws kept listed n h s e c g =
-    let k : AreOperations ws (map motion_of kept.read.items) = subst (IsKept ws (map motion_of kept.read.items)) n h in
+    let k : AreOperations ws (map motion_of kept.read.items) = subst
+    (IsKept ws (map motion_of kept.read.items)) n h in
     let a : map motion_of listed.ops.items ≡ map motion_of kept.read.items = ap (λ v. map motion_of v.items) e in
     let b : map parts listed.centrings.items ≡ [] = ap (map parts) c in
-    let same : answer_of (Ok listed) ≡ said_listing (map motion_of kept.read.items) [] = ap (λ x. said_listing x (map parts listed.centrings.items)) a ∙ ap (λ x. said_listing (map motion_of kept.read.items) x) b in
+    let same : answer_of (Ok listed) ≡ said_listing (map motion_of kept.read.items) [] = ap
+    (λ x. said_listing x (map parts listed.centrings.items)) a ∙ ap
+    (λ x. said_listing (map motion_of kept.read.items) x) b in
     record {
       says = subst (Say bytes ws) (sym same) (k, refl);
       no_generators = g;
@@ -60,7 +73,9 @@ given_operations bytes ws kept listed n h s e c g =
     }
 
 -- the first that is none
-pub given_misread : (bytes : List ℕ) (ws : List Word) (kept : Operations) (m : Misread) (f : CifFault) → kept.fault ≡ Some m → AreKept ws kept → f ≡ symop_fault bytes m.offset m.kind → IsGiven bytes (operations ws) (failed f)
+pub given_misread : (bytes : List ℕ) (ws : List Word) (kept : Operations) (m : Misread) (f : CifFault) →
+    kept.fault ≡ Some m → AreKept ws kept → f ≡ symop_fault bytes m.offset m.kind →
+    IsGiven bytes (operations ws) (failed f)
 given_misread bytes ws kept m f n h e =
     let k : IsFirstMisread ws m.offset m.kind = subst (IsKept ws (map motion_of kept.read.items)) n h in
     record {

@@ -9,4 +9,5 @@ returns-in-Some c ws h = given_misread c.args.bytes.now ws c.args.self c.in-Some
     (ap (λ (p : Position). faults.Symop p.line p.column c.in-Some.misread.kind) c.position_of-place.ensures)
 
 pub returns-in-None : goal.returns-in-None
-returns-in-None c ws h = given_operations c.args.bytes.now ws c.args.self _ c.in-None.is h c.requires.kept.small refl c.new.ensures.items refl
+returns-in-None c ws h =
+    given_operations c.args.bytes.now ws c.args.self _ c.in-None.is h c.requires.kept.small refl c.new.ensures.items refl
