@@ -1,5 +1,5 @@
 -- The near members of a group that map a line to itself, operation by operation.
-use Rattle.std.proofs.Common.{◌≡◌, ℕ, ◌<◌, List, length, map, get_or, Option, None, Some, subst}
+use Rattle.std.proofs.Common.{◌≡◌, List, map, get_or, Option, None, Some, subst}
 use Rattle.std.specs.Prelude.{All, Contains}
 use Rattle.std.proofs.lemmas.List.{get_or_default}
 use Rattle.symmetry.specs.Motions.{Motion, identity}

@@ -1,5 +1,5 @@
 -- What is found of the section of a line is what is found of the list that stands for it, and the members brought home.
-use Rattle.std.proofs.Common.{◌≡◌, ◌↔◌, List, map, Option, None, Some, sym, ◌∙◌, subst}
+use Rattle.std.proofs.Common.{◌↔◌, List, map, Option, None, Some}
 use Rattle.std.specs.Prelude.{IfSome, IsNone}
 use Rattle.symmetry.specs.Vectors.{Vector}
 use Rattle.symmetry.specs.Motions.{Motion}

@@ -1,6 +1,6 @@
 -- The sections of a list of the line stabiliser are a group modulo the axis, each once.
 use lib.IntN.{*ℤ_comm}
-use Rattle.std.proofs.Common.{◌≡◌, inl, inr, ◌<◌, ℤ, pos, negsuc, ◌+ℤ◌, ◌*ℤ◌, refl, sym, ◌∙◌, ap, subst, arith, List, [], ◌∷◌, length, slice_index_or, AllPairs}
+use Rattle.std.proofs.Common.{◌≡◌, ◌<◌, ℤ, pos, negsuc, ◌+ℤ◌, ◌*ℤ◌, refl, sym, ◌∙◌, ap, subst, arith, List, [], ◌∷◌, length, slice_index_or, AllPairs}
 use Rattle.std.specs.Prelude.{Contains}
 use Rattle.std.proofs.lemmas.Int.{ints}
 use Rattle.std.proofs.lemmas.List.{get_or_default}
@@ -13,15 +13,12 @@ use Rattle.symmetry.specs.Planes.{IsCoprime}
 use Rattle.symmetry.specs.Groups.{Listing, IsMember, IsGroup}
 use Rattle.symmetry.specs.Frames.{Basis}
 use Rattle.symmetry.specs.Lists.{motion_at}
-use Rattle.symmetry.specs.HeightMotions.{IsSign}
 use Rattle.symmetry.proofs.VectorLaws.{vector_path, multiple-multiple, multiple-one}
 use Rattle.symmetry.proofs.MatrixLaws.{image-multiple, image-product, image-unit}
 use Rattle.symmetry.proofs.Signs.{sign_twice}
 use Rattle.quotient.specs.Kind.{Kind, IsSame}
 use Rattle.quotient.specs.Lists.{IsListed}
 use Rattle.quotient.specs.Groups as groups
-use Rattle.motions.specs.declared.motion.Sign.{Sign}
-use Rattle.motions.specs.declared.motion.Sign.TheVariants.{Plus, Minus}
 use Rattle.motions.specs.Signs.{sign_value}
 use Rattle.motions.specs.RodMotions.{RodOperation, rod_followed_by, rod_identity}
 use Rattle.line_types.specs.Lines.{modulo_lattice}

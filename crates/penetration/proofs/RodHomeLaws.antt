@@ -1,30 +1,29 @@
 -- Modulo the axis each motion has one at home, and of those that map a line to itself one near.
-use Rattle.std.proofs.Common.{◌≡◌, ℤ, pos, negsuc, ◌+ℤ◌, ◌-ℤ◌, ◌*ℤ◌, ◌≤ℤ◌, ◌<ℤ◌, refl, sym, ◌∙◌, ap, subst, arith, [], ◌∷◌}
+use Rattle.std.proofs.Common.{◌≡◌, ℤ, pos, negsuc, ◌+ℤ◌, ◌-ℤ◌, ◌*ℤ◌, ◌≤ℤ◌, refl, sym, ◌∙◌, ap, subst, arith, [], ◌∷◌}
 use Rattle.std.proofs.lemmas.Int.{ints}
-use Rattle.std.specs.Int.{int_div_euclid}
 use Rattle.fractions.specs.declared.part.TheConstants.{UNIT}
 use Rattle.integers.proofs.Division.{floor, fractional_parts}
 use Rattle.integers.proofs.Order.{one-le-mul}
 use Rattle.integers.proofs.Solver.{Expr.{var, num, neg, ◌⊕◌, ◌⊝◌, ◌⊗◌}, ring, linear, given}
-use Rattle.symmetry.specs.Vectors.{Vector, plus, minus, multiple, image}
+use Rattle.symmetry.specs.Vectors.{Vector, plus, minus, multiple}
 use Rattle.symmetry.specs.Motions.{Motion}
 use Rattle.symmetry.specs.Planes.{IsCoprime}
-use Rattle.symmetry.specs.Groups.{Listing, IsInLattice, IsGroup, IsMember, SameModulo}
+use Rattle.symmetry.specs.Groups.{Listing, IsInLattice, IsGroup, SameModulo}
 use Rattle.symmetry.specs.Frames.{Basis, combination}
 use Rattle.symmetry.proofs.FrameLaws.{combination-minus, combination-multiple, cramer}
 use Rattle.symmetry.proofs.LatticeLaws.{same_member}
 use Rattle.symmetry.proofs.MotionLaws.{motion_path}
-use Rattle.symmetry.proofs.VectorLaws.{vector_path, multiple-multiple, multiple-one}
+use Rattle.symmetry.proofs.VectorLaws.{vector_path, multiple-multiple}
 use Rattle.plane_lattice.specs.Coordinates.{volume, scaled}
 use Rattle.plane_lattice.specs.Laws.QuotientLaws.{div_euclid_from, div_euclid_below}
 use Rattle.penetration.specs.Lines.{InLineStabiliser}
 use Rattle.penetration.specs.RodFrames.{IsRodFrame, KeepsDirection, DiffersAlong}
-use Rattle.penetration.specs.RodHomes.{IsAtRodHome, IsNear, rod_home, rod_home_shift, whole_turns}
+use Rattle.penetration.specs.RodHomes.{IsAtRodHome, IsNear, rod_home, whole_turns}
 use Rattle.penetration.specs.RodSections.{counted, drift}
 use Rattle.penetration.proofs.LatticeMultiples.{lattice-multiple}
 use Rattle.penetration.proofs.LineImages.{stabiliser_by_direction}
-use Rattle.penetration.proofs.LineMembers.{axis_once, differ_by_none, drift_same, frame_volume, in_by_drift, keeps_direction_of, minus-minus, only_axis}
-use Rattle.penetration.proofs.RodActions.{acts, drift_on_line, plus-multiple, unit_positive}
+use Rattle.penetration.proofs.LineMembers.{differ_by_none, drift_same, in_by_drift, keeps_direction_of, minus-minus, only_axis}
+use Rattle.penetration.proofs.RodActions.{drift_on_line, unit_positive}
 
 -- ---- differing by a multiple of the axis
 

@@ -7,17 +7,13 @@ use Rattle.fractions.specs.declared.part.TheConstants.{UNIT}
 use Rattle.integers.specs.Size.{IsWithin}
 use Rattle.integers.proofs.Ring.{IsWithin-add, IsWithin-mul, IsWithin-more, IsWithin-sub, abs-mul}
 use Rattle.symmetry.specs.Vectors.{Vector, plus, multiple, dot, cross}
-use Rattle.symmetry.specs.Groups.{Listing}
 use Rattle.symmetry.specs.Frames.{Basis}
 use Rattle.symmetry.specs.Sizes.{IsVectorWithin}
 use Rattle.closure.specs.declared.limits.TheConstants.{MAX_RESIDUES}
-use Rattle.closure.specs.Fineness.{IsTooFine}
 use Rattle.plane_lattice.specs.Bounds.{largest_entry, largest_cross}
 use Rattle.plane_lattice.specs.Coordinates.{volume}
 use Rattle.plane_lattice.specs.Laws.QuotientLaws.{div_euclid_from, div_euclid_below}
-use Rattle.penetration.specs.RodFrames.{IsRodFrame}
 use Rattle.penetration.specs.RodHomes.{rod_home_shift, whole_turns}
-use Rattle.penetration.proofs.VolumeBound.{volume_bound}
 
 -- the cell of the edges, in parts
 abbrev edge_cell : ℕ

@@ -1,5 +1,5 @@
 -- The list of the motions that map a line to itself and are near, and the list of those at home.
-use Rattle.std.proofs.Common.{◌≡◌, ℕ, ◌<◌, refl, sym, ◌∙◌, ap, subst, arith, List, length, map}
+use Rattle.std.proofs.Common.{◌≡◌, ℕ, ◌<◌, sym, subst, arith, List, length, map}
 use Rattle.std.proofs.lemmas.List.{get_or-map, length-map}
 use Rattle.symmetry.specs.Vectors.{Vector}
 use Rattle.symmetry.specs.Motions.{Motion, identity}

@@ -1,5 +1,5 @@
 -- A rod from the list of its near members.
-use Rattle.std.proofs.Common.{◌≡◌, ◌↔◌, ℕ, ◌<◌, List, [], length, map, Option, refl, sym, ap, subst, ◌∙◌}
+use Rattle.std.proofs.Common.{◌≡◌, ◌↔◌, ℕ, ◌<◌, List, [], length, map, sym, subst, ◌∙◌}
 use Rattle.std.specs.Prelude.{All, IfSome, IsNone}
 use Rattle.std.proofs.lemmas.List.{get_or-map, length-map}
 use Rattle.std.proofs.lemmas.Simd.{map-map}
@@ -14,7 +14,6 @@ use Rattle.fractions.specs.declared.part.Part.{Part}
 use Rattle.closure.proofs.OwnLattice.{own_group}
 use Rattle.closure.specs.declared.group.Group.{Group}
 use Rattle.closure.specs.Groups.{group_listing}
-use Rattle.recognition.specs.declared.found_rod.FoundRod.{FoundRod}
 use Rattle.recognition.specs.RodOrder.{Change, IsBounded, IsFirst}
 use Rattle.recognition.specs.RodTypes.{HasChange, change_of}
 use Rattle.penetration.specs.declared.frame.RodFrame.{RodFrame}
@@ -25,7 +24,7 @@ use Rattle.penetration.specs.RodFrameView.{basis_of_rod, IsRodMadeFor}
 use Rattle.penetration.specs.RodFrames.{AreRodOperations}
 use Rattle.penetration.specs.RodHomes.{IsAtRodHome, IsNear, rod_home, rod_home_of}
 use Rattle.penetration.specs.RodSections.{AreSections, counted}
-use Rattle.penetration.specs.RodView.{IsFoundOf, IsRodOf}
+use Rattle.penetration.specs.RodView.{IsRodOf}
 use Rattle.penetration.proofs.MadeRodFrames.{made_rod_frame}
 use Rattle.penetration.proofs.RodFound.{found_of}
 use Rattle.penetration.proofs.RodLists.{home_lists_along, homes_list, near_lists_along}

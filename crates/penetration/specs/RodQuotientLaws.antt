@@ -1,5 +1,5 @@
 -- Proofs that the whole multiples of an axis meet the laws of `Quotient`. They stand here since an `impl` cites them.
-use Rattle.std.proofs.Common.{◌≡◌, ◌↔◌, ℤ, pos, negsuc, ◌+ℤ◌, ◌-ℤ◌, ◌*ℤ◌, ◌≤ℤ◌, [], ◌∷◌, refl, sym, ap, subst, ◌∙◌, arith}
+use Rattle.std.proofs.Common.{◌≡◌, ◌↔◌, ℤ, pos, negsuc, ◌+ℤ◌, ◌*ℤ◌, ◌≤ℤ◌, [], ◌∷◌, refl, sym, ap, subst, ◌∙◌, arith}
 use Rattle.std.specs.Int.{int_div_euclid}
 use Rattle.std.proofs.lemmas.Int.{ints}
 use Rattle.integers.proofs.Solver.{Expr.{var, num, ◌⊕◌, ◌⊗◌}, ring}
@@ -15,7 +15,6 @@ use Rattle.motions.specs.Views.{motion_of, parts}
 use Rattle.plane_lattice.specs.Coordinates.{volume}
 use Rattle.plane_lattice.specs.PlaneLattice.{of_vector}
 use Rattle.plane_lattice.specs.Laws.QuotientLaws.{cancelled, div_euclid-multiple, exchanged, followed_by-translation, translation-followed_by}
-use Rattle.penetration.specs.RodFrames.{coefficient}
 use Rattle.penetration.specs.RodHomes.{IsAlongAxis, IsAxisShift, rod_home_of, rod_home_shift, whole_turns}
 
 -- the kind of the motions of space, where the shifts are the whole multiples of the axis

@@ -1,5 +1,5 @@
 -- The near members, what they do, and their homes.
-use Rattle.std.proofs.Common.{◌≡◌, ◌↔◌, ◌^◌, List, map, refl, sym, ap, subst, ◌∙◌}
+use Rattle.std.proofs.Common.{◌↔◌, ◌^◌, List, map, refl, sym, ap, subst, ◌∙◌}
 use Rattle.std.specs.Prelude.{All, IfSome, IsNone}
 use Rattle.symmetry.specs.Motions.{Motion}
 use Rattle.symmetry.specs.Sizes.{IsVectorWithin}
@@ -13,7 +13,6 @@ use Rattle.recognition.specs.RodTypes.{HasChange, change_of}
 use Rattle.penetration.specs.DirectionView.{direction_of}
 use Rattle.penetration.specs.Lines.{InLineStabiliser}
 use Rattle.penetration.specs.RodFrameView.{basis_of_rod}
-use Rattle.penetration.specs.RodFrames.{AreRodOperations}
 use Rattle.penetration.specs.RodHomes.{IsNear, IsNearSmall, rod_home_of}
 use Rattle.penetration.specs.RodSections.{AreSections, counted}
 use Rattle.penetration.proofs.RodMade.{all_of, each_of, made_rod}

@@ -1,8 +1,6 @@
 -- Entry by entry.
-use Rattle.std.proofs.Common.{◌≡◌, ◌*◌, ℤ, pos, negsuc, ◌+ℤ◌, ◌*ℤ◌, List, length, map, ap, ◌∙◌, lit<}
+use Rattle.std.proofs.Common.{◌≡◌, ◌*◌, ℤ, pos, negsuc, ◌+ℤ◌, ◌*ℤ◌, length, map, ap, ◌∙◌, lit<}
 use Rattle.fractions.specs.declared.part.TheConstants.{UNIT}
-use Rattle.integers.specs.Size.{IsWithin}
-use Rattle.symmetry.specs.Motions.{Motion}
 use Rattle.symmetry.specs.Vectors.{plus, multiple}
 use Rattle.motions.specs.BasisView.{basis_of}
 use Rattle.motions.specs.Views.{motion_of, parts}

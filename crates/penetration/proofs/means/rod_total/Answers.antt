@@ -3,7 +3,6 @@ use Rattle.std.proofs.Common.{◌≡◌, ℕ, ◌+◌, ◌*◌, ◌<◌, ℤ, �
 use Rattle.std.specs.Int.{w128}
 use Rattle.integers.specs.Size.{IsWithin}
 use Rattle.integers.proofs.Ring.{IsWithin-add, IsWithin-more}
-use Rattle.symmetry.specs.Motions.{Motion}
 use Rattle.symmetry.specs.Sizes.{IsSmall}
 use Rattle.motions.specs.BasisView.{basis_of}
 use Rattle.motions.specs.Views.{motion_of, parts}

@@ -6,7 +6,6 @@ use Rattle.integers.proofs.Ring.{IsWithin-neg, neg_as_mul, one_mul}
 use Rattle.symmetry.specs.Vectors.{image, multiple}
 use Rattle.motions.specs.BasisView.{basis_of}
 use Rattle.motions.specs.Signs.{sign_value}
-use Rattle.motions.specs.declared.motion.Sign.{Sign}
 use Rattle.motions.specs.declared.motion.Sign.TheVariants.{Plus, Minus}
 use Rattle.motions.specs.Views.{motion_of, parts}
 use Rattle.plane_lattice.specs.Bounds.{largest_scaled}

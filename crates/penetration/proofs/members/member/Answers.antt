@@ -1,9 +1,8 @@
 -- The operation is reduced modulo the lattice first.
-use Rattle.std.proofs.Common.{lit≤, sym, subst}
+use Rattle.std.proofs.Common.{sym, subst}
 use Rattle.std.specs.Option.{option_map}
 use Rattle.symmetry.specs.Sizes.{IsMatrixWithin}
 use Rattle.symmetry.proofs.LatticeLaws.{same_member}
-use Rattle.motions.specs.Laws.MotionLaws.{IsVectorWithin-more}
 use Rattle.motions.specs.Views.{motion_of, parts}
 use Rattle.closure.proofs.OwnLattice.{own_group}
 use Rattle.closure.specs.Groups.{group_listing}

@@ -1,5 +1,5 @@
 -- The operations of the group are members, and no two are the same.
-use Rattle.std.proofs.Common.{Vec, Global, map}
+use Rattle.std.proofs.Common.{map}
 use Rattle.std.proofs.lemmas.Result.{IfOk-weaker}
 use Rattle.symmetry.specs.Groups.{SameModulo}
 use Rattle.symmetry.specs.Lists.{AreChosen, IsListOf}

@@ -1,15 +1,11 @@
 -- Each of the members maps the line to itself, so that it does something along it.
-use Rattle.std.proofs.Common.{ℕ, ◌^◌, ◌*ℤ◌, ap, ◌∙◌, sym, subst, map, get_or, List, w64, FitsSigned, rules}
+use Rattle.std.proofs.Common.{ap, ◌∙◌, sym, subst, map, get_or, List}
 use Rattle.std.specs.Prelude.{All}
-use Rattle.std.proofs.lemmas.List.{get_or_default, take_all}
+use Rattle.std.proofs.lemmas.List.{take_all}
 use Rattle.std.proofs.lemmas.List.Elements.{All-push}
-use Rattle.fractions.specs.declared.part.TheConstants.{UNIT}
-use Rattle.symmetry.specs.Motions.{Motion}
 use Rattle.motions.specs.RodMotions.{rod_of}
 use Rattle.motions.specs.Views.{motion_of, parts}
 use Rattle.motions.specs.declared.motion.Motion3.{Motion3}
-use Rattle.motions.specs.declared.rod.RodMotion.{RodMotion}
-use Rattle.closure.specs.Groups.{group_listing}
 use Rattle.recognition.specs.RodTests.{IsSmallRod}
 use Rattle.penetration.specs.DirectionView.{direction_of}
 use Rattle.penetration.specs.RodFrameView.{basis_of_rod}

@@ -1,5 +1,5 @@
 -- The whole coordinates are small, so that each fits.
-use Rattle.std.proofs.Common.{rules, ◌≡◌, FitsSigned, refl, sym, ap, ◌∙◌, subst, w64, lit<}
+use Rattle.std.proofs.Common.{rules, FitsSigned, refl, sym, ap, ◌∙◌, subst, lit<}
 use Rattle.std.specs.Int.{w128}
 use Rattle.integers.specs.Size.{IsWithin}
 use Rattle.integers.proofs.Coded.{fits_within}

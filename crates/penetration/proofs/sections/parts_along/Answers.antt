@@ -1,7 +1,6 @@
 -- The number of parts fits: the axis is not 0.
-use Rattle.std.proofs.Common.{rules, ◌≡◌, ◌^◌, ◌∙◌, sym, ap, FitsSigned, lit<, w64}
+use Rattle.std.proofs.Common.{rules, ◌^◌, ◌∙◌, ap, FitsSigned, lit<}
 use Rattle.std.specs.Int.{w128}
-use Rattle.std.proofs.lemmas.Int.{to_z-of_z}
 use Rattle.integers.proofs.Coded.{fits_within}
 use Rattle.symmetry.specs.Vectors.{multiple}
 use Rattle.motions.specs.BasisView.{basis_of}

@@ -1,11 +1,8 @@
 -- The first two coordinates tell, and the third is the number.
-use Rattle.std.proofs.Common.{rules, FitsSigned, pos, of_z, sym, ap, ◌∙◌}
-use borrow.Author.Tests.{eqb-true}
+use Rattle.std.proofs.Common.{rules, FitsSigned, pos, of_z, ap, ◌∙◌}
 use Rattle.std.specs.Int.{w128}
 use Rattle.std.proofs.lemmas.Int.{to_z-of_z}
-use Rattle.symmetry.specs.Frames.{combination}
 use Rattle.symmetry.specs.Vectors.{multiple}
-use Rattle.symmetry.proofs.VectorLaws.{vector_path}
 use Rattle.motions.specs.BasisView.{basis_of}
 use Rattle.motions.specs.Views.{parts, vector_of}
 use Rattle.penetration.proofs.AxisTests.{along_by_coordinates, on_axis, zero_is}

@@ -1,5 +1,5 @@
 -- The direction is turned to itself, to its opposite, or to neither.
-use Rattle.std.proofs.Common.{◌≡◌, ◌∙◌, sym, ap}
+use Rattle.std.proofs.Common.{◌∙◌, sym, ap}
 use Rattle.symmetry.specs.Vectors.{image}
 use Rattle.symmetry.proofs.VectorLaws.{multiple-one}
 use Rattle.motions.specs.Views.{motion_of}

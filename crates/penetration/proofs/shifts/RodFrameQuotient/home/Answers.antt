@@ -1,6 +1,5 @@
 -- The motion is the one at home of the definition.
-use Rattle.std.proofs.Common.{◌≡◌, ◌^◌, ◌∙◌, ap, sym, subst, refl}
-use Rattle.symmetry.specs.Motions.{Motion}
+use Rattle.std.proofs.Common.{◌≡◌, ◌^◌, ◌∙◌, sym, subst, refl}
 use Rattle.symmetry.specs.Sizes.{IsVectorWithin}
 use Rattle.symmetry.specs.Vectors.{Vector}
 use Rattle.symmetry.proofs.MotionLaws.{motion_path}

@@ -1,5 +1,5 @@
 -- Shifts go to shifts exactly where the axis goes to a multiple of it.
-use Rattle.std.proofs.Common.{◌≡◌, ◌↔◌, IsTrue, subst}
+use Rattle.std.proofs.Common.{◌↔◌, IsTrue, subst}
 use Rattle.symmetry.specs.Frames.{Basis}
 use Rattle.symmetry.specs.Vectors.{Vector, image}
 use Rattle.motions.specs.BasisView.{basis_of}
