@@ -64,8 +64,10 @@ module _ (group : Group) (frame : RodFrame) (point : List Part) (made : IsRodMad
       record {
         frame_is = frame_is;
         point_is = point_is;
-        ops = ops;
-        all = home_lists_along g u f is_group frame.direction.coprime is_frame at (map motion_of rod.ops.items) ops;
-        found = found_of g u f is_group frame.direction.coprime is_frame at (map motion_of near) section
-            (near_lists_along g u f is_group frame.direction.coprime is_frame at (map motion_of near) list) acts rod.found first none;
+        told = record {
+          ops = ops;
+          all = home_lists_along g u f is_group frame.direction.coprime is_frame at (map motion_of rod.ops.items) ops;
+          found = found_of g u f is_group frame.direction.coprime is_frame at (map motion_of near) section
+              (near_lists_along g u f is_group frame.direction.coprime is_frame at (map motion_of near) list) acts rod.found first none;
+        };
       }

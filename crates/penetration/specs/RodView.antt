@@ -31,12 +31,16 @@ pub record IsFoundOf (g : Listing) (u : Vector) (f : Basis) (p : Point) (found :
   pub first : IfSome found (λ r. (rods : List Motion) → AreRodOperations g u rods → IsFirst 75 (CarriesRod g u f rods p) (change_of r))
   pub none : (rods : List Motion) → AreRodOperations g u rods → IsNone found ↔ ((c : Change) → IsBounded 75 c → ¬ CarriesRod g u f rods p c)
 
--- the rod of the group along the line through a point in a frame: the members at home that map the line to itself, each once in the
--- order of the group's operations, which lists all such members modulo the axis; and what is found of the section
+-- what is told of the line through a point: the members at home that map it to itself, each once in the order of the listed
+-- operations, which lists all such members modulo the axis; and what is found of the section
+pub record IsRodAlong (g : Listing) (u : Vector) (f : Basis) (p : Point) (ms : List Motion) (change : Option FoundRod) : Type 0 where
+  pub ops : IsListOf (SameModulo g) g.ops (IsAtRodHome f) (InLineStabiliser g u p) ms
+  pub all : ListsAlong g u f p ms
+  pub found : IsFoundOf g u f p change
+
+-- the rod of the group along the line through a point in a frame
 pub record IsRodOf (group : Group) (frame : RodFrame) (point : List Part) (rod : Rod) : Type 0 where
   pub frame_is : rod.frame ≡ frame
   pub point_is : rod.point ≡ point
-  pub ops : IsListOf (SameModulo (group_listing group)) (group_listing group).ops (IsAtRodHome (basis_of_rod frame))
-      (InLineStabiliser (group_listing group) (direction_of frame.direction) (counted (parts point))) (map motion_of rod.ops.items)
-  pub all : ListsAlong (group_listing group) (direction_of frame.direction) (basis_of_rod frame) (counted (parts point)) (map motion_of rod.ops.items)
-  pub found : IsFoundOf (group_listing group) (direction_of frame.direction) (basis_of_rod frame) (counted (parts point)) rod.found
+  pub told : IsRodAlong (group_listing group) (direction_of frame.direction) (basis_of_rod frame) (counted (parts point))
+      (map motion_of rod.ops.items) rod.found
