@@ -1,6 +1,6 @@
 // Reports of groups from generators, and such texts that are refused.
 use crate::case::Case;
-use crate::inputs::INVERSION_REPORT;
+use crate::inputs::{FOURFOLD_SCREW_REPORT, IDENTITY_REPORT, INVERSION_REPORT};
 
 /// Reports of groups from generators, and such texts that are refused.
 pub(crate) fn all() -> &'static [Case] {
@@ -20,18 +20,7 @@ static CASES: [Case; 9] = [
         name: "P1 from no generator",
         words: &["layers", "0", "0", "1"],
         input: b"generators\n",
-        output: b"plane 0 0 1\n\
-            period 1\n\
-            a 1,0,0\n\
-            b 0,1,0\n\
-            tau 0,0,1\n\
-            c 0,0,1\n\
-            general planes 1\n\
-            type 1 p1\n\
-            basis 1,0,0 0,1,0 0,0,1\n\
-            origin 0,0,0 + s/d c\n\
-            op x,y,z\n\
-            end\n",
+        output: IDENTITY_REPORT,
         complaints: b"",
         status: 0,
     },
@@ -39,18 +28,7 @@ static CASES: [Case; 9] = [
         name: "P4_1 from a fourfold screw",
         words: &["layers", "0", "0", "1"],
         input: b"generators\n-y,x,z+1/4\n",
-        output: b"plane 0 0 1\n\
-            period 1\n\
-            a 1,0,0\n\
-            b 0,1,0\n\
-            tau 0,0,1\n\
-            c 0,0,1\n\
-            general planes 4\n\
-            type 1 p1\n\
-            basis 1,0,0 0,1,0 0,0,1\n\
-            origin 0,0,0 + s/d c\n\
-            op x,y,z\n\
-            end\n",
+        output: FOURFOLD_SCREW_REPORT,
         complaints: b"",
         status: 0,
     },

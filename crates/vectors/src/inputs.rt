@@ -34,3 +34,31 @@ pub const INVERSION_REPORT: &[u8] = b"plane 0 0 1\n\
     op x,y,z\n\
     op -x,-y,-z+1\n\
     end\n";
+
+/// The report of P1 along c.
+pub(crate) const IDENTITY_REPORT: &[u8] = b"plane 0 0 1\n\
+    period 1\n\
+    a 1,0,0\n\
+    b 0,1,0\n\
+    tau 0,0,1\n\
+    c 0,0,1\n\
+    general planes 1\n\
+    type 1 p1\n\
+    basis 1,0,0 0,1,0 0,0,1\n\
+    origin 0,0,0 + s/d c\n\
+    op x,y,z\n\
+    end\n";
+
+/// The report of P4_1 along its axis.
+pub(crate) const FOURFOLD_SCREW_REPORT: &[u8] = b"plane 0 0 1\n\
+    period 1\n\
+    a 1,0,0\n\
+    b 0,1,0\n\
+    tau 0,0,1\n\
+    c 0,0,1\n\
+    general planes 4\n\
+    type 1 p1\n\
+    basis 1,0,0 0,1,0 0,0,1\n\
+    origin 0,0,0 + s/d c\n\
+    op x,y,z\n\
+    end\n";

@@ -1,6 +1,8 @@
 // Reports of all heights of an orientation.
 use crate::case::Case;
-use crate::inputs::{C2M, FOURFOLD_SCREW, INVERSION, INVERSION_REPORT};
+use crate::inputs::{
+    C2M, FOURFOLD_SCREW, FOURFOLD_SCREW_REPORT, IDENTITY_REPORT, INVERSION, INVERSION_REPORT,
+};
 
 /// The report of C2/m along b.
 const C2M_REPORT: &[u8] = b"plane 0 1 0\n\
@@ -43,18 +45,7 @@ static CASES: [Case; 10] = [
         name: "P1 along c",
         words: &["layers", "0", "0", "1"],
         input: b"x,y,z\n",
-        output: b"plane 0 0 1\n\
-            period 1\n\
-            a 1,0,0\n\
-            b 0,1,0\n\
-            tau 0,0,1\n\
-            c 0,0,1\n\
-            general planes 1\n\
-            type 1 p1\n\
-            basis 1,0,0 0,1,0 0,0,1\n\
-            origin 0,0,0 + s/d c\n\
-            op x,y,z\n\
-            end\n",
+        output: IDENTITY_REPORT,
         complaints: b"",
         status: 0,
     },
@@ -191,18 +182,7 @@ static CASES: [Case; 10] = [
         name: "P4_1 along c",
         words: &["layers", "0", "0", "1"],
         input: FOURFOLD_SCREW,
-        output: b"plane 0 0 1\n\
-            period 1\n\
-            a 1,0,0\n\
-            b 0,1,0\n\
-            tau 0,0,1\n\
-            c 0,0,1\n\
-            general planes 4\n\
-            type 1 p1\n\
-            basis 1,0,0 0,1,0 0,0,1\n\
-            origin 0,0,0 + s/d c\n\
-            op x,y,z\n\
-            end\n",
+        output: FOURFOLD_SCREW_REPORT,
         complaints: b"",
         status: 0,
     },
