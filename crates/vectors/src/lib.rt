@@ -14,6 +14,7 @@ mod refused_groups;
 mod refused_lines;
 mod refused_words;
 mod reports;
+mod rods;
 mod samples;
 mod topic;
 mod types;
