@@ -5,6 +5,7 @@
 #![tactic(auto)]
 
 mod case;
+mod cif;
 mod generators;
 mod heights;
 mod images;

@@ -1,7 +1,7 @@
 // The cases, by topic.
 use crate::case::Case;
 use crate::{
-    generators, heights, images, refused_frames, refused_groups, refused_lines, refused_words,
+    cif, generators, heights, images, refused_frames, refused_groups, refused_lines, refused_words,
     reports, rods, samples, types, unusual_reports,
 };
 
@@ -24,6 +24,8 @@ pub enum Topic {
     Types,
     /// Counts of the sample.
     Samples,
+    /// CIF files in place of a group text, and such files that are refused.
+    CifFiles,
     /// Words that are refused, whatever the input.
     RefusedWords,
     /// Inputs that are refused for a bad line.
@@ -35,7 +37,7 @@ pub enum Topic {
 }
 
 /// Every topic.
-pub const TOPICS: [Topic; 12] = [
+pub const TOPICS: [Topic; 13] = [
     Topic::Heights,
     Topic::Reports,
     Topic::UnusualReports,
@@ -44,6 +46,7 @@ pub const TOPICS: [Topic; 12] = [
     Topic::Rods,
     Topic::Types,
     Topic::Samples,
+    Topic::CifFiles,
     Topic::RefusedWords,
     Topic::RefusedLines,
     Topic::RefusedGroups,
@@ -63,6 +66,7 @@ pub fn cases(topic: Topic) -> &'static [Case] {
         Topic::Rods => rods::all(),
         Topic::Types => types::all(),
         Topic::Samples => samples::all(),
+        Topic::CifFiles => cif::all(),
         Topic::RefusedWords => refused_words::all(),
         Topic::RefusedLines => refused_lines::all(),
         Topic::RefusedGroups => refused_groups::all(),
