@@ -1,0 +1,1 @@
+// Sections of known lines.
