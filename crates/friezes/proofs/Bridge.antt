@@ -13,7 +13,8 @@ use Rattle.line_types.specs.Friezes.{frieze_line}
 use Rattle.line_types.specs.FriezeRows.{frieze_row}
 use Rattle.line_types.specs.Laws.FriezeLaws.{frieze_line_laws}
 use Rattle.friezes.specs.declared.line_op.LineOp.{LineOp}
-use Rattle.friezes.specs.Lines.{edge, grid}
+use Rattle.friezes.specs.declared.edge.TheConstants.{GRID}
+use Rattle.friezes.specs.Lines.{edge}
 use Rattle.friezes.specs.RationalLines.{RationalLine, IsRationalLine, IsListedLine, IsWhole, fraction_minus, half_parts}
 use Rattle.friezes.specs.Changes.{CarriesOnto, IsCarried, grid_part, origin_moved}
 use Rattle.friezes.specs.Types.{IsOfFriezeType, parts}
@@ -110,7 +111,7 @@ type_moved n f e u k h =
     }
 
 -- the point x of the grid, moved by a motion, in half parts
-moved_is : (f : Sign) (x : ℕ) → (pos x -ℤ sign_value f *ℤ pos x) *ℤ edge ≡ moved f x *ℤ pos grid
+moved_is : (f : Sign) (x : ℕ) → (pos x -ℤ sign_value f *ℤ pos x) *ℤ edge ≡ moved f x *ℤ pos GRID
 moved_is Plus x = omega (arith, ints)
 moved_is Minus x = omega (arith, ints)
 
@@ -124,12 +125,12 @@ module _ (x : ℕ) (op like : RationalLine) (v : ℤ) (counted : SameFraction li
 
   rest_to : (k : ℤ) → SameFraction op.shift (half_parts (v +ℤ moved op.along x +ℤ k *ℤ edge)) → Rest
   rest_to k same =
-      (k, to_whole edge (pos grid) op.shift.den like.shift.den op.shift.num like.shift.num v drift (moved op.along x) k counted (moved_is op.along x) edge_positive same)
+      (k, to_whole edge (pos GRID) op.shift.den like.shift.den op.shift.num like.shift.num v drift (moved op.along x) k counted (moved_is op.along x) edge_positive same)
 
   rest_from : IsRationalLine like → Rest → (k : ℤ) × SameFraction op.shift (half_parts (v +ℤ moved op.along x +ℤ k *ℤ edge))
   rest_from rational (k, whole) = (
     k,
-    from_whole edge (pos grid) op.shift.den like.shift.den op.shift.num like.shift.num v drift (moved op.along x) k counted (moved_is op.along x) rational
+    from_whole edge (pos GRID) op.shift.den like.shift.den op.shift.num like.shift.num v drift (moved op.along x) k counted (moved_is op.along x) rational
         (omega (arith, ints)) whole,
   )
 

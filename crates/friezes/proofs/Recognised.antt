@@ -7,7 +7,8 @@ use Rattle.fractions.specs.declared.part.TheConstants.{UNIT}
 use Rattle.motions.specs.declared.motion.Sign.{Sign}
 use Rattle.motions.specs.declared.motion.Sign.TheVariants.{Plus, Minus}
 use Rattle.friezes.specs.declared.line_op.LineOp.{LineOp}
-use Rattle.friezes.specs.Lines.{edge, grid}
+use Rattle.friezes.specs.declared.edge.TheConstants.{GRID}
+use Rattle.friezes.specs.Lines.{edge}
 use Rattle.friezes.specs.Laws.ShiftLaws.{divided, one_rest}
 use Rattle.friezes.specs.Order.{Change, IsBefore, IsBounded, IsFirst}
 use Rattle.friezes.specs.Sections.{IsSection}
@@ -55,10 +56,10 @@ least_rest t x k e = let d = divided t in let least = d.least in let below = d.b
 rest_size : (t : ℤ) → pos (unsigned_abs (rest_of_edge t)) ≡ rest_of_edge t
 rest_size t = let d = divided t in let least = d.least in omega (arith, ints)
 
-rest_below : (t : ℤ) → unsigned_abs (rest_of_edge t) < grid
+rest_below : (t : ℤ) → unsigned_abs (rest_of_edge t) < GRID
 rest_below t = let d = divided t in let least = d.least in let below = d.below in omega (arith, ints)
 
-pub origin_below : (turn mirror : Option ℤ) → origin_of turn mirror < grid
+pub origin_below : (turn mirror : Option ℤ) → origin_of turn mirror < GRID
 origin_below (Some t) q = rest_below t
 origin_below None (Some t) = rest_below t
 origin_below None None = omega arith

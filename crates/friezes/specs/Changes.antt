@@ -2,7 +2,7 @@
 use Rattle.std.specs.Prelude.{◌≡◌, ◌↔◌, ℕ, ℤ, pos, ◌-ℤ◌, ◌*ℤ◌}
 use Rattle.fractions.specs.Fraction.{Fraction}
 use Rattle.motions.specs.Signs.{sign_value}
-use Rattle.friezes.specs.Lines.{grid}
+use Rattle.friezes.specs.declared.edge.TheConstants.{GRID}
 use Rattle.friezes.specs.RationalLines.{RationalLine, IsRationalLine, IsWhole, fraction_minus}
 
 -- r - f r, how far a motion with the sign f moves the origin
@@ -25,4 +25,4 @@ CarriesOnto InSection IsOfType r =
 
 -- a point of the grid, as a part of the cell edge
 abbrev pub grid_part : ℕ → Fraction
-grid_part x = record { num = pos x; den = pos grid }
+grid_part x = record { num = pos x; den = pos GRID }

@@ -1,5 +1,5 @@
--- What motions do along a line, the lattice along it, and the grid of origins.
-use Rattle.std.specs.Prelude.{◌≡◌, ℕ, ◌*◌, ℤ, pos, ◌*ℤ◌, unsigned_abs}
+-- What motions do along a line, and the lattice along it.
+use Rattle.std.specs.Prelude.{◌≡◌, ℤ, pos, ◌*ℤ◌}
 use Rattle.std.specs.Int.{int_rem_euclid}
 use Rattle.fractions.specs.declared.part.TheConstants.{UNIT}
 use Rattle.quotient.specs.Kind.{Kind, kind_of}
@@ -13,10 +13,6 @@ line_of m = record { along = m.f; across = m.e; shift = m.t }
 -- the cell edge along the line, in half parts
 abbrev pub edge : ℤ
 edge = pos 2 *ℤ UNIT
-
--- origins are counted in parts of which the cell edge has this many
-abbrev pub grid : ℕ
-grid = 4 * unsigned_abs UNIT
 
 -- the translation by a whole number of cell edges
 pub record IsLineShift (m : LineOp) : Type 0 where

@@ -1,6 +1,6 @@
 -- The changes onto frieze types and their order.
 use Rattle.std.specs.Prelude.{◌≡◌, ◌⊎◌, ℕ, ◌<◌, ◌≤◌}
-use Rattle.friezes.specs.Lines.{grid}
+use Rattle.friezes.specs.declared.edge.TheConstants.{GRID}
 
 -- the number of a type, and a point of the grid
 pub record Change : Type 0 where
@@ -11,7 +11,7 @@ pub record Change : Type 0 where
 pub record IsBounded (c : Change) : Type 0 where
   pub from : 1 ≤ c.number
   pub to : c.number ≤ 7
-  pub x : c.x < grid
+  pub x : c.x < GRID
 
 -- c stands before d: by the type, then by the point
 abbrev pub IsBefore : Change → Change → Type 0
