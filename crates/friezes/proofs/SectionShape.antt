@@ -12,7 +12,7 @@ use Rattle.motions.specs.FriezeMotions.{FriezeOperation, frieze_followed_by, fri
 use Rattle.friezes.specs.declared.line_op.LineOp.{LineOp}
 use Rattle.friezes.specs.Lines.{edge, line_kind, line_of}
 use Rattle.friezes.specs.Laws.ShiftLaws.{same_to}
-use Rattle.friezes.specs.Sections.{IsSection}
+use Rattle.friezes.specs.Sections.{IsSection, IsTurnOrShift}
 use Rattle.friezes.specs.Told.{StandsAt}
 use Rattle.friezes.proofs.Agreement.{Shows}
 use Rattle.friezes.proofs.Bridge.{InList}
@@ -56,7 +56,7 @@ module _ (section : List LineOp) (is : IsSection section) where
       only : (u : ℤ) → InList section Plus Plus u → (k : ℤ) × (u ≡ pos 0 +ℤ k *ℤ edge)
       only u h =
           let m = h.stands.motion in
-          let s = is.plain m h.stands.listed h.stands.along h.stands.across in
+          let s = All-contains IsTurnOrShift section m is.plain h.stands.listed h.stands.along h.stands.across in
           let shift : m.t ≡ s.times *ℤ edge = ap (λ (o : FriezeOperation). o.shift) s.is in
           let same = h.stands.shift in
           let far = h.is in
