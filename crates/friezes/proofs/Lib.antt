@@ -1,0 +1,7 @@
+pub mod Agreement
+pub mod Bridge
+pub mod RationalShifts
+pub mod Recognised
+pub mod SectionShape
+pub mod Shifts
+pub mod TypeShape

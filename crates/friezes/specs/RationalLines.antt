@@ -1,0 +1,36 @@
+-- Motions along a line with rational translations, and the sets that lists of them stand for.
+use Rattle.std.specs.Prelude.{◌≡◌, ℤ, ◌-ℤ◌, ◌*ℤ◌, List, Contains}
+use Rattle.fractions.specs.Fraction.{Fraction, IsFraction}
+use Rattle.motions.specs.declared.motion.Sign.{Sign}
+use Rattle.friezes.specs.declared.line_op.LineOp.{LineOp}
+use Rattle.friezes.specs.Lines.{edge}
+
+-- (f, e, t): the sign f along the line, the sign e across it, and a rational part t of the cell edge along it
+pub record RationalLine : Type 0 where
+  pub along : Sign
+  pub across : Sign
+  pub shift : Fraction
+
+-- the number below is at least 1
+abbrev pub IsRationalLine : RationalLine → Type 0
+IsRationalLine op = IsFraction op.shift
+
+-- the rational is whole
+abbrev pub IsWhole : Fraction → Type 0
+IsWhole q = (k : ℤ) × (q.num ≡ k *ℤ q.den)
+
+-- q - r
+abbrev pub fraction_minus : Fraction → Fraction → Fraction
+fraction_minus q r = record { num = q.num *ℤ r.den -ℤ r.num *ℤ q.den; den = q.den *ℤ r.den }
+
+-- a translation in half parts, as a part of the cell edge
+abbrev pub half_parts : ℤ → Fraction
+half_parts t = record { num = t; den = edge }
+
+-- a listed motion, but for a whole number of cell edges
+pub record IsListedLine (list : List LineOp) (op : RationalLine) : Type 0 where
+  pub motion : LineOp
+  pub listed : Contains list motion
+  pub along : op.along ≡ motion.f
+  pub across : op.across ≡ motion.e
+  pub shift : IsWhole (fraction_minus op.shift (half_parts motion.t))
