@@ -1,0 +1,4 @@
+mod HeightNumbers
+mod Orders
+mod SlabImages
+mod SlabLists
