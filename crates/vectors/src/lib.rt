@@ -15,6 +15,7 @@ mod refused_groups;
 mod refused_lines;
 mod refused_words;
 mod reports;
+mod rods;
 mod samples;
 mod topic;
 mod types;

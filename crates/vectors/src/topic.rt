@@ -2,7 +2,7 @@
 use crate::case::Case;
 use crate::{
     cif, generators, heights, images, refused_frames, refused_groups, refused_lines, refused_words,
-    reports, samples, types, unusual_reports,
+    reports, rods, samples, types, unusual_reports,
 };
 
 /// What a case is about.
@@ -18,6 +18,8 @@ pub enum Topic {
     Generators,
     /// The images of an orientation.
     Images,
+    /// What maps a line to itself, and lines that are refused.
+    Rods,
     /// The operations of a type, by its number.
     Types,
     /// Counts of the sample.
@@ -35,12 +37,13 @@ pub enum Topic {
 }
 
 /// Every topic.
-pub const TOPICS: [Topic; 12] = [
+pub const TOPICS: [Topic; 13] = [
     Topic::Heights,
     Topic::Reports,
     Topic::UnusualReports,
     Topic::Generators,
     Topic::Images,
+    Topic::Rods,
     Topic::Types,
     Topic::Samples,
     Topic::CifFiles,
@@ -60,6 +63,7 @@ pub fn cases(topic: Topic) -> &'static [Case] {
         Topic::UnusualReports => unusual_reports::all(),
         Topic::Generators => generators::all(),
         Topic::Images => images::all(),
+        Topic::Rods => rods::all(),
         Topic::Types => types::all(),
         Topic::Samples => samples::all(),
         Topic::CifFiles => cif::all(),
