@@ -25,12 +25,7 @@ use std::alloc::Global;
 ///
 /// Low is at most high, and both have numerators and denominators of at most [`MOST_HEIGHT`](scanning::MOST_HEIGHT) in
 /// size. [`Large`](AtFault::Large) comes exactly where half their sum has not.
-pub fn slab_at(
-    alloc: Global,
-    scan: &Scan,
-    low: Ratio,
-    high: Ratio,
-) -> Result<Vec<Motion3>, AtFault>
+pub fn slab_at(alloc: Global, scan: &Scan, low: Ratio, high: Ratio) -> Result<Vec<Motion3>, AtFault>
     requires order { IsAtMost (fraction_of low) (fraction_of high) }
     requires low { IsFractionWithin 1000000000 (fraction_of low) }
     requires high { IsFractionWithin 1000000000 (fraction_of high) }

@@ -72,27 +72,31 @@ fn group_of(alloc: Global, ops: &[Motion3]) -> Result<Group, GroupError>
     )
 }
 
-// The scan along c, in the frame of the cell edges.
-fn scan_along_c(alloc: Global, group: &Group) -> Result<Scan, Fail> {
-    let basis = Basis {
+// a, b and c
+fn cell_edges() -> Basis {
+    Basis {
         a: [EDGE, NONE, NONE],
         b: [NONE, EDGE, NONE],
         tau: [NONE, NONE, EDGE],
-    };
-    let frame = Frame::make(group, Miller::make(0, 0, 1)?, basis)?;
+    }
+}
+
+// The scan along the plane in the frame with the basis.
+fn scan_along(alloc: Global, group: &Group, plane: Miller, basis: Basis) -> Result<Scan, Fail> {
+    let frame = Frame::make(group, plane, basis)?;
     Ok(Scan::make(alloc, group, &frame)?)
 }
 
 // P-1 along c.
 fn p_1(alloc: Global) -> Result<Scan, Fail> {
     let group = group_of(alloc, &[IDENTITY, INVERSION])?;
-    scan_along_c(alloc, &group)
+    scan_along(alloc, &group, Miller::make(0, 0, 1)?, cell_edges())
 }
 
-// P2/m along c, with the twofold axis along c.
+// P2/m along c, its axis.
 fn p2_over_m(alloc: Global) -> Result<Scan, Fail> {
     let group = group_of(alloc, &[IDENTITY, INVERSION, MIRROR, TURN])?;
-    scan_along_c(alloc, &group)
+    scan_along(alloc, &group, Miller::make(0, 0, 1)?, cell_edges())
 }
 
 // The height num/den.

@@ -1,5 +1,5 @@
 -- The order of the heights is that of the numbers that they are made from.
-use Rattle.std.proofs.Common.{◌≡◌, ℤ, subst, to_z, of_z, FitsSigned}
+use Rattle.std.proofs.Common.{ℤ, subst, to_z, of_z, FitsSigned}
 use Rattle.std.specs.Int.{w128}
 use Rattle.std.proofs.lemmas.Int.{to_z-of_z}
 use Rattle.fractions.specs.Fraction.{Fraction}
