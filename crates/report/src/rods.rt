@@ -60,6 +60,16 @@ fn write_direction(text: &mut String, direction: &Direction) -> Result<(), NoMem
     write!(text, "line{indices}\n")
 }
 
+// The line of a' or b'.
+fn write_across(text: &mut String, name: &str, frame: &RodFrame, i: usize) -> Result<(), NoMemory>
+    requires { i < 2 }
+    ensures { OnOk result (string_bytes text.new
+        ≡ string_bytes text.old ++ name.now ++ fractions_text (vector_across frame.now.across i) ++ codes "\n") }
+{
+    let v = across_at(frame, i);
+    write_edges(text, name, &v)
+}
+
 fn write_rod_type(text: &mut String, rod: &Rod, found: &Option<FoundRod>) -> Result<(), NoMemory>
     requires { IsVectorWithin largest_entry (parts rod.now.point) }
     ensures { OnOk result (string_bytes text.new
