@@ -6,6 +6,7 @@ ghost use Rattle.fractions.specs.LowestTerms.{lowest_terms};
 ghost use Rattle.fractions.specs.declared.part.TheConstants.{UNIT};
 ghost use Rattle.integers.specs.Size.{IsWithin};
 ghost use Rattle.symmetry.specs.Sizes.{IsVectorWithin};
+ghost use Rattle.symmetry.specs.Vectors.{multiple};
 ghost use Rattle.line_types.specs.RodRows.{rod_row};
 ghost use Rattle.motions.specs.Views.{parts};
 ghost use Rattle.plane_lattice.specs.Bounds.{largest_entry};
