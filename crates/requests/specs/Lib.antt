@@ -2,6 +2,9 @@ pub mod Words
 pub mod Limits
 pub mod Questions
 pub mod Views
+pub mod RodWords
+pub mod RodLimits
+pub mod RodViews
 pub mod At
 pub mod Layers
 pub mod Images
