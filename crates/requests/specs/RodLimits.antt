@@ -1,13 +1,12 @@
 -- The limits of a line and of its rod frame.
-use Rattle.std.specs.Prelude.{pos, Option, Some, None, option_and_then, option_map, Result, Ok, Err}
-use Rattle.fractions.specs.declared.part.TheConstants.{UNIT}
+use Rattle.std.specs.Prelude.{Option, Some, None, option_and_then, option_map, Result, Ok, Err}
 use Rattle.symmetry.specs.Vectors.{Vector}
 use Rattle.motions.specs.declared.plane_fault.PlaneFault.{PlaneFault}
 use Rattle.requests.specs.declared.refusal.Refusal.{Refusal}
 use Rattle.requests.specs.declared.refusal.Refusal.TheVariants.{FrameLimit, PointLimit}
 use Rattle.requests.specs.Words.{Fractions}
 use Rattle.requests.specs.RodWords.{RodFrameWords}
-use Rattle.requests.specs.Limits.{plane_fault, plane_refusal, vector_parts}
+use Rattle.requests.specs.Limits.{edges_basis, plane_fault, plane_refusal, vector_parts}
 
 -- the vectors a and b of a rod frame, in parts
 pub record RodVectors : Type 0 where
@@ -16,10 +15,7 @@ pub record RodVectors : Type 0 where
 
 -- the cell edges a and b
 abbrev pub edges_across : RodVectors
-edges_across = record {
-  a = record { x = UNIT; y = pos 0; z = pos 0 };
-  b = record { x = pos 0; y = UNIT; z = pos 0 };
-}
+edges_across = record { a = edges_basis.a; b = edges_basis.b }
 
 -- the vectors that the words give, in parts, or the cell edges
 abbrev pub rod_vectors : Option RodFrameWords → Option RodVectors

@@ -70,7 +70,7 @@ fn frame_in_parts(frame: &FrameWord) -> Option<Basis>
 }
 
 /// The three cell edges.
-fn edges() -> Basis
+pub fn edges() -> Basis
     ensures { basis_of result ≡ edges_basis }
 {
     let edge = Part(UNIT);

@@ -10,12 +10,12 @@ ghost use Rattle.requests.specs.Questions.{result_map};
 ghost use Rattle.requests.specs.RodLimits.{edges_across, rod_vectors, within_line_limits};
 ghost use Rattle.requests.specs.RodViews.{direction_word, line_of, line_words, rod_frame_of, rod_vectors_of};
 
-use crate::limits::{refusal_of, vector_in_parts};
+use crate::limits::{edges, refusal_of, vector_in_parts};
 use crate::refusal::Refusal;
 use crate::rod_words::{DirectionWord, RodFrameWord};
 use crate::words::VectorWord;
-use fractions::{Part, UNIT};
-use motions::PlaneFault;
+use fractions::Part;
+use motions::{Basis, PlaneFault};
 use penetration::{Direction, RodBasis};
 
 /// The direction that the words give, or what is wrong with them.
@@ -39,12 +39,8 @@ fn rod_frame_in_parts(frame: &RodFrameWord) -> Option<RodBasis>
 fn edges_across() -> RodBasis
     ensures { rod_vectors_of result ≡ edges_across }
 {
-    let edge = Part(UNIT);
-    let none = Part(0);
-    RodBasis {
-        a: [edge, none, none],
-        b: [none, edge, none],
-    }
+    let Basis { a, b, .. } = edges();
+    RodBasis { a, b }
 }
 
 /// The vectors that the words give, if their entries are in range, or the cell edges.
