@@ -9,10 +9,13 @@ use Rattle.symmetry.specs.Lists.{motion_at}
 use Rattle.symmetry.specs.Listings.{AreAlike}
 use Rattle.symmetry.proofs.Alike.{alike_sym, before_from, member_from, member_to, same_from, same_to}
 use Rattle.symmetry.proofs.LatticeLaws.{listed_member}
+use Rattle.motions.specs.declared.frame_fault.FrameFault.{FrameFault}
+use Rattle.motions.specs.declared.frame_fault.FrameFault.TheVariants.{NotFrame, Skewed}
 use Rattle.recognition.specs.declared.found_rod.FoundRod.{FoundRod}
 use Rattle.recognition.specs.RationalRods.{RationalRod}
 use Rattle.recognition.specs.RodOrder.{Change, IsFirst}
 use Rattle.recognition.specs.RodTypes.{change_of}
+use Rattle.penetration.specs.FrameOf.{IsRodFrameFault, with_axis}
 use Rattle.penetration.specs.Lines.{InLineStabiliser, IsAxis}
 use Rattle.penetration.specs.RodFrames.{AreRodOperations, IsRodFrame, IsRodSkewed}
 use Rattle.penetration.specs.RodSections.{InRodSection}
@@ -54,7 +57,7 @@ module _ (g h : Listing) (alike : AreAlike g h) where
         large = s.large;
       }
 
-  pub rod_operations_to : (u : Vector) (ms : List Motion) → AreRodOperations g u ms → AreRodOperations h u ms
+  rod_operations_to : (u : Vector) (ms : List Motion) → AreRodOperations g u ms → AreRodOperations h u ms
   rod_operations_to u ms r = record {
     listed = λ k w. let l = r.listed k w in (member_to g h alike (motion_at ms k) l.0, l.1);
     once = λ m member keeps.
@@ -123,3 +126,13 @@ module _ (g h : Listing) (alike : AreAlike g h) where
           };
           found = found_from found is.found;
         }
+
+module _ (g h : Listing) (alike : AreAlike g h) (u : Vector) where
+  pub frame_fault_from : (a b : Vector) (fault : FrameFault) → IsRodFrameFault h u a b fault → IsRodFrameFault g u a b fault
+  frame_fault_from a b NotFrame none = λ c axis frame.
+      none c (axis_from h g (alike_sym g h alike) u c axis) (rod_frame_from h g (alike_sym g h alike) u (with_axis a b c) frame)
+  frame_fault_from a b Skewed (c, frame, skewed) =
+      (c, rod_frame_from g h alike u (with_axis a b c) frame, rod_skewed_from g h alike u (with_axis a b c) skewed)
+
+  pub rod_operations_from : (ms : List Motion) → AreRodOperations h u ms → AreRodOperations g u ms
+  rod_operations_from ms r = rod_operations_to h g (alike_sym g h alike) u ms r

@@ -1,7 +1,10 @@
 -- The rod operations of a list, and what each adds to the mean.
-use Rattle.std.specs.Prelude.{pos, ◌*ℤ◌, Bool, ◌||◌, if◌then◌else◌, List, [], ℤ, slice_index_or}
+use Rattle.std.specs.Prelude.{ℕ, ◌^◌, pos, ◌*ℤ◌, Bool, ◌||◌, if◌then◌else◌, List, [], ℤ, slice_index_or}
 use Rattle.std.specs.List.{filter}
 use Rattle.fractions.specs.declared.ratio.Ratio.{Ratio}
+use Rattle.integers.specs.Size.{IsWithin}
+use Rattle.fractions.specs.Fraction.{Fraction}
+use Rattle.fractions.specs.Fractions.{Fractions, fractions_of}
 use Rattle.symmetry.specs.Vectors.{Vector, opposite, image}
 use Rattle.symmetry.specs.Motions.{Motion, Point}
 use Rattle.symmetry.specs.Frames.{Basis, same_vector}
@@ -24,3 +27,23 @@ signed_coefficient u f m v = (if keeps_along u m then sign_along u m *ℤ (coeff
 pub record ArePointsOf (p q : Point) (across : List (List Ratio)) : Type 0 where
   pub first : IsPointOf p (slice_index_or across 0 [])
   pub second : IsPointOf q (slice_index_or across 1 [])
+
+-- the numerator is at most 2^40 in size, and the denominator 2^20
+pub record IsAcrossFraction (q : Fraction) : Type 0 where
+  pub num : IsWithin (2 ^ 40) q.num
+  pub den : IsWithin (2 ^ 20) q.den
+
+-- so are those of three fractions
+pub record AreAcrossFractions (v : Fractions) : Type 0 where
+  pub x : IsAcrossFraction v.x
+  pub y : IsAcrossFraction v.y
+  pub z : IsAcrossFraction v.z
+
+-- the vector at a place of two, in cell edges
+abbrev pub vector_across : List (List Ratio) → ℕ → Fractions
+vector_across across i = fractions_of (slice_index_or across i [])
+
+-- so are those of two vectors
+pub record IsAcrossWithin (across : List (List Ratio)) : Type 0 where
+  pub first : AreAcrossFractions (vector_across across 0)
+  pub second : AreAcrossFractions (vector_across across 1)

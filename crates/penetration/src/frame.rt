@@ -5,6 +5,7 @@ ghost use Rattle.symmetry.specs.Sizes.{IsVectorWithin};
 ghost use Rattle.motions.specs.Views.{parts};
 ghost use Rattle.closure.specs.declared.limits.TheConstants.{MAX_RESIDUES};
 ghost use Rattle.plane_lattice.specs.Coordinates.{HoldsEdges, vectors, volume};
+ghost use Rattle.penetration.specs.RodOperations.{IsAcrossWithin};
 
 use crate::axes::{axis, is_rod_frame};
 use crate::direction::Direction;
@@ -29,7 +30,7 @@ pub struct RodBasis {
 ///
 /// `across` is a' and b', the vectors a and b without the mean of their coordinate along the axis over the operations that
 /// keep the direction, so that each of these takes them to whole combinations of the two. Vectors are counted in parts of
-/// the cell edges, and `across` in the edges themselves.
+/// the cell edges, and `across` in the edges themselves, with numerators of at most 2^40 in size and denominators of at most 2^20.
 ///
 /// Its cell is at least the cell of the edges divided by [`MAX_RESIDUES`](closure::MAX_RESIDUES), so that a translation
 /// brought home along the axis fits an `i64`.
@@ -43,6 +44,7 @@ pub struct RodFrame {
     pub ghost axis_in_range: { IsVectorWithin (1000 * unsigned_abs UNIT) (parts axis) },
     pub ghost a_in_range: { IsVectorWithin (1000 * unsigned_abs UNIT) (parts a) },
     pub ghost b_in_range: { IsVectorWithin (1000 * unsigned_abs UNIT) (parts b) },
+    pub ghost across_in_range: { IsAcrossWithin across },
     pub ghost right_handed: { pos 1 ≤ℤ volume (vectors a b axis) },
     pub ghost holds_edges: { ∥ HoldsEdges (vectors a b axis) ∥₁ },
     pub ghost large: { (UNIT *ℤ UNIT *ℤ UNIT) ≤ℤ (pos MAX_RESIDUES *ℤ volume (vectors a b axis)) },
@@ -52,6 +54,8 @@ impl RodFrame {
     ghost use Rattle.std.specs.Prelude.{◌↔◌, IfOk};
     ghost use Rattle.motions.specs.declared.frame_fault.FrameFault.{FrameFault};
     ghost use Rattle.motions.specs.BasisView.{basis_of};
+    ghost use Rattle.closure.specs.Groups.{group_listing};
+    ghost use Rattle.penetration.specs.DirectionView.{direction_of};
     ghost use Rattle.penetration.specs.FrameOf.{IsRodFrameFault, IsRodFrameOf};
     ghost use Rattle.penetration.specs.RodFrameView.{basis_of_rod, IsRodMadeFor};
 
@@ -67,7 +71,8 @@ impl RodFrame {
     ) -> Result<RodFrame, FrameFault>
         ensures ok { IfOk result (IsRodFrameOf group.now direction basis) }
         ensures made { IfOk result (IsRodMadeFor group.now) }
-        ensures faults { (fault : FrameFault) → (result ≡ Err fault) ↔ IsRodFrameFault group.now direction basis fault }
+        ensures faults { (fault : FrameFault) → (result ≡ Err fault)
+            ↔ IsRodFrameFault (group_listing group.now) (direction_of direction) (parts basis.a) (parts basis.b) fault }
     {
         let axis = axis(group, &direction);
         let RodBasis { a, b } = basis;
