@@ -8,6 +8,7 @@ pub mod RodViews
 pub mod At
 pub mod Layers
 pub mod Images
+pub mod Rods
 pub mod Inputs
 pub mod Answers
 pub mod Runs

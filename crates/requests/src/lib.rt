@@ -17,6 +17,7 @@ mod outcome;
 mod refusal;
 mod request;
 mod respond;
+mod rod;
 mod rod_limits;
 mod rod_words;
 mod run;
