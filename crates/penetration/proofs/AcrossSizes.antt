@@ -1,5 +1,5 @@
 -- How large the numbers of a' and b' are: the rod operations take a and b to combinations with small coefficients.
-use Rattle.std.proofs.Common.{◌≡◌, inl, inr, ℕ, zero, suc, ◌+◌, ◌*◌, ◌<◌, ◌≤◌, ◌^◌, ℤ, pos, negsuc, ◌+ℤ◌, ◌*ℤ◌, ◌≤ℤ◌, Bool, true, false, cond, List, [], ◌∷◌, length, map, sym, ap, subst, ◌∙◌, arith, lit≤}
+use Rattle.std.proofs.Common.{◌≡◌, inl, inr, ℕ, zero, suc, ◌*◌, ◌<◌, ◌≤◌, ◌^◌, ℤ, pos, negsuc, ◌+ℤ◌, ◌*ℤ◌, ◌≤ℤ◌, Bool, true, false, cond, List, [], ◌∷◌, length, map, sym, ap, subst, ◌∙◌, arith, lit≤}
 use Rattle.std.specs.Prelude.{slice_index_or, unsigned_abs}
 use Rattle.std.proofs.lemmas.Int.{ints}
 use Rattle.std.proofs.lemmas.List.{length-map}
@@ -14,9 +14,9 @@ use Rattle.fractions.proofs.Lowest.{IsNoLarger-lowest_terms, lowest_terms-only}
 use Rattle.integers.specs.Size.{IsWithin}
 use Rattle.integers.proofs.Order.{mul_left_cancel_pos}
 use Rattle.integers.proofs.Ring.{IsWithin-add, IsWithin-more, IsWithin-mul, mul_zero}
-use Rattle.integers.proofs.Solver.{Expr.{var, num, ◌⊕◌, ◌⊗◌}, given, linear, ring}
-use Rattle.symmetry.specs.Vectors.{Vector, dot, cross, image, minus, multiple, plus}
-use Rattle.symmetry.specs.Motions.{Motion, Point}
+use Rattle.integers.proofs.Solver.{Expr.{var, num, ◌⊕◌, ◌⊗◌}, ring}
+use Rattle.symmetry.specs.Vectors.{Vector, dot, cross, image, multiple, plus}
+use Rattle.symmetry.specs.Motions.{Motion}
 use Rattle.symmetry.specs.Planes.{IsCoprime}
 use Rattle.symmetry.specs.Groups.{Listing, IsGroup}
 use Rattle.symmetry.specs.Frames.{Basis, combination, same_vector}
@@ -25,10 +25,10 @@ use Rattle.symmetry.specs.Sizes.{IsVectorWithin}
 use Rattle.motions.specs.declared.motion.Motion3.{Motion3}
 use Rattle.motions.specs.Views.{motion_of}
 use Rattle.plane_lattice.specs.Bounds.{largest_entry}
-use Rattle.plane_lattice.specs.Coordinates.{scaled, volume}
+use Rattle.plane_lattice.specs.Coordinates.{volume}
 use Rattle.plane_lattice.specs.Laws.QuotientLaws.{scaled-combination}
 use Rattle.plane_lattice.specs.Scanning.{IsPointOf}
-use Rattle.penetration.specs.RodFrames.{AreRodOperations, IsRodFrame, IsRodSkewed, coefficient, levelled, mean_along, sign_along, total_along}
+use Rattle.penetration.specs.RodFrames.{AreRodOperations, IsRodFrame, IsRodSkewed, coefficient, levelled, sign_along, total_along}
 use Rattle.penetration.specs.RodOperations.{AreAcrossFractions, ArePointsOf, IsAcrossFraction, IsAcrossWithin, keeps_along, rod_ops}
 use Rattle.penetration.proofs.MadeRodFrames.{rod_turned_near, turned_a, turned_b}
 
