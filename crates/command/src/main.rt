@@ -10,6 +10,7 @@ mod images;
 mod layers;
 mod numbers;
 mod read_words;
+mod rod;
 mod run;
 mod samples;
 #[cfg(test)]

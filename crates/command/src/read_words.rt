@@ -7,6 +7,7 @@ ghost use Rattle.requests.specs.Views.{asked_of};
 use crate::at::read_at;
 use crate::images::read_images;
 use crate::layers::read_layers;
+use crate::rod::read_rod;
 use crate::samples::read_sample;
 use crate::types::read_types;
 use requests::{Refusal, Request};
@@ -21,6 +22,7 @@ fn read_command(words: &[String]) -> Option<Result<Request, Refusal>>
             "at" => read_at(arguments),
             "layers" => read_layers(arguments),
             "images" => read_images(arguments),
+            "rod" => read_rod(arguments),
             "types" => read_types(arguments),
             "sample" => read_sample(arguments),
             _ => None,
@@ -32,7 +34,8 @@ fn read_command(words: &[String]) -> Option<Result<Request, Refusal>>
 /// The request that the words are.
 ///
 /// The refusals, in this order: `Usage`, the words are no request; `FourIndex`, i is not -(h+k); `OutOfRange`, `AllZero`, `NotCoprime`, the indices
-/// are no Miller indices; `FrameLimit`, `HeightLimit`, an entry of the frame or the height is out of range.
+/// are no Miller indices, or those of a direction; `FrameLimit`, `HeightLimit`, `PointLimit`, an entry of the frame, the height or a
+/// coordinate of the point is out of range.
 pub fn read_words(words: &[String]) -> Result<Request, Refusal>
     ensures is { result_map asked_of result ≡ asked_by (map string_bytes words.now) }
     ensures range { IfOk result (λ request. IsAskedInRange (asked_of request)) }

@@ -4,6 +4,7 @@ pub mod Numerals
 pub mod ThirdIndices
 pub mod PlaneFaults
 pub mod EntrySizes
+mod RodFrames
 pub mod OneAnswer
 pub mod GroupAnswers
 pub mod Reading

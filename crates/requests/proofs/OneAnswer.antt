@@ -21,9 +21,10 @@ use Rattle.triplets.proofs.OneFault.{one_flag, one_listing, one_fault, no_listin
 use Rattle.requests.specs.declared.refusal.Refusal.{Refusal}
 use Rattle.requests.specs.declared.obstacle.Obstacle.TheVariants as obstacles
 use Rattle.requests.specs.Obstacles.{IsFairFrame, RefusesFrame, obstacle_of_generators, obstacle_of_group, refusal_of_frame}
-use Rattle.requests.specs.Questions.{Asked, Question, at_height, all_heights, image_rows, IsRequest, IsWordsRefusal}
+use Rattle.requests.specs.Questions.{Asked, Question, at_height, all_heights, image_rows, along_line, IsRequest, IsWordsRefusal}
 use Rattle.requests.specs.Inputs.{Cause, too_long, of_text, of_group, of_generators, IsCause, IsGeneratedBy, IsShort, ListsGroup, obstacle_of}
 use Rattle.requests.specs.Answers.{Answers, AnswersInput, IsFair, IsFairInput, RefusesInput, RefusesQuestion}
+use Rattle.requests.proofs.RodFrames.{answered_rod_fair, one_rod_refusal, rod_frame_holds}
 
 -- ---- words
 
@@ -104,17 +105,20 @@ one_question_refusal : (g : Listing) (question : Question) (r r' : Refusal) → 
 one_question_refusal g (at_height row basis s) r r' p q = one_frame_refusal g row basis r r' p q
 one_question_refusal g (all_heights row basis form) r r' p q = one_frame_refusal g row basis r r' p q
 one_question_refusal g (image_rows row) r r' p q = p.1 ∙ sym q.1
+one_question_refusal g (along_line u a b point) r r' p q = one_rod_refusal g u a b r r' p q
 
 fair_and_question_refusal : (g : Listing) (question : Question) (r : Refusal) → IsFair g question → RefusesQuestion g question r → ⊥
 fair_and_question_refusal g (at_height row basis s) r fair p = frame_holds g row basis p.0 fair p.1
 fair_and_question_refusal g (all_heights row basis form) r fair p = frame_holds g row basis p.0 fair p.1
 fair_and_question_refusal g (image_rows row) r fair p = fair p.0
+fair_and_question_refusal g (along_line u a b point) r fair p = rod_frame_holds g u a b p.0 fair p.1
 
 -- what is answered may be asked
 answered_fair : (g : Listing) (question : Question) (text : List ℕ) → Answers g question text → IsFair g question
 answered_fair g (at_height row basis s) text answer = answer.frame
 answered_fair g (all_heights row basis form) text answer = answer.frame
 answered_fair g (image_rows row) text answer = answer.not_wide
+answered_fair g (along_line u a b point) text answer = answered_rod_fair g u a b point text answer
 
 -- ---- over an input
 

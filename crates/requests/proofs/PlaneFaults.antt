@@ -11,7 +11,6 @@ use Rattle.fractions.proofs.Gcd.{IsGcd-gcd}
 use Rattle.symmetry.specs.Vectors.{Vector}
 use Rattle.symmetry.specs.Sizes.{IsVectorWithin}
 use Rattle.motions.specs.declared.index.TheConstants.{INDEX}
-use Rattle.motions.specs.declared.miller.Miller.{Miller}
 use Rattle.motions.specs.declared.plane_fault.PlaneFault.{PlaneFault}
 use Rattle.motions.specs.declared.plane_fault.PlaneFault.TheVariants.{OutOfRange}
 use Rattle.motions.specs.PlaneFaults.{IsPlaneFault}
@@ -49,11 +48,11 @@ module _ (row : Vector) where
       let three = IsGcd-gcd (gcd (unsigned_abs row.x) (unsigned_abs row.y)) (unsigned_abs row.z) in
       tells (are_small_indices row) _ small (greatest_of_three row refl refl refl two three)
 
-  pub fault_is : (r : Result Miller PlaneFault) → ((fault : PlaneFault) → (r ≡ Err fault) ↔ IsPlaneFault row fault) → result_err r ≡ plane_fault row
-  fault_is r faults = by (plane_fault row) r found faults
+  pub fault_is : {A : Type 0} (r : Result A PlaneFault) → ((fault : PlaneFault) → (r ≡ Err fault) ↔ IsPlaneFault row fault) → result_err r ≡ plane_fault row
+  fault_is {A} r faults = by (plane_fault row) r found faults
     where
-      by : (o : Option PlaneFault) (r : Result Miller PlaneFault) → Tells o → ((fault : PlaneFault) → (r ≡ Err fault) ↔ IsPlaneFault row fault) → result_err r ≡ o
-      by None (Ok plane) h faults = refl
-      by (Some f) (Ok plane) h faults = let e = (faults f).1 h in absurd cc
+      by : (o : Option PlaneFault) (r : Result A PlaneFault) → Tells o → ((fault : PlaneFault) → (r ≡ Err fault) ↔ IsPlaneFault row fault) → result_err r ≡ o
+      by None (Ok made) h faults = refl
+      by (Some f) (Ok made) h faults = let e = (faults f).1 h in absurd cc
       by None (Err e) h faults = absurd (h e ((faults e).0 refl))
       by (Some f) (Err e) h faults = let is = (faults f).1 h in ap Some cc

@@ -2,9 +2,13 @@ pub mod Words
 pub mod Limits
 pub mod Questions
 pub mod Views
+pub mod RodWords
+pub mod RodLimits
+pub mod RodViews
 pub mod At
 pub mod Layers
 pub mod Images
+pub mod Rods
 pub mod Inputs
 pub mod Answers
 pub mod Runs

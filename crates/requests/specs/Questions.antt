@@ -3,17 +3,21 @@ use Rattle.std.specs.Prelude.{◌≡◌, ◌≤◌, ℕ, Result, Ok, Err}
 use Rattle.fractions.specs.Fraction.{Fraction}
 use Rattle.symmetry.specs.Vectors.{Vector}
 use Rattle.symmetry.specs.Frames.{Basis}
+use Rattle.symmetry.specs.Sizes.{IsVectorWithin}
+use Rattle.plane_lattice.specs.Bounds.{largest_entry}
 use Rattle.report.specs.declared.kind.Kind.{Kind}
 use Rattle.report.specs.TypeNumbers.{IsTypeNumber}
 use Rattle.requests.specs.declared.form.Form.{Form}
 use Rattle.requests.specs.declared.refusal.Refusal.{Refusal}
 use Rattle.requests.specs.Limits.{IsHeightInRange}
 
--- what is asked of a group: the operations at one height, those at all heights, or the images of an orientation
+-- what is asked of a group: the operations at one height, those at all heights, the images of an orientation, or the operations
+-- along a line through a point
 pub data Question : Type 0 where
   at_height : (row : Vector) (basis : Basis) (height : Fraction) → Question
   all_heights : (row : Vector) (basis : Basis) (form : Form) → Question
   image_rows : (row : Vector) → Question
+  along_line : (direction a b point : Vector) → Question
 
 -- what is asked without an input: the table of a type, or the counts of a sample
 pub data Table : Type 0 where
@@ -25,9 +29,10 @@ pub data Asked : Type 0 where
   about : (question : Question) → Asked
   tabulate : (table : Table) → Asked
 
--- the height is within its limits
+-- the height is within its limits, or each coordinate of the point
 abbrev pub IsQuestionInRange : Question → Type 0
 IsQuestionInRange (at_height row basis height) = IsHeightInRange height
+IsQuestionInRange (along_line direction a b point) = IsVectorWithin largest_entry point
 IsQuestionInRange _ = Unit {0}
 
 -- the number is one of the kind, or from 1 to 400

@@ -4,7 +4,7 @@ use Rattle.std.specs.Fmt.{signed_decimal}
 use Rattle.triplets.specs.declared.fault.TextKind.{TextKind}
 use Rattle.triplets.specs.declared.fault.TextKind.TheVariants.{UnknownSign, Repeated, Coefficient, Denominator, MissingPart, ExtraPart, Empty}
 use Rattle.requests.specs.declared.refusal.Refusal.{Refusal}
-use Rattle.requests.specs.declared.refusal.Refusal.TheVariants.{Usage, FourIndex, OutOfRange, AllZero, NotCoprime, FrameLimit, HeightLimit, TooLong, Text, TooMany, TooFine, NoIdentity, ShiftMoved, NotClosed, NoInverse, TooLarge, NotFrame, SkewFrame, Wide}
+use Rattle.requests.specs.declared.refusal.Refusal.TheVariants.{Usage, FourIndex, OutOfRange, AllZero, NotCoprime, FrameLimit, HeightLimit, PointLimit, TooLong, Text, TooMany, TooFine, NoIdentity, ShiftMoved, NotClosed, NoInverse, TooLarge, NotFrame, SkewFrame, Wide}
 
 -- the printed name of a kind of faults of a text
 abbrev pub kind_text : TextKind → List ℕ
@@ -25,6 +25,7 @@ refusal_text AllZero = codes "refused: all indices are zero"
 refusal_text (NotCoprime divisor) = codes "refused: common divisor " ++ signed_decimal divisor
 refusal_text FrameLimit = codes "refused: frame entry out of range"
 refusal_text HeightLimit = codes "refused: height too large"
+refusal_text PointLimit = codes "refused: point out of range"
 refusal_text TooLong = codes "refused: input too long"
 refusal_text (Text line column kind) = codes "refused: line " ++ decimal line ++ codes " column " ++ decimal column ++ codes " " ++ kind_text kind
 refusal_text (TooMany count) = codes "refused: " ++ decimal count ++ codes " operations"

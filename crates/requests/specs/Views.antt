@@ -3,8 +3,9 @@ use Rattle.std.specs.Prelude.{ℕ}
 use Rattle.std.specs.Option.{option_map}
 use Rattle.fractions.specs.FractionOf.{fraction_of}
 use Rattle.fractions.specs.declared.ratio.Ratio.{Ratio}
-use Rattle.motions.specs.Views.{row_of}
+use Rattle.motions.specs.Views.{parts, row_of}
 use Rattle.motions.specs.BasisView.{basis_of}
+use Rattle.penetration.specs.DirectionView.{direction_of}
 use Rattle.requests.specs.declared.words.VectorWord.{VectorWord}
 use Rattle.requests.specs.declared.words.FrameWord.{FrameWord}
 use Rattle.requests.specs.declared.words.IndexWords.{IndexWords}
@@ -18,7 +19,7 @@ use Rattle.requests.specs.declared.request.Request.{Request}
 use Rattle.requests.specs.declared.request.Request.TheVariants as requests
 use Rattle.requests.specs.Words.{Fractions, FrameWords, Indices, Placed}
 use Rattle.requests.specs.Limits.{PlaneWords, Planes}
-use Rattle.requests.specs.Questions.{Question, Table, Asked, at_height, all_heights, image_rows, of_type, of_sample, about, tabulate}
+use Rattle.requests.specs.Questions.{Question, Table, Asked, at_height, all_heights, image_rows, along_line, of_type, of_sample, about, tabulate}
 
 -- a ratio, and the place behind it
 abbrev pub placed : Ratio × ℕ → Placed
@@ -49,6 +50,7 @@ abbrev pub question_of : ReadQuestion → Question
 question_of (questions.At plane basis s) = at_height (row_of plane) (basis_of basis) (fraction_of s)
 question_of (questions.Layers plane basis form) = all_heights (row_of plane) (basis_of basis) form
 question_of (questions.Images plane) = image_rows (row_of plane)
+question_of (questions.Rod direction basis point) = along_line (direction_of direction) (parts basis.a) (parts basis.b) (parts point)
 
 -- what a table asks
 abbrev pub table_of : ReadTable → Table

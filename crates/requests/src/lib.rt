@@ -17,6 +17,9 @@ mod outcome;
 mod refusal;
 mod request;
 mod respond;
+mod rod;
+mod rod_limits;
+mod rod_words;
 mod run;
 mod tables;
 mod words;
@@ -29,6 +32,8 @@ pub use obstacle::Obstacle;
 pub use outcome::Outcome;
 pub use refusal::Refusal;
 pub use request::{Question, Request, Table};
+pub use rod_limits::{Line, LineWords, within_line_limits};
+pub use rod_words::{DirectionWord, RodFrameWord, split_direction, split_point, split_rod_frame};
 pub use run::{carry_out, refuse};
 pub use words::{
     FrameWord, IndexWords, VectorWord, split_form, split_frame, split_indices, split_ratio,

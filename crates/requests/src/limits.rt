@@ -49,7 +49,7 @@ fn entry_in_parts(entry: Ratio) -> Option<Part>
 }
 
 /// A frame vector in parts, if its entries are in range.
-fn vector_in_parts(v: &VectorWord) -> Option<[Part; 3]>
+pub fn vector_in_parts(v: &VectorWord) -> Option<[Part; 3]>
     ensures value { option_map parts result ≡ vector_parts (fractions_of v.now) }
     ensures small { IfSome result (λ vector. IsVectorWithin (1000 * unsigned_abs UNIT) (parts vector)) }
 {
@@ -70,7 +70,7 @@ fn frame_in_parts(frame: &FrameWord) -> Option<Basis>
 }
 
 /// The three cell edges.
-fn edges() -> Basis
+pub fn edges() -> Basis
     ensures { basis_of result ≡ edges_basis }
 {
     let edge = Part(UNIT);
@@ -137,7 +137,7 @@ pub struct Planes {
 }
 
 /// The refusal of indices that are no Miller indices.
-fn refusal_of(fault: PlaneFault) -> Refusal
+pub fn refusal_of(fault: PlaneFault) -> Refusal
     ensures { result ≡ plane_refusal fault }
 {
     match fault {

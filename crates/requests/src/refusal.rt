@@ -23,6 +23,9 @@ pub enum Refusal {
     FrameLimit,
     /// In lowest terms the numerator or the denominator of the height is above 10^9 in size.
     HeightLimit,
+    /// A coordinate of a point of a line has a denominator that does not divide [`UNIT`](fractions::UNIT), or is above 1,000
+    /// in size.
+    PointLimit,
     /// The input is longer than it may be.
     TooLong,
     /// The first bad line of the input, the column of its fault (both from 1) and what is wrong there.
@@ -68,6 +71,7 @@ impl fmt::Display for Refusal {
             Refusal::NotCoprime(divisor) => write!(f, "refused: common divisor {divisor}"),
             Refusal::FrameLimit => write!(f, "refused: frame entry out of range"),
             Refusal::HeightLimit => write!(f, "refused: height too large"),
+            Refusal::PointLimit => write!(f, "refused: point out of range"),
             Refusal::TooLong => write!(f, "refused: input too long"),
             Refusal::Text { line, column, kind } => {
                 let name = kind_name(kind);

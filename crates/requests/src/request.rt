@@ -1,7 +1,8 @@
 // What the words ask for, within the limits.
 use crate::form::Form;
-use fractions::Ratio;
+use fractions::{Part, Ratio};
 use motions::{Basis, Miller};
+use penetration::{Direction, RodBasis};
 use report::Kind;
 
 /// What is asked of a group.
@@ -22,6 +23,12 @@ pub enum Question {
     /// The images of the orientation.
     Images {
         plane: Miller,
+    },
+    /// The operations that map the line through the point to itself, and their rod type, in the rod frame given.
+    Rod {
+        direction: Direction,
+        basis: RodBasis,
+        point: [Part; 3],
     },
 }
 

@@ -12,6 +12,7 @@ use crate::images::orientations_text;
 use crate::layers::heights_text;
 use crate::obstacle::Obstacle;
 use crate::request::Question;
+use crate::rod::along_line_text;
 use closure::Group;
 use std::alloc::Global;
 
@@ -26,5 +27,10 @@ pub fn respond(alloc: Global, question: &Question, group: &Group) -> Result<Vec<
         Question::At { plane, basis, s } => height_text(alloc, group, plane, basis, s),
         Question::Layers { plane, basis, form } => heights_text(alloc, group, plane, basis, form),
         Question::Images { plane } => orientations_text(alloc, group, plane),
+        Question::Rod {
+            direction,
+            basis,
+            point,
+        } => along_line_text(alloc, group, direction, basis, point),
     }
 }

@@ -129,7 +129,7 @@ pub fn split_ratio(words: &[String]) -> Option<(Ratio, &[String])>
 }
 
 /// The first word as a vector, and the words behind it.
-fn split_vector(words: &[String]) -> Option<(VectorWord, &[String])>
+pub fn split_vector(words: &[String]) -> Option<(VectorWord, &[String])>
     ensures { option_map (λ r. (fractions_of r.0, map string_bytes r.1.now)) result
         ≡ first_word vector_word (map string_bytes words.now) }
 {

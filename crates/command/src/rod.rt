@@ -1,0 +1,46 @@
+// `rod`: the operations that map one line to itself, and their rod type.
+ghost use Rattle.std.specs.Prelude.{◌≡◌, IfOk, IfSome, map, option_map, string_bytes};
+ghost use Rattle.requests.specs.Questions.{IsAskedInRange, result_map};
+ghost use Rattle.requests.specs.RodViews.{line_words};
+ghost use Rattle.requests.specs.Views.{asked_of};
+ghost use Rattle.command.specs.Rods.{rod_asked, rod_words};
+
+use requests::{
+    Line, LineWords, Question, Refusal, Request, split_direction, split_point, split_rod_frame,
+    within_line_limits,
+};
+
+/// What the words behind `rod` ask for, or the first limit that they pass: `u v w x y z`, and a rod frame behind it.
+pub fn read_rod(arguments: &[String]) -> Option<Result<Request, Refusal>>
+    ensures is { option_map (λ read. result_map asked_of read) result ≡ rod_words (map string_bytes arguments.now) }
+    ensures range { IfSome result (λ read. IfOk read (λ request. IsAskedInRange (asked_of request))) }
+{
+    let (direction, others) = split_direction(arguments)?;
+    let (point, others) = split_point(others)?;
+    let (frame, others) = split_rod_frame(others)?;
+    match others {
+        [] => Some(line_request(LineWords {
+            direction,
+            frame,
+            point,
+        })),
+        _ => None,
+    }
+}
+
+/// The request of a line, if the words are within the limits.
+fn line_request(words: LineWords) -> Result<Request, Refusal>
+    ensures is { result_map asked_of result ≡ rod_asked (line_words words) }
+    ensures range { IfOk result (λ request. IsAskedInRange (asked_of request)) }
+{
+    let Line {
+        direction,
+        basis,
+        point,
+    } = within_line_limits(words)?;
+    Ok(Request::About(Question::Rod {
+        direction,
+        basis,
+        point,
+    }))
+}
