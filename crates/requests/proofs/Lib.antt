@@ -4,6 +4,8 @@ pub mod Numerals
 pub mod ThirdIndices
 pub mod PlaneFaults
 pub mod EntrySizes
+pub mod CifFiles
+pub mod OneCause
 pub mod OneAnswer
 pub mod GroupAnswers
 pub mod Reading

@@ -2,6 +2,7 @@
 ghost use Rattle.std.specs.Prelude.{◌≡◌};
 ghost use Rattle.requests.specs.Refusals.{kind_text};
 
+use crate::cif_kind::CifKind;
 use std::fmt;
 use triplets::TextKind;
 
@@ -30,6 +31,14 @@ pub enum Refusal {
         line: u32,
         column: u32,
         kind: TextKind,
+    },
+    /// No data name of symmetry operations stands in the CIF file, each quoted word and text field of which has its end.
+    NoSymops,
+    /// The line and the column of the first fault of the CIF file (both from 1), and what is wrong there.
+    Cif {
+        line: u32,
+        column: u32,
+        kind: CifKind,
     },
     /// How many operations are listed, which are too many.
     TooMany(usize),
@@ -73,6 +82,10 @@ impl fmt::Display for Refusal {
                 let name = kind_name(kind);
                 write!(f, "refused: line {line} column {column} {name}")
             }
+            Refusal::NoSymops => write!(f, "refused: no symmetry operations"),
+            Refusal::Cif { line, column, kind } => {
+                write!(f, "refused: cif line {line} column {column} {kind}")
+            }
             Refusal::TooMany(count) => write!(f, "refused: {count} operations"),
             Refusal::TooFine => write!(f, "refused: lattice too fine"),
             Refusal::NoIdentity => write!(f, "refused: no identity"),
@@ -88,7 +101,7 @@ impl fmt::Display for Refusal {
 }
 
 // The printed name of a kind of fault.
-fn kind_name(kind: TextKind) -> &'static str
+pub(crate) fn kind_name(kind: TextKind) -> &'static str
     ensures { result.now ≡ kind_text kind }
 {
     match kind {
