@@ -1,4 +1,4 @@
-// The program: words and a group text in, the answer or the line of one refusal out.
+// The program: words and a group text or a CIF file in, the answer or the line of one refusal out.
 //
 // Promises to its user: the contract of `run`, over the words, the standard streams and the status of the process.
 #![tactic(auto)]

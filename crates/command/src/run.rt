@@ -7,7 +7,7 @@ ghost use Rattle.requests.specs.declared.refusal.Refusal.{Refusal};
 ghost use Rattle.requests.specs.Answers.{HasOutput, IsInput, IsInputRefusal};
 ghost use Rattle.requests.specs.Causes.{IsRefusedOr};
 ghost use Rattle.requests.specs.Questions.{Asked, AsksInput, IsRequest, IsWordsRefusal};
-ghost use Rattle.requests.specs.Runs.{Complains, FitsIn, HasCause, LeavesOut, OffersLine, OffersOut, ReadsWhole, Refuses, Succeeds};
+ghost use Rattle.requests.specs.Runs.{Complains, FitsIn, HasCause, LeavesOut, OffersLine, OffersOut, ReadsWhole, Refuses, Succeeds, most_read};
 ghost use Rattle.command.specs.Requests.{asked_by};
 
 use crate::read_words::read_words;
@@ -60,7 +60,8 @@ pub fn run<S: Source, K: Sink, E: Sink>(
     // Else it is read to its end, but where it is too long or a step before gave up.
     ensures whole { AsksInput (asked_by (map string_bytes words.now)) → ReadsWhole result → IsAtEnd (S.left source.new) }
     // At most one byte more than an input may have is read.
-    ensures within { ReadsWithin (S.left source.old) (S.left source.new) 65537 }
+    ensures within { ReadsWithin (S.left source.old) (S.left source.new)
+        (most_read (asked_by (map string_bytes words.now))) }
 {
     carry_out(alloc, read_words(words), source, out, complaints)
 }

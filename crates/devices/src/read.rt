@@ -10,7 +10,7 @@ use crate::traits::{Failed, Source};
 use std::alloc::{AllocError, Global};
 
 // A call of `next` is asked for at most so many bytes.
-const PIECE: usize = 4096;
+const PIECE: usize = 65_536;
 
 /// What a source gave up to its end.
 #[derive(Debug, PartialEq, Eq, Drop)]
@@ -48,6 +48,7 @@ impl From<AllocError> for ReadFault {
 
 /// Reads a source to its end, but at most one byte beyond the limit. `TooLong` comes exactly where the source gave
 /// more than `limit` bytes, and `Failed` only where its count of faults rose. Each turn takes a byte, or is the last.
+/// Room for `limit` bytes is reserved at once; `NoMemory` comes where there is not so much.
 pub fn read_all<S: Source>(alloc: Global, source: &mut S, limit: usize) -> Result<Input, ReadFault>
     ensures whole { IfOk result (λ input. IfWhole input (λ bytes.
         IfSome (S.left source.old) (λ all. bytes ≡ all))) }
@@ -60,7 +61,8 @@ pub fn read_all<S: Source>(alloc: Global, source: &mut S, limit: usize) -> Resul
     ensures failed { IsErrOf result ReadFault.Failed → Rose (S.faults source.old) (S.faults source.new) }
     ensures steady { S.NeverFails source.old → (result ≢ Err ReadFault.Failed) × S.NeverFails source.new }
 {
-    let mut bytes = Vec::new(alloc);
+    // Memory that is not written costs nothing, and bytes that are not moved are held once.
+    let mut bytes = Vec::with_capacity(alloc, limit)?;
     let mut piece = [0; PIECE];
     loop {
         let room = limit - bytes.len();

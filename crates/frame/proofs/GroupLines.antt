@@ -4,6 +4,7 @@ use Rattle.symmetry.specs.Vectors.{Vector}
 use Rattle.symmetry.specs.Groups.{Listing}
 use Rattle.closure.specs.declared.group.Group.{Group}
 use Rattle.closure.specs.Groups.{IsGroupOf}
+use Rattle.requests.specs.declared.format.Format.{Format}
 use Rattle.requests.specs.declared.obstacle.Obstacle.{Obstacle}
 use Rattle.requests.specs.declared.obstacle.Obstacle.TheVariants as obstacles
 use Rattle.requests.specs.declared.refusal.Refusal.{Refusal}
@@ -12,13 +13,14 @@ use Rattle.frame.specs.Answers.{IsFrameAnswer}
 use Rattle.frame.specs.Causes.{HasAnswer, IsGroupsObstacle, IsObstacle}
 use Rattle.frame.specs.Runs.{AsksRow}
 
-module _ (read : Result Vector Refusal) (row : Vector) (asks : AsksRow read row) (left : Option (List ℕ))
-    (group : Group) (is_of : (input : List ℕ) → left ≡ Some input → IsGroupOfInput input group) where
+module _ (read : Result (Vector × Format) Refusal) (row : Vector) (format : Format) (asks : AsksRow read row format) (left : Option (List ℕ))
+    (group : Group) (is_of : (input : List ℕ) → left ≡ Some input → IsGroupOfInput format input group) where
   pub answered : (result : Result (Vec ℕ Global) Obstacle)
       → IfOk result (λ text. (g : Listing) → IsGroupOf g group → IsFrameAnswer g row text.items)
       → IfOk result (λ text. HasAnswer read left text.items)
   answered (Ok text) answers = record {
     row = row;
+    format = format;
     asks = asks;
     answers = λ input is.
         let of = is_of input is in
@@ -30,7 +32,7 @@ module _ (read : Result Vector Refusal) (row : Vector) (asks : AsksRow read row)
       → IfErr result (IsGroupsObstacle group row) → IfErr result (IsObstacle read left faults faults')
   kept_from_answer (Ok text) faults faults' same o = tt
   kept_from_answer (Err (obstacles.Refused r)) faults faults' same o = (
-    inr (row, asks, λ input is. let of = is_of input is in inr (of.short, of.some, λ g lists. o g (of.is_of g lists))),
+    inr (row, format, asks, λ input is. let of = is_of input is in inr (of.short, of.some, λ g lists. o g (of.is_of g lists))),
     same,
   )
   kept_from_answer (Err obstacles.ReadFault) faults faults' same o = absurd o

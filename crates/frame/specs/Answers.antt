@@ -8,6 +8,7 @@ use Rattle.reduction.specs.ReducedFrames.{IsInRange, IsReductionFault}
 use Rattle.reduction.specs.declared.reduction_fault.ReductionFault.{ReductionFault}
 use Rattle.reduction.specs.declared.reduction_fault.ReductionFault.TheVariants.{OutOfRange, Skewed}
 use Rattle.report.specs.Texts.{frame_line}
+use Rattle.requests.specs.declared.format.Format.{Format}
 use Rattle.requests.specs.declared.refusal.Refusal.{Refusal}
 use Rattle.requests.specs.declared.refusal.Refusal.TheVariants.{FrameLimit, SkewFrame}
 use Rattle.requests.specs.Inputs.{IsRefusedInput, IsShort, ListsGroup, ListsSome}
@@ -34,14 +35,14 @@ RefusesReduced g row refusal = (fault : ReductionFault) × IsReductionFault g ro
 -- ---- of an input
 
 -- the text is the line of a frame of the group that the input lists
-pub record AnswersInput (row : Vector) (input text : List ℕ) : Type 0 where
-  pub short : IsShort input
+pub record AnswersInput (format : Format) (row : Vector) (input text : List ℕ) : Type 0 where
+  pub short : IsShort format input
   pub group : Listing
-  pub lists : ListsGroup input group
+  pub lists : ListsGroup format input group
   pub answers : IsFrameAnswer group row text
 
 -- why there is none: the input gives no group, or one whose reduced frame is refused
-abbrev pub RefusesInput : Vector → List ℕ → Refusal → Type 0
-RefusesInput row input refusal =
-    IsRefusedInput input refusal
-    ⊎ (IsShort input × ListsSome input × ((g : Listing) → ListsGroup input g → RefusesReduced g row refusal))
+abbrev pub RefusesInput : Format → Vector → List ℕ → Refusal → Type 0
+RefusesInput format row input refusal =
+    IsRefusedInput format input refusal
+    ⊎ (IsShort format input × ListsSome format input × ((g : Listing) → ListsGroup format input g → RefusesReduced g row refusal))

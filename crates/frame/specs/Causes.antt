@@ -5,6 +5,7 @@ use Rattle.symmetry.specs.Groups.{Listing}
 use Rattle.devices.specs.Calls.{Rose}
 use Rattle.closure.specs.declared.group.Group.{Group}
 use Rattle.closure.specs.Groups.{IsGroupOf}
+use Rattle.requests.specs.declared.format.Format.{Format}
 use Rattle.requests.specs.declared.obstacle.Obstacle.{Obstacle}
 use Rattle.requests.specs.declared.obstacle.Obstacle.TheVariants as obstacles
 use Rattle.requests.specs.declared.refusal.Refusal.{Refusal}
@@ -18,13 +19,14 @@ IsGroupsObstacle group row obstacles.ReadFault = ⊥
 IsGroupsObstacle group row obstacles.NoMemory = Unit {0}
 
 -- the words ask for a row, and the text is the line of its frame over the input
-pub record HasAnswer (read : Result Vector Refusal) (left : Option (List ℕ)) (text : List ℕ) : Type 0 where
+pub record HasAnswer (read : Result (Vector × Format) Refusal) (left : Option (List ℕ)) (text : List ℕ) : Type 0 where
   pub row : Vector
-  pub asks : AsksRow read row
-  pub answers : (input : List ℕ) → left ≡ Some input → AnswersInput row input text
+  pub format : Format
+  pub asks : AsksRow read row format
+  pub answers : (input : List ℕ) → left ≡ Some input → AnswersInput format row input text
 
 -- what keeps the words from a frame; the count of faults rose where the source failed alone
-abbrev pub IsObstacle : Result Vector Refusal → Option (List ℕ) → ℕ → ℕ → Obstacle → Type 0
+abbrev pub IsObstacle : Result (Vector × Format) Refusal → Option (List ℕ) → ℕ → ℕ → Obstacle → Type 0
 IsObstacle read left faults faults' (obstacles.Refused refusal) = IsCause read left refusal × (faults' ≡ faults)
 IsObstacle read left faults faults' obstacles.ReadFault = Rose faults faults'
 IsObstacle read left faults faults' obstacles.NoMemory = faults' ≡ faults

@@ -5,13 +5,14 @@ ghost use Rattle.devices.specs.Transfers.{ReadsWithin};
 ghost use Rattle.symmetry.specs.Groups.{Listing};
 ghost use Rattle.symmetry.specs.Vectors.{Vector};
 ghost use Rattle.requests.specs.declared.outcome.Outcome.TheVariants as outcomes;
+ghost use Rattle.requests.specs.declared.format.Format.{Format};
 ghost use Rattle.requests.specs.declared.refusal.Refusal.{Refusal};
 ghost use Rattle.requests.specs.Causes.{IsReadWhole, IsRefusedOr};
 ghost use Rattle.requests.specs.Inputs.{IsRefusedInput, IsShort, ListsGroup};
 ghost use Rattle.requests.specs.Runs.{Complains, ReadsWhole, Refuses};
 ghost use Rattle.frame.specs.Words.{asked_by};
 ghost use Rattle.frame.specs.Causes.{HasAnswer, IsObstacle};
-ghost use Rattle.frame.specs.Runs.{AsksRow, FitsIn, GivesFrame, HasCause, LeavesOut, RefusesWords};
+ghost use Rattle.frame.specs.Runs.{AsksRow, FitsIn, GivesFrame, HasCause, LeavesOut, RefusesWords, most_read};
 
 use crate::reduced_line::reduced_line;
 use crate::words::read_words;
@@ -41,13 +42,13 @@ pub fn run<S: Source, K: Sink, E: Sink>(
     ensures refuses_words { (refusal : Refusal) → RefusesWords (asked_by (map string_bytes words.now)) refusal →
         IsRefusedOr refusal result }
     // An input that is too long, badly written or no group is refused: the first that applies.
-    ensures refuses_input { (row : Vector) (input : List ℕ) (refusal : Refusal) →
-        AsksRow (asked_by (map string_bytes words.now)) row → S.left source.old ≡ Some input →
-        IsRefusedInput input refusal → Refuses refusal result }
+    ensures refuses_input { (row : Vector) (format : Format) (input : List ℕ) (refusal : Refusal) →
+        AsksRow (asked_by (map string_bytes words.now)) row format → S.left source.old ≡ Some input →
+        IsRefusedInput format input refusal → Refuses refusal result }
     // A group has a reduced frame, which is written, or refused where it is out of range or skewed.
-    ensures answers { (row : Vector) (input : List ℕ) (g : Listing) →
-        AsksRow (asked_by (map string_bytes words.now)) row → S.left source.old ≡ Some input →
-        IsShort input → ListsGroup input g →
+    ensures answers { (row : Vector) (format : Format) (input : List ℕ) (g : Listing) →
+        AsksRow (asked_by (map string_bytes words.now)) row format → S.left source.old ≡ Some input →
+        IsShort format input → ListsGroup format input g →
         GivesFrame g row result (S.faults source.old) (S.faults source.new) (K.faults out.old) (K.faults out.new) }
     // A source that never fails gives no fault.
     ensures steady_source { S.NeverFails source.old → result ≢ outcomes.ReadFault }
@@ -58,10 +59,11 @@ pub fn run<S: Source, K: Sink, E: Sink>(
     ensures untouched { (refusal : Refusal) → RefusesWords (asked_by (map string_bytes words.now)) refusal →
         source.new ≡ source.old }
     // Else it is read to its end, but where it is too long or a step before gave up.
-    ensures whole { (row : Vector) → AsksRow (asked_by (map string_bytes words.now)) row → ReadsWhole result →
-        IsAtEnd (S.left source.new) }
+    ensures whole { (row : Vector) (format : Format) → AsksRow (asked_by (map string_bytes words.now)) row format →
+        ReadsWhole result → IsAtEnd (S.left source.new) }
     // At most one byte more than an input may have is read.
-    ensures within { ReadsWithin (S.left source.old) (S.left source.new) 65537 }
+    ensures within { ReadsWithin (S.left source.old) (S.left source.new)
+        (most_read (asked_by (map string_bytes words.now))) }
 {
     match answer(alloc, words, source) {
         Ok(line) => match put_all(out, &line) {
@@ -84,11 +86,12 @@ fn answer<S: Source>(alloc: Global, words: &[String], source: &mut S) -> Result<
     ensures steady { S.NeverFails source.old → result ≢ Err Obstacle.ReadFault }
     ensures refused { (refusal : Refusal) → RefusesWords (asked_by (map string_bytes words.now)) refusal →
         (source.new ≡ source.old) × (result ≡ Err (Obstacle.Refused refusal)) }
-    ensures whole { (row : Vector) → AsksRow (asked_by (map string_bytes words.now)) row → IsReadWhole result →
-        IsAtEnd (S.left source.new) }
-    ensures within { ReadsWithin (S.left source.old) (S.left source.new) 65537 }
+    ensures whole { (row : Vector) (format : Format) → AsksRow (asked_by (map string_bytes words.now)) row format →
+        IsReadWhole result → IsAtEnd (S.left source.new) }
+    ensures within { ReadsWithin (S.left source.old) (S.left source.new)
+        (most_read (asked_by (map string_bytes words.now))) }
 {
-    let plane = read_words(words)?;
-    let group = group_of(alloc, source)?;
+    let (plane, format) = read_words(words)?;
+    let group = group_of(alloc, source, format)?;
     reduced_line(alloc, &group, plane)
 }

@@ -78,6 +78,14 @@ fn four_indices_are_taken(rt: HostRuntime) -> Result<(), Fail> {
 }
 
 #[test]
+fn a_cif_file_is_read_where_the_last_word_says_so(rt: HostRuntime) -> Result<(), Fail> {
+    let file = b"loop_ _symmetry_equiv_pos_as_xyz x,y,z -x,-y,-z";
+    let read = run_whole(&rt, &["1", "0", "0", "--cif"], file)?;
+    assert!(rt; read.ended(Outcome::Done, b"0,0,1 0,-1,0 1,0,0\n", b""));
+    Ok(())
+}
+
+#[test]
 fn words_are_refused_as_layers_refuses_them(rt: HostRuntime) -> Result<(), Fail> {
     let further = run_whole(&rt, &["0", "0", "0", "1", "0"], INVERSION)?;
     let usage = Outcome::Refused(Refusal::Usage);

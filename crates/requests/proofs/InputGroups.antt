@@ -10,15 +10,16 @@ use Rattle.closure.proofs.DerivedListings.{derived_within}
 use Rattle.closure.proofs.OneGroup.{group_of_derived}
 use Rattle.triplets.specs.Texts.{IsGroupText}
 use Rattle.triplets.proofs.OneFault.{one_flag, one_listing}
+use Rattle.requests.specs.declared.format.Format.TheVariants.{GroupText}
 use Rattle.requests.specs.Inputs.{IsGeneratedBy, IsGroupOfInput, IsShort}
 
-module _ (input : List ℕ) (group : Group) (short : IsShort input) where
+module _ (input : List ℕ) (group : Group) (short : IsShort GroupText input) where
   -- of a text that lists all operations
-  pub group_listed : (g : Listing) → IsGroupText input false g → IsWithinLimits g → IsGroupOf g group → IsGroupOfInput input group
+  pub group_listed : (g : Listing) → IsGroupText input false g → IsWithinLimits g → IsGroupOf g group → IsGroupOfInput GroupText input group
   group_listed g text within made = record {
     short = short;
-    some = (g, record { is_text = inl text; within = within; is_group = made.is_group });
-    is_of = λ h lists. go h lists.is_text;
+    some = (g, record { is_listed = inl text; within = within; is_group = made.is_group });
+    is_of = λ h lists. go h lists.is_listed;
   }
     where
       go : (h : Listing) → IsGroupText input false h ⊎ IsGeneratedBy input h → IsGroupOf h group
@@ -26,18 +27,18 @@ module _ (input : List ℕ) (group : Group) (short : IsShort input) where
       go h (inr of) = let same = one_flag input false true g of.generators text of.is_text in absurd cc
 
   -- of a text that lists generators
-  pub group_generated : (g : Listing) → IsGroupText input true g → GeneratesWithinLimits g → IsDerivedListing g (group_listing group) → IsGroupOfInput input group
+  pub group_generated : (g : Listing) → IsGroupText input true g → GeneratesWithinLimits g → IsDerivedListing g (group_listing group) → IsGroupOfInput GroupText input group
   group_generated g text limits derived = record {
     short = short;
     some = (
       group_listing group,
       record {
-        is_text = inr (record { generators = g; is_text = text; limits = limits; derived = derived });
+        is_listed = inr (record { generators = g; is_text = text; limits = limits; derived = derived });
         within = derived_within g (group_listing group) limits derived;
         is_group = let of = group_of_derived g (group_listing group) group limits.invertible derived derived in of.is_group;
       },
     );
-    is_of = λ h lists. go h lists.is_text;
+    is_of = λ h lists. go h lists.is_listed;
   }
     where
       go : (h : Listing) → IsGroupText input false h ⊎ IsGeneratedBy input h → IsGroupOf h group

@@ -5,6 +5,8 @@ pub mod ThirdIndices
 pub mod PlaneFaults
 pub mod EntrySizes
 mod RodFrames
+pub mod CifFiles
+pub mod OneCause
 pub mod OneAnswer
 pub mod GroupAnswers
 pub mod Reading

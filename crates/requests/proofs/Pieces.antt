@@ -9,6 +9,7 @@ use Rattle.triplets.specs.declared.fault.TextFault.TheVariants as texts
 use Rattle.triplets.specs.declared.text.LineReader.{LineReader}
 use Rattle.triplets.specs.TextReading.{Stands, bytes_fed, fault_answered}
 use Rattle.triplets.specs.TextAnswers.{IsAnswer, IsFaultOf}
+use Rattle.requests.specs.declared.format.Format.TheVariants.{GroupText}
 use Rattle.requests.specs.Inputs.{IsShort}
 
 -- the text that the source gave was fed, and the reader stands behind it, unless memory ran out
@@ -94,9 +95,9 @@ module _ (before now : Option (List ℕ)) (reader : LineReader) (h : HasFed befo
   -- the fault at the end is one of the input
   module _ (end : IsAtEnd now) (few : bytes_fed reader ≤ 65536) (fault : TextFault) (answer : Result Listed TextFault) (is_fault : answer ≡ Err fault) where
     pub fault_at_end : IfSome (fault_answered reader) (λ f. answer ≡ Err f) → ((text : List ℕ) → Stands reader text → IsAnswer text answer)
-        → (input : List ℕ) → before ≡ Some input → IsShort input × IsFaultOf input fault
+        → (input : List ℕ) → before ≡ Some input → IsShort GroupText input × IsFaultOf input fault
     fault_at_end again answers input is =
-        subst (λ text. IsShort text × IsFaultOf text fault) (sym (all_fed end input is)) (subst (λ n. n ≤ 65536) h.fed few, shown h.stands)
+        subst (λ text. IsShort GroupText text × IsFaultOf text fault) (sym (all_fed end input is)) (subst (λ n. n ≤ 65536) h.fed few, shown h.stands)
       where
         shown : (fault_answered reader ≡ Some texts.NoMemory) ⊎ Stands reader h.text → IsFaultOf h.text fault
         shown (inl e) =

@@ -1,5 +1,5 @@
 -- What is made of a source is what the words ask for.
-use Rattle.std.proofs.Common.{◌≡◌, true, false, ℕ, List, Option, Some, Result, Ok, Err, IfOk, IfErr, Vec, Global, refl, inr}
+use Rattle.std.proofs.Common.{◌≡◌, true, ℕ, List, Option, Some, Result, Ok, Err, IfOk, IfErr, Vec, Global, refl, inr}
 use Rattle.symmetry.specs.Groups.{Listing}
 use Rattle.closure.specs.declared.group_error.GroupError.{GroupError}
 use Rattle.closure.specs.declared.group_error.GroupError.TheVariants as groups
@@ -12,13 +12,15 @@ use Rattle.triplets.specs.Texts.{IsGroupText}
 use Rattle.triplets.specs.TextAnswers.{IsFaultOf}
 use Rattle.triplets.specs.declared.fault.TextFault.{TextFault}
 use Rattle.triplets.specs.declared.fault.TextFault.TheVariants as texts
+use Rattle.requests.specs.declared.format.Format.{Format}
+use Rattle.requests.specs.declared.format.Format.TheVariants.{GroupText}
 use Rattle.requests.specs.declared.obstacle.Obstacle.{Obstacle}
 use Rattle.requests.specs.declared.obstacle.Obstacle.TheVariants as obstacles
 use Rattle.closure.specs.Groups.{IsGroupOf}
 use Rattle.requests.specs.Obstacles.{obstacle_of_generators, obstacle_of_group, obstacle_of_text}
 use Rattle.requests.specs.declared.refusal.Refusal.{Refusal}
 use Rattle.requests.specs.Questions.{Asked, Question, about, IsRequest}
-use Rattle.requests.specs.Inputs.{of_text, of_group, of_generators, IsCause, IsGroupOfInput, IsRefusedInput, IsShort}
+use Rattle.requests.specs.Inputs.{of_text, of_group, of_generators, IsCause, IsGroupOfInput, IsRefusedInput, IsShort, ListsAll}
 use Rattle.requests.specs.Answers.{Answers}
 use Rattle.requests.specs.Causes.{HasAnswer, IsGroupsObstacle, IsObstacle, IsSourceObstacle}
 
@@ -26,32 +28,32 @@ use Rattle.requests.specs.Causes.{HasAnswer, IsGroupsObstacle, IsObstacle, IsSou
 
 module _ (left : Option (List ℕ)) (faults faults' : ℕ) (same : faults' ≡ faults) where
   -- a bad text
-  pub text_obstacle : (fault : TextFault) → ((input : List ℕ) → left ≡ Some input → IsShort input × IsFaultOf input fault)
-      → IsSourceObstacle left faults faults' (obstacle_of_text fault)
+  pub text_obstacle : (fault : TextFault) → ((input : List ℕ) → left ≡ Some input → IsShort GroupText input × IsFaultOf input fault)
+      → IsSourceObstacle GroupText left faults faults' (obstacle_of_text fault)
   text_obstacle (texts.At line column kind) bad = (λ input is. (of_text (record { line = line; column = column; kind = kind }), bad input is, refl), same)
   text_obstacle texts.NoMemory bad = same
 
   -- the error of what is listed
-  module _ (g : Listing) (lists : (input : List ℕ) → left ≡ Some input → IsShort input × IsGroupText input false g) where
-    cause : (input : List ℕ) (error : GroupError) → IsGroupError g error → left ≡ Some input → IsCause input (of_group error)
+  module _ (format : Format) (g : Listing) (lists : (input : List ℕ) → left ≡ Some input → IsShort format input × ListsAll format input g) where
+    cause : (input : List ℕ) (error : GroupError) → IsGroupError g error → left ≡ Some input → IsCause format input (of_group error)
     cause input error h is = let text = lists input is in (text.0, (g, text.1, h))
 
-    pub group_obstacle : (error : GroupError) → IsGroupError g error → IsSourceObstacle left faults faults' (obstacle_of_group error)
+    pub group_obstacle : (error : GroupError) → IsGroupError g error → IsSourceObstacle format left faults faults' (obstacle_of_group error)
     group_obstacle (groups.TooMany n) h = (λ input is. (of_group (groups.TooMany n), cause input (groups.TooMany n) h is, refl), same)
     group_obstacle groups.TooFine h = (λ input is. (of_group groups.TooFine, cause input groups.TooFine h is, refl), same)
     group_obstacle (groups.Fault fault) h = (λ input is. (of_group (groups.Fault fault), cause input (groups.Fault fault) h is, refl), same)
     group_obstacle groups.NoMemory h = same
 
   -- the error of listed generators
-  module _ (g : Listing) (lists : (input : List ℕ) → left ≡ Some input → IsShort input × IsGroupText input true g) where
-    cause_of_generators : (input : List ℕ) (error : GeneratedError) → IsGeneratedError g error → left ≡ Some input → IsCause input (of_generators error)
+  module _ (g : Listing) (lists : (input : List ℕ) → left ≡ Some input → IsShort GroupText input × IsGroupText input true g) where
+    cause_of_generators : (input : List ℕ) (error : GeneratedError) → IsGeneratedError g error → left ≡ Some input → IsCause GroupText input (of_generators error)
     cause_of_generators input error h is = let text = lists input is in (text.0, (g, text.1, h))
 
     known_cause : (error : GeneratedError) (r : Refusal) → obstacle_of_generators error ≡ obstacles.Refused r → IsGeneratedError g error
-        → (input : List ℕ) → left ≡ Some input → IsRefusedInput input r
+        → (input : List ℕ) → left ≡ Some input → IsRefusedInput GroupText input r
     known_cause error r e h input is = (of_generators error, cause_of_generators input error h is, e)
 
-    pub generators_obstacle : (error : GeneratedError) → IsGeneratedError g error → IsSourceObstacle left faults faults' (obstacle_of_generators error)
+    pub generators_obstacle : (error : GeneratedError) → IsGeneratedError g error → IsSourceObstacle GroupText left faults faults' (obstacle_of_generators error)
     generators_obstacle (generators.TooMany n) h = (known_cause (generators.TooMany n) _ refl h, same)
     generators_obstacle (generators.NoInverse i) h = (known_cause (generators.NoInverse i) _ refl h, same)
     generators_obstacle generators.TooLarge h = (known_cause generators.TooLarge _ refl h, same)
@@ -60,13 +62,13 @@ module _ (left : Option (List ℕ)) (faults faults' : ℕ) (same : faults' ≡ f
 
 -- ---- the answer of a group that a source gave
 
-module _ (read : Result Asked Refusal) (question : Question) (asks : IsRequest read (about question)) (left : Option (List ℕ))
-    (group : Group) (is_of : (input : List ℕ) → left ≡ Some input → IsGroupOfInput input group) where
+module _ (read : Result Asked Refusal) (format : Format) (question : Question) (asks : IsRequest read (about format question)) (left : Option (List ℕ))
+    (group : Group) (is_of : (input : List ℕ) → left ≡ Some input → IsGroupOfInput format input group) where
   pub answered : (result : Result (Vec ℕ Global) Obstacle)
       → IfOk result (λ text. (g : Listing) → IsGroupOf g group → Answers g question text.items)
       → IfOk result (λ text. HasAnswer read left text.items)
   answered (Ok text) answers = record {
-    asked = about question;
+    asked = about format question;
     asks = asks;
     answers = λ input is.
         let of = is_of input is in
@@ -78,7 +80,7 @@ module _ (read : Result Asked Refusal) (question : Question) (asks : IsRequest r
       → IfErr result (IsGroupsObstacle group question) → IfErr result (IsObstacle read left faults faults')
   kept_from_answer (Ok text) faults faults' same o = tt
   kept_from_answer (Err (obstacles.Refused r)) faults faults' same o = (
-    inr (about question, asks, λ input is. let of = is_of input is in inr (of.short, of.some, λ g lists. o g (of.is_of g lists))),
+    inr (about format question, asks, λ input is. let of = is_of input is in inr (of.short, of.some, λ g lists. o g (of.is_of g lists))),
     same,
   )
   kept_from_answer (Err obstacles.ReadFault) faults faults' same o = absurd o

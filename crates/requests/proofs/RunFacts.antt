@@ -13,15 +13,15 @@ use Rattle.requests.proofs.OneAnswer.{answer_and_refusal, fair_and_refusal, not_
 -- a request is refused or answered, and in one way
 module _ (input : List ℕ) where
   pub one_input_refusal : (asked : Asked) (r r' : Refusal) → IsInputRefusal asked input r → IsInputRefusal asked input r' → r ≡ r'
-  one_input_refusal (about question) r r' p q = one_refusal question input r r' p q
+  one_input_refusal (about format question) r r' p q = one_refusal format question input r r' p q
   one_input_refusal (tabulate table) r r' p q = absurd p
 
   pub output_and_refusal : (asked : Asked) (text : List ℕ) (r : Refusal) → IsOutput asked input text → IsInputRefusal asked input r → ⊥
-  output_and_refusal (about question) text r answer p = answer_and_refusal question input text r answer p
+  output_and_refusal (about format question) text r answer p = answer_and_refusal format question input text r answer p
   output_and_refusal (tabulate table) text r answer p = p
 
   pub has_output_and_refusal : (asked : Asked) (r : Refusal) → HasOutput asked input → IsInputRefusal asked input r → ⊥
-  has_output_and_refusal (about question) r fair p = fair_and_refusal question input r fair p
+  has_output_and_refusal (about format question) r fair p = fair_and_refusal format question input r fair p
   has_output_and_refusal (tabulate table) r fair p = p
 
 module _ (read : Result Asked Refusal) (left : Option (List ℕ)) where

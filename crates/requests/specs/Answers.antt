@@ -6,6 +6,7 @@ use Rattle.report.specs.TypeTexts.{IsTypeText}
 use Rattle.sample.specs.Counted.{counts_text}
 use Rattle.sample.specs.Samples.{IsSample}
 use Rattle.sample.specs.declared.counts.Counts.{Counts}
+use Rattle.requests.specs.declared.format.Format.{Format}
 use Rattle.requests.specs.declared.refusal.Refusal.{Refusal}
 use Rattle.requests.specs.declared.refusal.Refusal.TheVariants.{Wide}
 use Rattle.requests.specs.Questions.{Asked, Question, Table, about, tabulate, at_height, all_heights, image_rows, along_line, of_type, of_sample}
@@ -42,24 +43,25 @@ RefusesQuestion g (along_line u a b p) refusal = RefusesRod g u a b refusal
 -- ---- of an input
 
 -- the text is what is asked of the group that the input lists
-pub record AnswersInput (question : Question) (input text : List ℕ) : Type 0 where
-  pub short : IsShort input
+pub record AnswersInput (format : Format) (question : Question) (input text : List ℕ) : Type 0 where
+  pub short : IsShort format input
   pub group : Listing
-  pub lists : ListsGroup input group
+  pub lists : ListsGroup format input group
   pub answers : Answers group question text
 
 -- the question may be asked of the group that the input lists
-pub record IsFairInput (question : Question) (input : List ℕ) : Type 0 where
-  pub short : IsShort input
+pub record IsFairInput (format : Format) (question : Question) (input : List ℕ) : Type 0 where
+  pub short : IsShort format input
   pub group : Listing
-  pub lists : ListsGroup input group
+  pub lists : ListsGroup format input group
   pub fair : IsFair group question
 
 -- why there is no answer over the input: it gives no group, or one that may not be asked
-abbrev pub RefusesInput : Question → List ℕ → Refusal → Type 0
-RefusesInput question input refusal =
-    IsRefusedInput input refusal
-    ⊎ (IsShort input × ListsSome input × ((g : Listing) → ListsGroup input g → RefusesQuestion g question refusal))
+abbrev pub RefusesInput : Format → Question → List ℕ → Refusal → Type 0
+RefusesInput format question input refusal =
+    IsRefusedInput format input refusal
+    ⊎ (IsShort format input × ListsSome format input
+    × ((g : Listing) → ListsGroup format input g → RefusesQuestion g question refusal))
 
 -- ---- without an input
 
@@ -72,20 +74,20 @@ IsTable (of_sample n) text = (counts : Counts) × IsSample n counts × (text ≡
 
 -- the input over which it is answered: all that the source has left, where it tells that, or nothing
 abbrev pub IsInput : Asked → Option (List ℕ) → List ℕ → Type 0
-IsInput (about question) left input = left ≡ Some input
+IsInput (about format question) left input = left ≡ Some input
 IsInput (tabulate table) left input = input ≡ []
 
 -- the text is the answer over the input
 abbrev pub IsOutput : Asked → List ℕ → List ℕ → Type 0
-IsOutput (about question) input text = AnswersInput question input text
+IsOutput (about format question) input text = AnswersInput format question input text
 IsOutput (tabulate table) input text = IsTable table text
 
 -- it has to be answered over the input: a table always
 abbrev pub HasOutput : Asked → List ℕ → Type 0
-HasOutput (about question) input = IsFairInput question input
+HasOutput (about format question) input = IsFairInput format question input
 HasOutput (tabulate table) input = Unit {0}
 
 -- why the input is refused: a table never is
 abbrev pub IsInputRefusal : Asked → List ℕ → Refusal → Type 0
-IsInputRefusal (about question) input refusal = RefusesInput question input refusal
+IsInputRefusal (about format question) input refusal = RefusesInput format question input refusal
 IsInputRefusal (tabulate table) input refusal = ⊥

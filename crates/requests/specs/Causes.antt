@@ -3,6 +3,7 @@ use Rattle.std.specs.Prelude.{◌≡◌, ◌≢◌, ◌⊎◌, ℕ, List, Option
 use Rattle.symmetry.specs.Groups.{Listing}
 use Rattle.devices.specs.Calls.{Rose}
 use Rattle.closure.specs.declared.group.Group.{Group}
+use Rattle.requests.specs.declared.format.Format.{Format}
 use Rattle.requests.specs.declared.obstacle.Obstacle.{Obstacle}
 use Rattle.requests.specs.declared.obstacle.Obstacle.TheVariants as obstacles
 use Rattle.requests.specs.declared.outcome.Outcome.{Outcome}
@@ -18,11 +19,11 @@ use Rattle.requests.specs.Runs.{IsCause}
 -- ---- the group of an input
 
 -- what keeps a source from a group; its count of faults rose where it failed alone
-abbrev pub IsSourceObstacle : Option (List ℕ) → ℕ → ℕ → Obstacle → Type 0
-IsSourceObstacle left faults faults' (obstacles.Refused refusal) =
-    ((input : List ℕ) → left ≡ Some input → IsRefusedInput input refusal) × (faults' ≡ faults)
-IsSourceObstacle left faults faults' obstacles.ReadFault = Rose faults faults'
-IsSourceObstacle left faults faults' obstacles.NoMemory = faults' ≡ faults
+abbrev pub IsSourceObstacle : Format → Option (List ℕ) → ℕ → ℕ → Obstacle → Type 0
+IsSourceObstacle format left faults faults' (obstacles.Refused refusal) =
+    ((input : List ℕ) → left ≡ Some input → IsRefusedInput format input refusal) × (faults' ≡ faults)
+IsSourceObstacle format left faults faults' obstacles.ReadFault = Rose faults faults'
+IsSourceObstacle format left faults faults' obstacles.NoMemory = faults' ≡ faults
 
 -- the source was read to its end before this came up
 abbrev pub IsReadWhole : {A : Type 0} → Result A Obstacle → Type 0

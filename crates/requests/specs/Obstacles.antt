@@ -10,6 +10,10 @@ use Rattle.motions.specs.declared.frame_fault.FrameFault.{FrameFault}
 use Rattle.motions.specs.declared.frame_fault.FrameFault.TheVariants as frames
 use Rattle.triplets.specs.declared.fault.TextFault.{TextFault}
 use Rattle.triplets.specs.declared.fault.TextFault.TheVariants as texts
+use Rattle.cif_symops.specs.declared.fault.CifFault.{CifFault}
+use Rattle.cif_symops.specs.declared.fault.CifFault.TheVariants as cifs
+use Rattle.devices.specs.declared.read.ReadFault.{ReadFault}
+use Rattle.devices.specs.declared.read.ReadFault.TheVariants as reads
 use Rattle.closure.specs.declared.group_error.GroupError.{GroupError}
 use Rattle.closure.specs.declared.group_error.GroupError.TheVariants as groups
 use Rattle.closure.specs.declared.generated_error.GeneratedError.{GeneratedError}
@@ -18,6 +22,7 @@ use Rattle.scanning.specs.declared.at_fault.AtFault.{AtFault}
 use Rattle.scanning.specs.declared.at_fault.AtFault.TheVariants as at_faults
 use Rattle.orbits.specs.declared.orbit_fault.OrbitFault.{OrbitFault}
 use Rattle.orbits.specs.declared.orbit_fault.OrbitFault.TheVariants as orbit_faults
+use Rattle.requests.specs.declared.cif_kind.CifKind.TheVariants as kinds
 use Rattle.requests.specs.declared.refusal.Refusal.{Refusal}
 use Rattle.requests.specs.declared.refusal.Refusal.TheVariants as refusals
 use Rattle.requests.specs.declared.obstacle.Obstacle.{Obstacle}
@@ -27,6 +32,20 @@ use Rattle.requests.specs.declared.obstacle.Obstacle.TheVariants as obstacles
 abbrev pub obstacle_of_text : TextFault → Obstacle
 obstacle_of_text (texts.At line column kind) = obstacles.Refused (refusals.Text line column kind)
 obstacle_of_text texts.NoMemory = obstacles.NoMemory
+
+-- that of a CIF file that is not read
+abbrev pub obstacle_of_cif : CifFault → Obstacle
+obstacle_of_cif (cifs.Quote line column) = obstacles.Refused (refusals.Cif line column kinds.Quote)
+obstacle_of_cif (cifs.TextField line column) = obstacles.Refused (refusals.Cif line column kinds.TextField)
+obstacle_of_cif cifs.NoSymops = obstacles.Refused refusals.NoSymops
+obstacle_of_cif (cifs.Ragged line column) = obstacles.Refused (refusals.Cif line column kinds.Ragged)
+obstacle_of_cif (cifs.Symop line column kind) = obstacles.Refused (refusals.Cif line column (kinds.Symop kind))
+obstacle_of_cif cifs.NoMemory = obstacles.NoMemory
+
+-- that of a source that is not read to its end
+abbrev pub obstacle_of_read : ReadFault → Obstacle
+obstacle_of_read reads.Failed = obstacles.ReadFault
+obstacle_of_read reads.NoMemory = obstacles.NoMemory
 
 -- the refusal of what is no group
 abbrev pub refusal_of_fault : GroupFault → Refusal

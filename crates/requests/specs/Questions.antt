@@ -8,6 +8,7 @@ use Rattle.plane_lattice.specs.Bounds.{largest_entry}
 use Rattle.report.specs.declared.kind.Kind.{Kind}
 use Rattle.report.specs.TypeNumbers.{IsTypeNumber}
 use Rattle.requests.specs.declared.form.Form.{Form}
+use Rattle.requests.specs.declared.format.Format.{Format}
 use Rattle.requests.specs.declared.refusal.Refusal.{Refusal}
 use Rattle.requests.specs.Limits.{IsHeightInRange}
 
@@ -24,9 +25,9 @@ pub data Table : Type 0 where
   of_type : (kind : Kind) (n : ℕ) → Table
   of_sample : (n : ℕ) → Table
 
--- what is asked: a question about the group of an input, or a table
+-- what is asked: a question about the group of an input of a format, or a table
 pub data Asked : Type 0 where
-  about : (question : Question) → Asked
+  about : (format : Format) (question : Question) → Asked
   tabulate : (table : Table) → Asked
 
 -- the height is within its limits, or each coordinate of the point
@@ -42,7 +43,7 @@ IsTableInRange (of_sample n) = (1 ≤ n) × (n ≤ 400)
 
 -- what is asked is within its limits
 abbrev pub IsAskedInRange : Asked → Type 0
-IsAskedInRange (about question) = IsQuestionInRange question
+IsAskedInRange (about format question) = IsQuestionInRange question
 IsAskedInRange (tabulate table) = IsTableInRange table
 
 -- what was read, as what it is of, or the refusal
@@ -60,4 +61,4 @@ IsWordsRefusal read refusal = read ≡ Err refusal
 
 -- the words ask about the group of an input
 abbrev pub AsksInput : Result Asked Refusal → Type 0
-AsksInput read = (question : Question) × IsRequest read (about question)
+AsksInput read = (format : Format) × (question : Question) × IsRequest read (about format question)

@@ -3,8 +3,10 @@ use Rattle.std.specs.Prelude.{ℕ, List, ◌++◌, codes, decimal}
 use Rattle.std.specs.Fmt.{signed_decimal}
 use Rattle.triplets.specs.declared.fault.TextKind.{TextKind}
 use Rattle.triplets.specs.declared.fault.TextKind.TheVariants.{UnknownSign, Repeated, Coefficient, Denominator, MissingPart, ExtraPart, Empty}
+use Rattle.requests.specs.declared.cif_kind.CifKind.{CifKind}
+use Rattle.requests.specs.declared.cif_kind.CifKind.TheVariants.{Quote, TextField, Ragged, Symop}
 use Rattle.requests.specs.declared.refusal.Refusal.{Refusal}
-use Rattle.requests.specs.declared.refusal.Refusal.TheVariants.{Usage, FourIndex, OutOfRange, AllZero, NotCoprime, FrameLimit, HeightLimit, PointLimit, TooLong, Text, TooMany, TooFine, NoIdentity, ShiftMoved, NotClosed, NoInverse, TooLarge, NotFrame, SkewFrame, Wide}
+use Rattle.requests.specs.declared.refusal.Refusal.TheVariants.{Usage, FourIndex, OutOfRange, AllZero, NotCoprime, FrameLimit, PointLimit, HeightLimit, TooLong, Text, NoSymops, Cif, TooMany, TooFine, NoIdentity, ShiftMoved, NotClosed, NoInverse, TooLarge, NotFrame, SkewFrame, Wide}
 
 -- the printed name of a kind of faults of a text
 abbrev pub kind_text : TextKind → List ℕ
@@ -16,6 +18,13 @@ kind_text MissingPart = codes "missing-part"
 kind_text ExtraPart = codes "extra-part"
 kind_text Empty = codes "empty"
 
+-- the printed name of a kind of faults of a CIF file
+abbrev pub cif_kind_text : CifKind → List ℕ
+cif_kind_text Quote = codes "quote"
+cif_kind_text TextField = codes "text-field"
+cif_kind_text Ragged = codes "ragged"
+cif_kind_text (Symop kind) = codes "symop " ++ kind_text kind
+
 -- the line of a refusal, without its end
 abbrev pub refusal_text : Refusal → List ℕ
 refusal_text Usage = codes "refused: usage"
@@ -24,10 +33,12 @@ refusal_text OutOfRange = codes "refused: index out of range"
 refusal_text AllZero = codes "refused: all indices are zero"
 refusal_text (NotCoprime divisor) = codes "refused: common divisor " ++ signed_decimal divisor
 refusal_text FrameLimit = codes "refused: frame entry out of range"
-refusal_text HeightLimit = codes "refused: height too large"
 refusal_text PointLimit = codes "refused: point out of range"
+refusal_text HeightLimit = codes "refused: height too large"
 refusal_text TooLong = codes "refused: input too long"
 refusal_text (Text line column kind) = codes "refused: line " ++ decimal line ++ codes " column " ++ decimal column ++ codes " " ++ kind_text kind
+refusal_text NoSymops = codes "refused: no symmetry operations"
+refusal_text (Cif line column kind) = codes "refused: cif line " ++ decimal line ++ codes " column " ++ decimal column ++ codes " " ++ cif_kind_text kind
 refusal_text (TooMany count) = codes "refused: " ++ decimal count ++ codes " operations"
 refusal_text TooFine = codes "refused: lattice too fine"
 refusal_text NoIdentity = codes "refused: no identity"

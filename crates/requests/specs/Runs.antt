@@ -1,5 +1,5 @@
 -- What a run of the program does.
-use Rattle.std.specs.Prelude.{◌≡◌, ◌≢◌, ◌⊎◌, ℕ, ◌≤◌, List, ◌++◌, length, codes, Option, Some, None, Result}
+use Rattle.std.specs.Prelude.{◌≡◌, ◌≢◌, ◌⊎◌, ℕ, ◌+◌, ◌≤◌, List, ◌++◌, length, codes, Option, Some, None, Result, Ok}
 use Rattle.std.specs.Io.KnownBytes.{append_known}
 use Rattle.devices.specs.Calls.{Rose}
 use Rattle.devices.specs.Transfers.{HoldsFront, Offers}
@@ -7,7 +7,8 @@ use Rattle.requests.specs.declared.refusal.Refusal.{Refusal}
 use Rattle.requests.specs.declared.refusal.Refusal.TheVariants.{TooLong}
 use Rattle.requests.specs.declared.outcome.Outcome.{Outcome}
 use Rattle.requests.specs.declared.outcome.Outcome.TheVariants.{Done, Refused, ReadFault, WriteFault, NoMemory}
-use Rattle.requests.specs.Questions.{Asked, IsRequest, IsWordsRefusal}
+use Rattle.requests.specs.Questions.{Asked, about, IsRequest, IsWordsRefusal}
+use Rattle.requests.specs.Inputs.{most_bytes}
 use Rattle.requests.specs.Answers.{IsInput, IsOutput, IsInputRefusal}
 use Rattle.requests.specs.Refusals.{refusal_text}
 
@@ -107,6 +108,11 @@ ReadsWhole WriteFault = Unit {0}
 ReadsWhole (Refused r) = r ≢ TooLong
 ReadsWhole ReadFault = ⊥
 ReadsWhole NoMemory = ⊥
+
+-- the most bytes that are read: one more than an input may have, and none where nothing is asked of one
+abbrev pub most_read : Result Asked Refusal → ℕ
+most_read (Ok (about format question)) = most_bytes format + 1
+most_read _ = 0
 
 -- the source tells what is left, and each answer over it has at most so many bytes
 abbrev pub FitsIn : Result Asked Refusal → Option (List ℕ) → ℕ → Type 0

@@ -59,5 +59,5 @@ table_of (tables.Sample n) = of_sample n
 
 -- what a request asks
 abbrev pub asked_of : Request → Asked
-asked_of (requests.About question) = about (question_of question)
+asked_of (requests.About format question) = about format (question_of question)
 asked_of (requests.Tabulate table) = tabulate (table_of table)

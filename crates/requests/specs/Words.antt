@@ -10,6 +10,8 @@ use Rattle.fractions.specs.WrittenRatio.{numerator, denominator, ratio_end, rati
 use Rattle.symmetry.specs.Vectors.{Vector}
 use Rattle.requests.specs.declared.form.Form.{Form}
 use Rattle.requests.specs.declared.form.Form.TheVariants.{Text, Json}
+use Rattle.requests.specs.declared.format.Format.{Format}
+use Rattle.requests.specs.declared.format.Format.TheVariants.{GroupText, Cif}
 
 -- what three words say together, where each says something
 abbrev pub all_three : {A B C D : Type 0} → (A → B → C → D) → Option A → Option B → Option C → Option D
@@ -114,3 +116,8 @@ frame_first (word ∷ others) =
 abbrev pub form_first : List (List ℕ) → Form × List (List ℕ)
 form_first [] = (Text, [])
 form_first (word ∷ others) = if bytes_eq word (codes "--json") then (Json, others) else (Text, word ∷ others)
+
+-- the format that the next word gives: `--cif`, or a group text
+abbrev pub format_first : List (List ℕ) → Format × List (List ℕ)
+format_first [] = (GroupText, [])
+format_first (word ∷ others) = if bytes_eq word (codes "--cif") then (Cif, others) else (GroupText, word ∷ others)

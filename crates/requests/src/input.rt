@@ -1,13 +1,16 @@
 // The group that a source gives.
-ghost use Rattle.std.specs.Prelude.{◌≡◌, ◌≢◌, ℕ, List, Err, IfErr, IfOk, OnOk, Some};
+ghost use Rattle.std.specs.Prelude.{◌≡◌, ◌≢◌, ◌+◌, ℕ, List, Err, IfErr, IfOk, OnOk, Some};
 ghost use Rattle.std.specs.Io.KnownBytes.{IsAtEnd};
 ghost use Rattle.devices.specs.Transfers.{ReadsWithin};
 ghost use Rattle.motions.specs.ListedSizes.{IsListedSmall};
 ghost use Rattle.motions.specs.Views.{listing_of};
 ghost use Rattle.triplets.specs.Texts.{IsGroupText};
+ghost use Rattle.requests.specs.declared.format.Format.TheVariants.{GroupText};
 ghost use Rattle.requests.specs.Causes.{IsReadWhole, IsSourceObstacle};
-ghost use Rattle.requests.specs.Inputs.{IsGroupOfInput, IsShort};
+ghost use Rattle.requests.specs.Inputs.{IsGroupOfInput, IsShort, most_bytes};
 
+use crate::cif_input::group_of_file;
+use crate::format::Format;
 use crate::obstacle::Obstacle;
 use crate::refusal::Refusal;
 use closure::Group;
@@ -19,12 +22,29 @@ use triplets::{LineReader, MOST_BYTES};
 // The source is asked for at most so many bytes at once.
 const PIECE: usize = 4096;
 
-/// Reads a source to its end: the group that it lists.
-pub fn group_of<S: Source>(alloc: Global, source: &mut S) -> Result<Group, Obstacle>
+/// Reads a source to its end: the group that it lists in this format.
+pub fn group_of<S: Source>(alloc: Global, source: &mut S, format: Format) -> Result<Group, Obstacle>
     ensures group { IfOk result (λ group. (input : List ℕ) →
-        S.left source.old ≡ Some input → IsGroupOfInput input group) }
+        S.left source.old ≡ Some input → IsGroupOfInput format input group) }
     ensures obstacle { IfErr result
-        (IsSourceObstacle (S.left source.old) (S.faults source.old) (S.faults source.new)) }
+        (IsSourceObstacle format (S.left source.old) (S.faults source.old) (S.faults source.new)) }
+    ensures unfailed { OnOk result (S.faults source.new ≡ S.faults source.old) }
+    ensures steady { S.NeverFails source.old → result ≢ Err Obstacle.ReadFault }
+    ensures whole { IsReadWhole result → IsAtEnd (S.left source.new) }
+    ensures within { ReadsWithin (S.left source.old) (S.left source.new) (most_bytes format + 1) }
+{
+    match format {
+        Format::GroupText => group_of_text(alloc, source),
+        Format::Cif => group_of_file(alloc, source),
+    }
+}
+
+/// Reads a source to its end: the group that its text lists.
+fn group_of_text<S: Source>(alloc: Global, source: &mut S) -> Result<Group, Obstacle>
+    ensures group { IfOk result (λ group. (input : List ℕ) →
+        S.left source.old ≡ Some input → IsGroupOfInput GroupText input group) }
+    ensures obstacle { IfErr result
+        (IsSourceObstacle GroupText (S.left source.old) (S.faults source.old) (S.faults source.new)) }
     ensures unfailed { OnOk result (S.faults source.new ≡ S.faults source.old) }
     ensures steady { S.NeverFails source.old → result ≢ Err Obstacle.ReadFault }
     ensures whole { IsReadWhole result → IsAtEnd (S.left source.new) }
@@ -41,10 +61,11 @@ pub fn group_of<S: Source>(alloc: Global, source: &mut S) -> Result<Group, Obsta
 /// Reads a source to its end, piece by piece: what its text lists.
 fn read_listed<S: Source>(alloc: Global, source: &mut S) -> Result<Listed, Obstacle>
     ensures text { IfOk result (λ listed. (input : List ℕ) →
-        S.left source.old ≡ Some input → IsShort input × IsGroupText input listed.generated (listing_of listed)) }
+        S.left source.old ≡ Some input →
+        IsShort GroupText input × IsGroupText input listed.generated (listing_of listed)) }
     ensures small { IfOk result (IsListedSmall 9) }
     ensures obstacle { IfErr result
-        (IsSourceObstacle (S.left source.old) (S.faults source.old) (S.faults source.new)) }
+        (IsSourceObstacle GroupText (S.left source.old) (S.faults source.old) (S.faults source.new)) }
     ensures unfailed { OnOk result (S.faults source.new ≡ S.faults source.old) }
     ensures steady { S.NeverFails source.old → result ≢ Err Obstacle.ReadFault }
     ensures whole { IsReadWhole result → IsAtEnd (S.left source.new) }

@@ -6,7 +6,10 @@
 #![tactic(auto)]
 
 mod at;
+mod cif_input;
+mod cif_kind;
 mod form;
+mod format;
 mod images;
 mod input;
 mod laws;
@@ -24,7 +27,9 @@ mod run;
 mod tables;
 mod words;
 
+pub use cif_kind::CifKind;
 pub use form::Form;
+pub use format::Format;
 pub use input::group_of;
 pub use laws::{one_answer, one_request};
 pub use limits::{PlaneWords, Planes, within_limits};
@@ -36,6 +41,6 @@ pub use rod_limits::{Line, LineWords, within_line_limits};
 pub use rod_words::{DirectionWord, RodFrameWord, split_direction, split_point, split_rod_frame};
 pub use run::{carry_out, refuse};
 pub use words::{
-    FrameWord, IndexWords, VectorWord, split_form, split_frame, split_indices, split_ratio,
-    split_three_indices,
+    FrameWord, IndexWords, VectorWord, split_form, split_format, split_frame, split_indices,
+    split_ratio, split_three_indices,
 };

@@ -1,11 +1,14 @@
 // What keeps the program from an answer.
 ghost use Rattle.std.specs.Prelude.{◌≡◌};
 ghost use Rattle.requests.specs.declared.obstacle.Obstacle.TheVariants.{NoMemory, ReadFault, Refused};
-ghost use Rattle.requests.specs.Obstacles.{obstacle_of_generators, obstacle_of_group, obstacle_of_height, obstacle_of_orbits, obstacle_of_text, refusal_of_fault, refusal_of_frame};
+ghost use Rattle.requests.specs.declared.refusal.Refusal.TheVariants.{Cif};
+ghost use Rattle.requests.specs.Obstacles.{obstacle_of_cif, obstacle_of_generators, obstacle_of_group, obstacle_of_height, obstacle_of_orbits, obstacle_of_read, obstacle_of_text, refusal_of_fault, refusal_of_frame};
 
+use crate::cif_kind::CifKind;
 use crate::refusal::Refusal;
+use cif_symops::CifFault;
 use closure::{GeneratedError, GroupError};
-use devices::Failed;
+use devices::{Failed, ReadFault};
 use motions::FrameFault;
 use orbits::OrbitFault;
 use quotient::GroupFault;
@@ -59,6 +62,39 @@ impl From<TextFault> for Obstacle {
                 kind,
             }),
             TextFault::NoMemory => Obstacle::NoMemory,
+        }
+    }
+}
+
+// A fault at a place of a CIF file.
+fn at_place(line: u32, column: u32, kind: CifKind) -> Obstacle
+    ensures { result ≡ Refused (Cif line column kind) }
+{
+    Obstacle::Refused(Refusal::Cif { line, column, kind })
+}
+
+impl From<CifFault> for Obstacle {
+    ghost from_gives = { λ fault obstacle. obstacle ≡ obstacle_of_cif fault };
+
+    fn from(fault: CifFault) -> Obstacle {
+        match fault {
+            CifFault::Quote { line, column } => at_place(line, column, CifKind::Quote),
+            CifFault::TextField { line, column } => at_place(line, column, CifKind::TextField),
+            CifFault::NoSymops => Obstacle::Refused(Refusal::NoSymops),
+            CifFault::Ragged { line, column } => at_place(line, column, CifKind::Ragged),
+            CifFault::Symop { line, column, kind } => at_place(line, column, CifKind::Symop(kind)),
+            CifFault::NoMemory => Obstacle::NoMemory,
+        }
+    }
+}
+
+impl From<ReadFault> for Obstacle {
+    ghost from_gives = { λ fault obstacle. obstacle ≡ obstacle_of_read fault };
+
+    fn from(fault: ReadFault) -> Obstacle {
+        match fault {
+            ReadFault::Failed => Obstacle::ReadFault,
+            ReadFault::NoMemory => Obstacle::NoMemory,
         }
     }
 }

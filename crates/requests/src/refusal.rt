@@ -2,6 +2,7 @@
 ghost use Rattle.std.specs.Prelude.{◌≡◌};
 ghost use Rattle.requests.specs.Refusals.{kind_text};
 
+use crate::cif_kind::CifKind;
 use std::fmt;
 use triplets::TextKind;
 
@@ -21,11 +22,11 @@ pub enum Refusal {
     /// An entry of a frame vector has a denominator that does not divide [`UNIT`](fractions::UNIT), or is above 1,000
     /// in size.
     FrameLimit,
-    /// In lowest terms the numerator or the denominator of the height is above 10^9 in size.
-    HeightLimit,
     /// A coordinate of a point of a line has a denominator that does not divide [`UNIT`](fractions::UNIT), or is above 1,000
     /// in size.
     PointLimit,
+    /// In lowest terms the numerator or the denominator of the height is above 10^9 in size.
+    HeightLimit,
     /// The input is longer than it may be.
     TooLong,
     /// The first bad line of the input, the column of its fault (both from 1) and what is wrong there.
@@ -33,6 +34,14 @@ pub enum Refusal {
         line: u32,
         column: u32,
         kind: TextKind,
+    },
+    /// No data name of symmetry operations stands in the CIF file, each quoted word and text field of which has its end.
+    NoSymops,
+    /// The line and the column of the first fault of the CIF file (both from 1), and what is wrong there.
+    Cif {
+        line: u32,
+        column: u32,
+        kind: CifKind,
     },
     /// How many operations are listed, which are too many.
     TooMany(usize),
@@ -70,12 +79,16 @@ impl fmt::Display for Refusal {
             Refusal::AllZero => write!(f, "refused: all indices are zero"),
             Refusal::NotCoprime(divisor) => write!(f, "refused: common divisor {divisor}"),
             Refusal::FrameLimit => write!(f, "refused: frame entry out of range"),
-            Refusal::HeightLimit => write!(f, "refused: height too large"),
             Refusal::PointLimit => write!(f, "refused: point out of range"),
+            Refusal::HeightLimit => write!(f, "refused: height too large"),
             Refusal::TooLong => write!(f, "refused: input too long"),
             Refusal::Text { line, column, kind } => {
                 let name = kind_name(kind);
                 write!(f, "refused: line {line} column {column} {name}")
+            }
+            Refusal::NoSymops => write!(f, "refused: no symmetry operations"),
+            Refusal::Cif { line, column, kind } => {
+                write!(f, "refused: cif line {line} column {column} {kind}")
             }
             Refusal::TooMany(count) => write!(f, "refused: {count} operations"),
             Refusal::TooFine => write!(f, "refused: lattice too fine"),
@@ -92,7 +105,7 @@ impl fmt::Display for Refusal {
 }
 
 // The printed name of a kind of fault.
-fn kind_name(kind: TextKind) -> &'static str
+pub(crate) fn kind_name(kind: TextKind) -> &'static str
     ensures { result.now ≡ kind_text kind }
 {
     match kind {

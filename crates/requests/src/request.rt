@@ -1,5 +1,6 @@
 // What the words ask for, within the limits.
 use crate::form::Form;
+use crate::format::Format;
 use fractions::{Part, Ratio};
 use motions::{Basis, Miller};
 use penetration::{Direction, RodBasis};
@@ -44,8 +45,8 @@ pub enum Table {
 /// What the words ask for, in range.
 #[derive(Clone, Copy, Debug)]
 pub enum Request {
-    /// A question about the group that the input lists.
-    About(Question),
+    /// A question about the group that an input of this format lists.
+    About { format: Format, question: Question },
     /// A table, which needs no input.
     Tabulate(Table),
 }

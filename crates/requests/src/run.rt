@@ -7,7 +7,7 @@ ghost use Rattle.requests.specs.Questions.{Asked, AsksInput, IsAskedInRange, IsR
 ghost use Rattle.requests.specs.Views.{asked_of};
 ghost use Rattle.requests.specs.Answers.{HasOutput, IsInput, IsInputRefusal};
 ghost use Rattle.requests.specs.Causes.{HasAnswer, IsObstacle, IsReadWhole, IsRefusedOr};
-ghost use Rattle.requests.specs.Runs.{Complains, FitsIn, HasCause, LeavesOut, OffersLine, OffersOut, ReadsWhole, Refuses, Succeeds};
+ghost use Rattle.requests.specs.Runs.{Complains, FitsIn, HasCause, LeavesOut, OffersLine, OffersOut, ReadsWhole, Refuses, Succeeds, most_read};
 
 use crate::input::group_of;
 use crate::obstacle::Obstacle;
@@ -65,7 +65,7 @@ pub fn carry_out<S: Source, K: Sink, E: Sink>(
     // Else it is read to its end, but where it is too long or a step before gave up.
     ensures whole { AsksInput (result_map asked_of read) → ReadsWhole result → IsAtEnd (S.left source.new) }
     // At most one byte more than an input may have is read.
-    ensures within { ReadsWithin (S.left source.old) (S.left source.new) 65537 }
+    ensures within { ReadsWithin (S.left source.old) (S.left source.new) (most_read (result_map asked_of read)) }
 {
     match answer(alloc, read, source) {
         Ok(text) => match put_all(out, &text) {
@@ -93,11 +93,11 @@ fn answer<S: Source>(
     ensures untouched { ¬ AsksInput (result_map asked_of read) →
         (source.new ≡ source.old) × (result ≢ Err Obstacle.ReadFault) }
     ensures whole { AsksInput (result_map asked_of read) → IsReadWhole result → IsAtEnd (S.left source.new) }
-    ensures within { ReadsWithin (S.left source.old) (S.left source.new) 65537 }
+    ensures within { ReadsWithin (S.left source.old) (S.left source.new) (most_read (result_map asked_of read)) }
 {
     match read? {
-        Request::About(question) => {
-            let group = group_of(alloc, source)?;
+        Request::About { format, question } => {
+            let group = group_of(alloc, source, format)?;
             respond(alloc, &question, &group)
         }
         Request::Tabulate(table) => Ok(table_text(alloc, table)?),

@@ -3,9 +3,10 @@ ghost use Rattle.std.specs.Prelude.{◌≡◌, ◌≢◌, ◌≤◌, ◌↔◌, 
 ghost use Rattle.std.specs.Str.Parse.{without_leading_sign};
 ghost use Rattle.fractions.specs.FractionOf.{fraction_of};
 ghost use Rattle.requests.specs.Views.{fractions_of, frame_of, indices_of, placed};
-ghost use Rattle.requests.specs.Words.{first_word, form_first, frame_first, index_of, indices_first, ratio_at, ratio_before_comma, ratio_to_end, three_indices, three_vectors, vector_word};
+ghost use Rattle.requests.specs.Words.{first_word, form_first, format_first, frame_first, index_of, indices_first, ratio_at, ratio_before_comma, ratio_to_end, three_indices, three_vectors, vector_word};
 
 use crate::form::Form;
+use crate::format::Format;
 use fractions::{Ratio, read_ratio};
 
 /// The most digits that an index has.
@@ -205,5 +206,15 @@ pub fn split_form(words: &[String]) -> (Form, &[String])
     match words {
         [option, others @ ..] if option.as_str() == "--json" => (Form::Json, others),
         _ => (Form::Text, words),
+    }
+}
+
+/// The format that the first word gives, `--cif`, or a group text, and the words behind it.
+pub fn split_format(words: &[String]) -> (Format, &[String])
+    ensures { (result.0, map string_bytes result.1.now) ≡ format_first (map string_bytes words.now) }
+{
+    match words {
+        [option, others @ ..] if option.as_str() == "--cif" => (Format::Cif, others),
+        _ => (Format::GroupText, words),
     }
 }

@@ -6,21 +6,21 @@ use Rattle.requests.proofs.run.answer.Goals as goal
 
 pub returns-in_ok-group-in-About-clause-text : goal.returns-in_ok-group-in-About-clause-text
 returns-in_ok-group-in-About-clause-text g c =
-    let asks : IsRequest (result_map asked_of c.args.read) (about (question_of c.in-About.question)) = search rules in
-    answered (result_map asked_of c.args.read) (question_of c.in-About.question) asks (g.S.Source.left c.args.source.now) c.in_ok-group-in-About.group c.in_ok-group-in-About.ensures.group c.respond.result c.respond.ensures.text
+    let asks : IsRequest (result_map asked_of c.args.read) (about c.in-About.format (question_of c.in-About.question)) = search rules in
+    answered (result_map asked_of c.args.read) c.in-About.format (question_of c.in-About.question) asks (g.S.Source.left c.args.source.now) c.in_ok-group-in-About.group c.in_ok-group-in-About.ensures.group c.respond.result c.respond.ensures.text
 
 pub returns-in_ok-group-in-About-clause-obstacle : goal.returns-in_ok-group-in-About-clause-obstacle
 returns-in_ok-group-in-About-clause-obstacle g c =
-    let asks : IsRequest (result_map asked_of c.args.read) (about (question_of c.in-About.question)) = search rules in
-    kept_from_answer (result_map asked_of c.args.read) (question_of c.in-About.question) asks (g.S.Source.left c.args.source.now) c.in_ok-group-in-About.group c.in_ok-group-in-About.ensures.group c.respond.result
+    let asks : IsRequest (result_map asked_of c.args.read) (about c.in-About.format (question_of c.in-About.question)) = search rules in
+    kept_from_answer (result_map asked_of c.args.read) c.in-About.format (question_of c.in-About.question) asks (g.S.Source.left c.args.source.now) c.in_ok-group-in-About.group c.in_ok-group-in-About.ensures.group c.respond.result
     _ _ c.in_ok-group-in-About.ensures.unfailed c.respond.ensures.obstacle
 
 pub returns-in_err-group-in-About-clause-untouched : goal.returns-in_err-group-in-About-clause-untouched
 returns-in_err-group-in-About-clause-untouched g c = λ none.
-    let asks : IsRequest (result_map asked_of c.args.read) (about (question_of c.in-About.question)) = search rules in
-    absurd (none (question_of c.in-About.question, asks))
+    let asks : IsRequest (result_map asked_of c.args.read) (about c.in-About.format (question_of c.in-About.question)) = search rules in
+    absurd (none (c.in-About.format, question_of c.in-About.question, asks))
 
 pub returns-in_ok-group-in-About-clause-untouched : goal.returns-in_ok-group-in-About-clause-untouched
 returns-in_ok-group-in-About-clause-untouched g c = λ none.
-    let asks : IsRequest (result_map asked_of c.args.read) (about (question_of c.in-About.question)) = search rules in
-    absurd (none (question_of c.in-About.question, asks))
+    let asks : IsRequest (result_map asked_of c.args.read) (about c.in-About.format (question_of c.in-About.question)) = search rules in
+    absurd (none (c.in-About.format, question_of c.in-About.question, asks))

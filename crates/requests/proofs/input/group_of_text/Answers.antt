@@ -2,16 +2,17 @@ use Rattle.std.proofs.Common.{◌≡◌, Bool, ℕ, List, Some, subst}
 use Rattle.std.proofs.lemmas.Result.{err_from_is_err_and}
 use Rattle.motions.specs.Views.{listing_of}
 use Rattle.triplets.specs.Texts.{IsGroupText}
+use Rattle.requests.specs.declared.format.Format.TheVariants.{GroupText}
 use Rattle.requests.specs.Inputs.{IsShort}
 use Rattle.requests.proofs.InputGroups.{group_listed, group_generated}
 use Rattle.requests.proofs.Reading.{generators_obstacle, group_obstacle}
-use Rattle.requests.proofs.input.group_of.Goals as goal
+use Rattle.requests.proofs.input.group_of_text.Goals as goal
 
 pub returns-in_err-generated-clause-obstacle : goal.returns-in_err-generated-clause-obstacle
 returns-in_err-generated-clause-obstacle g c =
     let left = g.S.Source.left c.args.source.now in
     let listing = listing_of c.in_ok-listed.listed in
-    let lists = λ (b : Bool). (input : List ℕ) → left ≡ Some input → IsShort input × IsGroupText input b listing in
+    let lists = λ (b : Bool). (input : List ℕ) → left ≡ Some input → IsShort GroupText input × IsGroupText input b listing in
     let p = err_from_is_err_and c.from_residual-in_err-generated.result c.from_residual-in_err-generated.ensures.1 in
     rw (p.1, p.2) (generators_obstacle left _ _ c.in_ok-listed.ensures.unfailed listing
     (subst lists c.if-listed.true c.in_ok-listed.ensures.text) c.in_err-generated.field-0.0 c.in_err-generated.ensures.refused)
@@ -20,9 +21,9 @@ pub returns-in_err-make-clause-obstacle : goal.returns-in_err-make-clause-obstac
 returns-in_err-make-clause-obstacle g c =
     let left = g.S.Source.left c.args.source.now in
     let listing = listing_of c.in_ok-listed.listed in
-    let lists = λ (b : Bool). (input : List ℕ) → left ≡ Some input → IsShort input × IsGroupText input b listing in
+    let lists = λ (b : Bool). (input : List ℕ) → left ≡ Some input → IsShort GroupText input × IsGroupText input b listing in
     let p = err_from_is_err_and c.from_residual-in_err-make.result c.from_residual-in_err-make.ensures.1 in
-    rw (p.1, p.2) (group_obstacle left _ _ c.in_ok-listed.ensures.unfailed listing
+    rw (p.1, p.2) (group_obstacle left _ _ c.in_ok-listed.ensures.unfailed GroupText listing
     (subst lists c.if-listed.false c.in_ok-listed.ensures.text) c.in_err-make.field-0.0 c.in_err-make.ensures.refused)
 
 pub returns-in_ok-generated-clause-group : goal.returns-in_ok-generated-clause-group
