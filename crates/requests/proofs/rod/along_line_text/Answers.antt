@@ -1,4 +1,4 @@
-use Rattle.std.proofs.Common.{refl, sym, subst, List}
+use Rattle.std.proofs.Common.{refl}
 use Rattle.std.proofs.lemmas.Result.{err_from_is_err_and}
 use Rattle.motions.specs.Views.{parts}
 use Rattle.closure.specs.Groups.{group_listing}
