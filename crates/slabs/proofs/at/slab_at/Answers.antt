@@ -28,6 +28,7 @@ pub returns-clause-list : goal.returns-clause-list
 returns-clause-list c = λ g group frame is_scan.
     let scan = c.args.scan.now in
     IfOk-weaker c.ops_at.result _ _
-    (λ ops. slab_list g (row_of scan.frame.plane) (basis_of_frame scan.frame) (fraction_of c.args.low) (fraction_of c.args.high) (fraction_of c.middle.result)
-    (map motion_of ops.items) group scan.frame.plane.coprime c.args.low.positive c.args.high.positive c.requires.order c.middle.ensures)
+    (λ ops. slab_list g (row_of scan.frame.plane) (basis_of_frame scan.frame) (fraction_of c.args.low) (fraction_of c.args.high)
+    (map motion_of ops.items) group scan.frame.plane.coprime c.args.low.positive c.args.high.positive c.requires.order
+    (fraction_of c.middle.result) c.middle.ensures)
     (c.ops_at.ensures.list g group frame is_scan)
