@@ -26,7 +26,7 @@ use Rattle.penetration.specs.DirectionView.{direction_of}
 use Rattle.penetration.specs.FrameOf.{IsRodFrameOf, with_axis}
 use Rattle.penetration.specs.RodFrameView.{basis_of_rod}
 use Rattle.penetration.specs.RodFrames.{AreRodOperations, IsRodFrame, IsRodSkewed, levelled}
-use Rattle.penetration.specs.RodOperations.{ArePointsOf, vector_across}
+use Rattle.penetration.specs.RodOperations.{vector_across}
 use Rattle.penetration.specs.RodSections.{counted}
 use Rattle.penetration.specs.RodView.{IsRodAlong, IsRodOf}
 use Rattle.penetration.proofs.AlikeRods.{rod_frame_from, rod_from, rod_operations_from, rod_skewed_from}

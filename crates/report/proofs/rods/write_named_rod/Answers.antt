@@ -1,4 +1,4 @@
-use Rattle.std.proofs.Common.{◌≡◌, ◌++◌, [], List, ℕ, ap, subst, ◌∙◌}
+use Rattle.std.proofs.Common.{◌≡◌, ◌++◌, [], ap, subst, ◌∙◌}
 use Rattle.std.specs.Prelude.{OnOk, string_bytes}
 use Rattle.report.specs.RodTexts.{rod_basis_line}
 use Rattle.report.specs.Texts.{number_line, origin_line}
