@@ -5,6 +5,8 @@ pub mod Made
 pub mod Means
 pub mod NamedSizes
 pub mod NumberedHeights
+pub mod RodNamedSizes
+pub mod RodSays
 pub mod SameSets
 pub mod Says
 pub mod ScanSections

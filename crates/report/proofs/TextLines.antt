@@ -17,3 +17,11 @@ three_pieces_more t l a b c before after = after ∙ ap (λ s. s ++ a ++ b ++ c)
   where
     joined : (t ++ l) ++ a ++ b ++ c ≡ t ++ (l ++ a ++ b ++ c)
     joined = simp append_assoc
+
+-- three lines behind a text, of which the last is written otherwise
+pub three_lines_more : (t a b c : List ℕ) {u v d : List ℕ} → u ≡ t ++ a → v ≡ u ++ b → d ≡ c → v ++ d ≡ t ++ (a ++ b ++ c)
+three_lines_more t a b c {u} {v} {d} first second third =
+    (λ i. second i ++ third i) ∙ ap (λ s. (s ++ b) ++ c) first ∙ joined
+  where
+    joined : ((t ++ a) ++ b) ++ c ≡ t ++ (a ++ b ++ c)
+    joined = simp append_assoc

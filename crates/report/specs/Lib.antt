@@ -3,6 +3,9 @@ pub mod FoundChanges
 pub mod Numbered
 pub mod ReportView
 pub mod Reports
+pub mod RodReports
+pub mod RodReportView
+pub mod RodTexts
 pub mod SectionTypes
 pub mod SectionView
 pub mod Shown

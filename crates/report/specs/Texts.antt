@@ -55,9 +55,9 @@ frame_text report =
     codes "tau " ++ vector_text report.basis.tau ++ codes "\n" ++
     codes "c " ++ fractions_text report.mean ++ codes "\n"
 
--- the number and the symbol of a layer type
-unfoldable pub number_line : ℕ → List ℕ
-number_line n = codes "type " ++ decimal n ++ codes " " ++ (layer_row n).symbol ++ codes "\n"
+-- the number and the symbol of a type
+unfoldable pub number_line : ℕ → List ℕ → List ℕ
+number_line n symbol = codes "type " ++ decimal n ++ codes " " ++ symbol ++ codes "\n"
 
 -- its two vectors in the plane, in parts, and the third one
 unfoldable pub basis_line : Vector → Vector → Fractions → List ℕ
@@ -71,7 +71,8 @@ origin_line origin behind = codes "origin " ++ fractions_text origin ++ behind +
 -- the lines of a type, by the change that was found
 abbrev pub named_lines : Basis → Fractions → Fractions → List ℕ → Change → List ℕ
 named_lines f mean origin behind c =
-    number_line c.number ++ basis_line (first_vector f c) (second_vector f c) (third_vector mean c) ++ origin_line origin behind
+    number_line c.number (layer_row c.number).symbol ++
+    basis_line (first_vector f c) (second_vector f c) (third_vector mean c) ++ origin_line origin behind
 
 -- the lines of the type of the general section, at any height s
 abbrev pub general_type_lines : Report → Option Change → List ℕ

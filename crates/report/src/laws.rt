@@ -1,10 +1,23 @@
 // What a report says. A call does nothing: its contract is the law.
-ghost use Rattle.std.specs.Prelude.{◌↔◌};
+ghost use Rattle.std.specs.Prelude.{◌↔◌, List};
+ghost use Rattle.fractions.specs.declared.part.Part.{Part};
 ghost use Rattle.symmetry.specs.Vectors.{Vector};
 ghost use Rattle.symmetry.specs.Planes.{IsCoprime};
 ghost use Rattle.symmetry.specs.Groups.{IsGroup, Listing};
 ghost use Rattle.symmetry.specs.Frames.{Basis, IsFrame};
 ghost use Rattle.symmetry.specs.Listings.{AreAlike};
+ghost use Rattle.motions.specs.Views.{parts};
+ghost use Rattle.closure.specs.declared.group.Group.{Group};
+ghost use Rattle.closure.specs.Groups.{IsGroupOf};
+ghost use Rattle.penetration.specs.declared.direction.Direction.{Direction};
+ghost use Rattle.penetration.specs.declared.frame.RodBasis.{RodBasis};
+ghost use Rattle.penetration.specs.declared.frame.RodFrame.{RodFrame};
+ghost use Rattle.penetration.specs.declared.rod.Rod.{Rod};
+ghost use Rattle.penetration.specs.DirectionView.{direction_of};
+ghost use Rattle.penetration.specs.FrameOf.{IsRodFrameOf};
+ghost use Rattle.penetration.specs.RodView.{IsRodOf};
+ghost use Rattle.report.specs.RodReports.{IsRodReport};
+ghost use Rattle.report.specs.RodReportView.{rod_report_of};
 ghost use Rattle.report.specs.Reports.{IsReport, Report};
 ghost use Rattle.report.specs.Consequences.{ReportSays};
 
@@ -19,4 +32,12 @@ pub fn report_says()
 pub fn alike_reports()
     ensures { (g h : Listing) → AreAlike g h → (r : Vector) (f : Basis) (report : Report) →
         IsReport g r f report ↔ IsReport h r f report }
+{}
+
+/// What `rod_at` gives in a rod frame of a group is, of each listing of the group, the report of the line: a rod frame that is not
+/// skewed, a' and b' in it, and the operations along the line with the first change of their section onto a rod type.
+pub fn rod_says()
+    ensures { (g : Listing) (group : Group) (direction : Direction) (basis : RodBasis) (frame : RodFrame) (point : List Part)
+        (rod : Rod) → IsGroupOf g group → IsRodFrameOf group direction basis frame → IsRodOf group frame point rod →
+        IsRodReport g (direction_of direction) (parts basis.a) (parts basis.b) (parts point) (rod_report_of rod) }
 {}

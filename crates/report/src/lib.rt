@@ -1,9 +1,9 @@
 // What the programs write: the operations at a height, the report of an orientation of planes, the images of an orientation,
-// the types, and the line of a frame.
+// the rod along a line, the types, and the line of a frame.
 //
-// Promises to the crates above: `at_text`, `images_text`, `type_text` and `frame_line` write exactly these texts;
+// Promises to the crates above: `at_text`, `images_text`, `rod_text`, `type_text` and `frame_line` write exactly these texts;
 // `Report::make` gives the report of a group in a frame, `Report::text` writes its text, and `Report::json` its JSON.
-// `report_says` is what a report says of every height.
+// `report_says` is what a report says of every height, and `rod_says` what a rod says of its line.
 #![tactic(auto)]
 
 mod at;
@@ -23,6 +23,10 @@ mod recognised;
 mod report;
 #[cfg(test)]
 mod report_tests;
+mod rod_named;
+#[cfg(test)]
+mod rod_tests;
+mod rods;
 mod section;
 #[cfg(test)]
 mod tests;
@@ -34,7 +38,8 @@ pub use at::{NoMemory, at_text};
 pub use frame::frame_line;
 pub use images::images_text;
 pub use kind::Kind;
-pub use laws::{alike_reports, report_says};
+pub use laws::{alike_reports, report_says, rod_says};
 pub use report::Report;
+pub use rods::rod_text;
 pub use section::{HeightSection, Section};
 pub use types::type_text;

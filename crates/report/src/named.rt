@@ -71,7 +71,8 @@ fn is_turned(found: &Found) -> bool
     determinant(&found.p) < 0
 }
 
-fn determinant(p: &[[i64; 2]; 2]) -> i64
+/// The determinant of the matrix of a change.
+pub(crate) fn determinant(p: &[[i64; 2]; 2]) -> i64
     requires { IsMatrix2Within 2 (matrix2_of p.now) }
     ensures { result ≡ determinant2 (matrix2_of p.now) }
 {
@@ -146,8 +147,8 @@ fn denominator(den: i64, period: Part) -> i64
     den * period.0 * OVER
 }
 
-// A ratio in lowest terms.
-fn lowest(num: i64, den: i64) -> Ratio
+/// A ratio in lowest terms.
+pub(crate) fn lowest(num: i64, den: i64) -> Ratio
     requires { pos 1 ≤ℤ den }
     ensures { fraction_of result ≡ lowest_terms num den }
 {

@@ -24,17 +24,16 @@ pub(crate) fn write_named(
     ensures { OnOk result (string_bytes text.new ≡ string_bytes text.old
         ++ named_lines (basis_of_frame frame.now) (fractions_of frame.now.c) (edges_of origin) behind.now (change_of found.now)) }
 {
-    write_number(text, found)?;
+    write_number(text, found.number, symbol(found))?;
     write_basis(text, frame, found)?;
     write_origin(text, origin, behind)
 }
 
+/// The line of the number and the symbol of a type.
 #[tactic(auto, unfolding(crate::specs::Texts::number_line))]
-fn write_number(text: &mut String, found: &Found) -> Result<(), NoMemory>
-    ensures { OnOk result (string_bytes text.new ≡ string_bytes text.old ++ number_line (change_of found.now).number) }
+pub(crate) fn write_number(text: &mut String, number: u8, symbol: &str) -> Result<(), NoMemory>
+    ensures { OnOk result (string_bytes text.new ≡ string_bytes text.old ++ number_line number symbol.now) }
 {
-    let number = found.number;
-    let symbol = symbol(found);
     write!(text, "type {number} {symbol}\n")
 }
 
@@ -60,8 +59,9 @@ fn write_vectors(text: &mut String, basis: TypeBasis) -> Result<(), NoMemory>
     write!(text, "basis {first} {second} {third}\n")
 }
 
+/// The line of an origin, with what stands behind it.
 #[tactic(auto, unfolding(crate::specs::Texts::origin_line))]
-fn write_origin(text: &mut String, origin: InEdges, behind: &str) -> Result<(), NoMemory>
+pub(crate) fn write_origin(text: &mut String, origin: InEdges, behind: &str) -> Result<(), NoMemory>
     ensures { OnOk result (string_bytes text.new ≡ string_bytes text.old ++ origin_line (edges_of origin) behind.now) }
 {
     write!(text, "origin {origin}{behind}\n")

@@ -2,21 +2,20 @@
 ghost use Rattle.std.specs.Prelude.{◌≡◌, ◌++◌, All, OnOk, codes, map, flat_map, option_map, string_bytes};
 ghost use Rattle.fractions.specs.FractionOf.{fraction_of};
 ghost use Rattle.recognition.specs.Search.{change_of};
-ghost use Rattle.fractions.specs.Fractions.{fractions_of};
-ghost use Rattle.motions.specs.Views.{parts, row_of};
+ghost use Rattle.motions.specs.Views.{row_of};
 ghost use Rattle.triplets.specs.Writing.{number_text};
 ghost use Rattle.report.specs.ReportView.{report_of};
 ghost use Rattle.report.specs.SectionView.{block_of};
 ghost use Rattle.report.specs.SmallHeights.{IsSmallHeight};
-ghost use Rattle.report.specs.Texts.{fractions_text, frame_text, indices_text, vector_text, general_text, general_type_lines, height_text, type_lines};
+ghost use Rattle.report.specs.Texts.{frame_text, indices_text, general_text, general_type_lines, height_text, type_lines};
 
 use crate::at::NoMemory;
-use crate::lines::write_operations;
+use crate::lines::{write_edges, write_operations, write_vector};
 use crate::named::{origin_at_height, origin_in_plane};
 use crate::named_lines::write_named;
 use crate::report::Report;
 use crate::section::HeightSection;
-use crate::written::{InEdges, InParts, Indices};
+use crate::written::Indices;
 use fractions::{Part, Ratio};
 use motions::Miller;
 use recognition::Found;
@@ -56,7 +55,7 @@ fn write_frame(text: &mut String, report: &Report) -> Result<(), NoMemory>
     write_vector(text, "a ", &frame.a)?;
     write_vector(text, "b ", &frame.b)?;
     write_vector(text, "tau ", &frame.tau)?;
-    write_mean(text, &frame.c)?;
+    write_edges(text, "c ", &frame.c)?;
     Ok(())
 }
 
@@ -73,22 +72,6 @@ fn write_period(text: &mut String, period: Part) -> Result<(), NoMemory>
         ≡ string_bytes text.old ++ codes "period " ++ number_text period.0 ++ codes "\n") }
 {
     write!(text, "period {period}\n")
-}
-
-fn write_vector(text: &mut String, name: &str, v: &[Part; 3]) -> Result<(), NoMemory>
-    ensures { OnOk result (string_bytes text.new
-        ≡ string_bytes text.old ++ name.now ++ vector_text (parts v.now) ++ codes "\n") }
-{
-    let vector = InParts::of(v);
-    write!(text, "{name}{vector}\n")
-}
-
-fn write_mean(text: &mut String, c: &[Ratio; 3]) -> Result<(), NoMemory>
-    ensures { OnOk result (string_bytes text.new
-        ≡ string_bytes text.old ++ codes "c " ++ fractions_text (fractions_of c.now) ++ codes "\n") }
-{
-    let mean = InEdges::of(c);
-    write!(text, "c {mean}\n")
 }
 
 // The block of the general planes.

@@ -2,10 +2,12 @@
 ghost use Rattle.std.specs.Prelude.{◌≡◌};
 ghost use Rattle.fractions.specs.Fractions.{fractions_of};
 ghost use Rattle.motions.specs.Views.{parts, row_of, vector_of};
+ghost use Rattle.penetration.specs.DirectionView.{direction_of};
 ghost use Rattle.report.specs.WrittenView.{edges_of, indices_of, parts_of};
 
 use fractions::{Part, Ratio};
 use motions::Miller;
+use penetration::Direction;
 use std::fmt;
 
 /// A vector counted in parts, written as three ratios of the cell edges.
@@ -140,6 +142,16 @@ impl Indices {
             h: v[0],
             k: v[1],
             l: v[2],
+        }
+    }
+
+    pub(crate) fn of_direction(direction: &Direction) -> Indices
+        ensures { indices_of result ≡ direction_of direction.now }
+    {
+        Indices {
+            h: direction.u,
+            k: direction.v,
+            l: direction.w,
         }
     }
 

@@ -24,4 +24,4 @@ returns c =
     c.in_ok-write_vector.ensures)
     c.in_ok-write_vector-2.ensures)
     c.in_ok-write_vector-3.ensures)
-    c.in_ok-write_mean.ensures
+    c.in_ok-write_edges.ensures
