@@ -1,8 +1,8 @@
 // What is asked of the program, and its answer or the reason why it is refused.
 //
-// Promises to the programs above: words are read as indices, ratios, vectors and frames, within the limits of a request, or
-// refused by the first limit that they pass; `group_of` reads a source to the group that it lists; `carry_out` writes the
-// whole answer to a request, or the line of a refusal, over any source and sinks.
+// Promises to the programs above: words are read as indices, ratios, points, vectors and frames, within the limits of a
+// request, or refused by the first limit that they pass; `group_of` reads a source to the group that it lists; `carry_out`
+// writes the whole answer to a request, or the line of a refusal, over any source and sinks.
 #![tactic(auto)]
 
 mod at;
