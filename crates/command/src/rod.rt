@@ -6,11 +6,12 @@ ghost use Rattle.requests.specs.Views.{asked_of};
 ghost use Rattle.command.specs.Rods.{rod_asked, rod_words};
 
 use requests::{
-    Line, LineWords, Question, Refusal, Request, split_direction, split_point, split_rod_frame,
-    within_line_limits,
+    Format, Line, LineWords, Question, Refusal, Request, split_direction, split_format,
+    split_point, split_rod_frame, within_line_limits,
 };
 
-/// What the words behind `rod` ask for, or the first limit that they pass: `u v w x y z`, and a rod frame behind it.
+/// What the words behind `rod` ask for, or the first limit that they pass: `u v w x y z`, behind it a rod frame, and last
+/// `--cif`.
 pub fn read_rod(arguments: &[String]) -> Option<Result<Request, Refusal>>
     ensures is { option_map (λ read. result_map asked_of read) result ≡ rod_words (map string_bytes arguments.now) }
     ensures range { IfSome result (λ read. IfOk read (λ request. IsAskedInRange (asked_of request))) }
@@ -18,19 +19,21 @@ pub fn read_rod(arguments: &[String]) -> Option<Result<Request, Refusal>>
     let (direction, others) = split_direction(arguments)?;
     let (point, others) = split_point(others)?;
     let (frame, others) = split_rod_frame(others)?;
+    let (format, others) = split_format(others);
+    let words = LineWords {
+        direction,
+        frame,
+        point,
+    };
     match others {
-        [] => Some(line_request(LineWords {
-            direction,
-            frame,
-            point,
-        })),
+        [] => Some(line_request(words, format)),
         _ => None,
     }
 }
 
 /// The request of a line, if the words are within the limits.
-fn line_request(words: LineWords) -> Result<Request, Refusal>
-    ensures is { result_map asked_of result ≡ rod_asked (line_words words) }
+fn line_request(words: LineWords, format: Format) -> Result<Request, Refusal>
+    ensures is { result_map asked_of result ≡ rod_asked (line_words words) format }
     ensures range { IfOk result (λ request. IsAskedInRange (asked_of request)) }
 {
     let Line {
@@ -38,9 +41,10 @@ fn line_request(words: LineWords) -> Result<Request, Refusal>
         basis,
         point,
     } = within_line_limits(words)?;
-    Ok(Request::About(Question::Rod {
+    let question = Question::Rod {
         direction,
         basis,
         point,
-    }))
+    };
+    Ok(Request::About { format, question })
 }
