@@ -18,10 +18,10 @@ use motions::Motion3;
 use scanning::{AtFault, Scan};
 use std::alloc::Global;
 
-/// The operations that map the slab from low to high to itself, point for point: those that the scan gives at the height
-/// of its middle. Where the scan is that of a group, they are the members of the group that do so and are at home, each
-/// once, in the order of the group's operations (after International Tables, Volume E, part 5, for the plane in the
-/// middle).
+/// The operations that map the slab from low to high to itself, point for point: those that the scan gives at the
+/// height of its middle. Where the scan is that of a group, they are the members of the group that do so and are at
+/// home, each once, in the order of the group's operations (after International Tables, Volume E, part 5, for the plane
+/// in the middle).
 ///
 /// Low is at most high, and both have numerators and denominators of at most [`MOST_HEIGHT`](scanning::MOST_HEIGHT) in
 /// size. [`Large`](AtFault::Large) comes exactly where half their sum has not.

@@ -22,8 +22,8 @@ pub fn stabiliser_by_middle()
         IsHeight high → IsAtMost low high → InSlabStabiliser g r low high m ↔ InStabiliser g r (half_sum low high) m }
 {}
 
-/// So a slab and the plane in its middle have the same lists, and the list of a slab lists what maps it to itself modulo
-/// the plane lattice.
+/// So a slab and the plane in its middle have the same lists, and the list of a slab lists what maps it to itself
+/// modulo the plane lattice.
 pub fn slab_lists()
     ensures same { (g : Listing) (r : Vector) (f : Basis) (low high : Height) (ms : List Motion) →
         IsGroup g → IsCoprime r → IsHeight low → IsHeight high → IsAtMost low high →
