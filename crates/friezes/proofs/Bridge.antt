@@ -1,8 +1,8 @@
 -- A change carries a section onto a type exactly where it moves the translations at each pair of signs onto each other.
-use Rattle.std.proofs.Common.{◌≡◌, ℕ, ℤ, pos, negsuc, ◌+ℤ◌, ◌-ℤ◌, ◌*ℤ◌, ◌≤ℤ◌, refl, sym, ◌∙◌, ap, subst, arith, List}
+use Rattle.std.proofs.Common.{◌≡◌, ℕ, ℤ, pos, ◌+ℤ◌, ◌-ℤ◌, ◌*ℤ◌, ◌≤ℤ◌, refl, sym, ◌∙◌, ap, subst, arith, List}
 use Rattle.std.proofs.lemmas.Int.{ints}
 use Rattle.fractions.specs.declared.part.TheConstants.{UNIT}
-use Rattle.fractions.specs.Fraction.{Fraction, SameFraction}
+use Rattle.fractions.specs.Fraction.{SameFraction}
 use Rattle.quotient.specs.Closure.{IsFactor, IsProduct}
 use Rattle.motions.specs.declared.motion.Sign.{Sign}
 use Rattle.motions.specs.declared.motion.Sign.TheVariants.{Plus, Minus}
@@ -17,7 +17,7 @@ use Rattle.friezes.specs.declared.edge.TheConstants.{GRID}
 use Rattle.friezes.specs.Lines.{edge}
 use Rattle.friezes.specs.RationalLines.{RationalLine, IsRationalLine, IsListedLine, IsWhole, fraction_minus, half_parts}
 use Rattle.friezes.specs.Changes.{CarriesOnto, IsCarried, grid_part, origin_moved}
-use Rattle.friezes.specs.Types.{IsOfFriezeType, parts}
+use Rattle.friezes.specs.Types.{IsOfFriezeType}
 use Rattle.friezes.specs.Told.{StandsAt}
 use Rattle.friezes.proofs.Agreement.{Moves}
 use Rattle.friezes.proofs.RationalShifts.{doubled, from_edges, from_whole, to_edges, to_whole}

@@ -1,5 +1,5 @@
 -- The type and the origin are told by the translations at three pairs of signs.
-use Rattle.std.proofs.Common.{◌≡◌, ℕ, suc, ◌<◌, ◌≤◌, ◌⊎◌, inl, inr, ℤ, pos, negsuc, ◌+ℤ◌, ◌-ℤ◌, ◌*ℤ◌, ◌≤ℤ◌, ◌<ℤ◌, refl, sym, ◌∙◌, ap, subst, arith, List, Bool, true, false}
+use Rattle.std.proofs.Common.{◌≡◌, ℕ, ◌<◌, ◌≤◌, ◌⊎◌, inl, inr, ℤ, pos, ◌+ℤ◌, ◌-ℤ◌, ◌*ℤ◌, ◌≤ℤ◌, ◌<ℤ◌, refl, sym, ap, subst, arith, List, Bool, true, false}
 use Rattle.std.specs.Prelude.{⊤, All, MatchOption, Option, Some, None, cond, unsigned_abs}
 use Rattle.std.specs.Ordering.{int_eq}
 use Rattle.std.proofs.lemmas.Int.{ints}
@@ -10,7 +10,7 @@ use Rattle.friezes.specs.declared.line_op.LineOp.{LineOp}
 use Rattle.friezes.specs.declared.edge.TheConstants.{GRID}
 use Rattle.friezes.specs.Lines.{edge}
 use Rattle.friezes.specs.Laws.ShiftLaws.{divided, one_rest}
-use Rattle.friezes.specs.Order.{Change, IsBefore, IsBounded, IsFirst}
+use Rattle.friezes.specs.Order.{Change, IsBounded, IsFirst}
 use Rattle.friezes.specs.Sections.{IsSection}
 use Rattle.friezes.specs.Told.{StandsAt, mirror_or_glide, number_of, origin_of, rest_of_edge}
 use Rattle.friezes.specs.Types.{HasChange}

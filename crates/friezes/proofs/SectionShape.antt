@@ -1,5 +1,5 @@
 -- The motions of a section: at each pair of signs none, or one but for whole edges; and their products.
-use Rattle.std.proofs.Common.{◌≡◌, ℕ, ◌<◌, ℤ, pos, negsuc, ◌+ℤ◌, ◌-ℤ◌, ◌*ℤ◌, refl, sym, ◌∙◌, ap, subst, arith, List, length, map, slice_index_or}
+use Rattle.std.proofs.Common.{◌≡◌, ◌<◌, ℤ, pos, ◌+ℤ◌, ◌-ℤ◌, ◌*ℤ◌, refl, sym, ◌∙◌, ap, subst, arith, List, length, map, slice_index_or}
 use Rattle.std.specs.Prelude.{All, Contains, MatchOption, Option, Some, None}
 use Rattle.std.proofs.lemmas.Int.{ints}
 use Rattle.std.proofs.lemmas.List.{get_or-map, get_or_default, length-map}
@@ -10,7 +10,7 @@ use Rattle.motions.specs.Signs.{sign_product, sign_value}
 use Rattle.motions.specs.Laws.SignLaws.{sign_product-same}
 use Rattle.motions.specs.FriezeMotions.{FriezeOperation, frieze_followed_by, frieze_identity}
 use Rattle.friezes.specs.declared.line_op.LineOp.{LineOp}
-use Rattle.friezes.specs.Lines.{edge, line_kind, line_of}
+use Rattle.friezes.specs.Lines.{edge, line_of}
 use Rattle.friezes.specs.Laws.ShiftLaws.{same_to}
 use Rattle.friezes.specs.Sections.{IsSection, IsTurnOrShift}
 use Rattle.friezes.specs.Told.{StandsAt}

@@ -1,5 +1,5 @@
 -- The motions of each frieze type: at each pair of signs none, or one but for whole edges.
-use Rattle.std.proofs.Common.{◌≡◌, ℕ, zero, suc, ◌-◌, ◌<◌, ◌≤◌, ℤ, pos, ◌+ℤ◌, ◌-ℤ◌, ◌*ℤ◌, refl, sym, ◌∙◌, ap, subst, arith, List, [], ◌∷◌, length, slice_index_or, Bool, true, false, IsTrue}
+use Rattle.std.proofs.Common.{◌≡◌, ℕ, zero, suc, ◌-◌, ◌≤◌, ℤ, pos, ◌+ℤ◌, ◌*ℤ◌, refl, sym, ◌∙◌, ap, subst, arith, List, [], ◌∷◌, slice_index_or, Bool, true, false, IsTrue}
 use Rattle.std.specs.Prelude.{Option, Some, None, Contains, int_div, ◌&&◌, cond}
 use Rattle.std.specs.List.{list_all}
 use Rattle.std.specs.Ordering.{int_eq}

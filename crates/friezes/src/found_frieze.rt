@@ -2,8 +2,8 @@
 ghost use Rattle.std.specs.Prelude.{◌<◌, ◌≤◌};
 ghost use Rattle.friezes.specs.declared.edge.TheConstants.{GRID};
 
-/// A change onto a frieze type: the number of the type, and its origin x on the line of the section, in parts of which a
-/// cell edge has [`GRID`](crate::GRID).
+/// A change onto a frieze type: the number of the type, and its origin x on the line of the section, in
+/// parts of which a cell edge has [`GRID`](crate::GRID).
 #[derive(Clone, Copy, Debug, PartialEq, Eq)]
 pub struct FoundFrieze {
     pub number: u8,

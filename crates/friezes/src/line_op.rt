@@ -3,7 +3,8 @@ ghost use Rattle.std.specs.Prelude.{◌≡◌, ◌^◌, IfSome, IsSome};
 ghost use Rattle.std.specs.Cmp.{on_equiv, partial_equiv_from_equiv};
 ghost use Rattle.integers.specs.Size.{IsWithin};
 ghost use Rattle.integers.proofs.Ring.{IsWithin-more};
-ghost use Rattle.motions.specs.FriezeMotions.{FriezeOperation, frieze_followed_by, frieze_identity, frieze_of, same_frieze};
+ghost use Rattle.motions.specs.FriezeMotions.{FriezeOperation, frieze_followed_by, frieze_identity};
+ghost use Rattle.motions.specs.FriezeMotions.{frieze_of, same_frieze};
 ghost use Rattle.motions.specs.Laws.FriezeLaws.{frieze_laws, same_frieze-is, same_frieze_laws};
 ghost use Rattle.motions.specs.Laws.LineLaws.{along_within, nothing_within};
 ghost use Rattle.friezes.specs.Lines.{line_of};
@@ -11,11 +12,11 @@ ghost use Rattle.friezes.specs.Lines.{line_of};
 use motions::{FriezeMotion, Sign};
 use quotient::Motion;
 
-/// What a motion of a plane that maps a line to itself does along the line: it takes a point of the line at x to f x + t,
-/// and it turns what lies beside the line by the sign e.
+/// What a motion of a plane that maps a line to itself does along the line: it takes the point of the line at x to
+/// the one at f x + t, and what lies beside the line to the side that the sign e tells.
 ///
-/// `t` is counted in half parts, of which the cell edge along the line has [`EDGE`](crate::EDGE) (International Tables,
-/// Volume E, frieze groups).
+/// `t` is counted in half parts, of which the cell edge along the line has [`EDGE`](crate::EDGE) (International
+/// Tables, Volume E, frieze groups).
 #[derive(Clone, Copy, Debug)]
 pub struct LineOp {
     pub f: Sign,

@@ -49,8 +49,8 @@ fn number(glide: Option<i64>, mirror: Option<i64>, turn: Option<i64>) -> u8
     }
 }
 
-/// The least origin at which the type has a half-turn, or without one a mirror across the line. A motion that turns the
-/// line by t half parts about one origin keeps the point that lies t/2 half parts from it.
+/// The least origin at which the type has a half-turn, or without one a mirror across the line: what turns the line
+/// and moves the old origin by t keeps the point at t/2.
 fn origin(turn: Option<i64>, mirror: Option<i64>) -> u32
     ensures { result ≡ origin_of turn mirror }
 {
@@ -60,11 +60,11 @@ fn origin(turn: Option<i64>, mirror: Option<i64>) -> u32
     }
 }
 
-/// The first change that carries a section along a line onto a frieze type: of the least number, and then with the least
-/// origin. There always is one.
+/// The first change that carries a section along a line onto a frieze type: of the least number, and then with the
+/// least origin. There always is one.
 ///
-/// The section is that of the listed motions and whole cell edges (International Tables, Volume E, frieze groups). It is
-/// a group, in which a motion that turns nothing moves by whole cell edges.
+/// The section is that of the listed motions and whole cell edges (International Tables, Volume E, frieze groups).
+/// It is a group, in which a motion that turns nothing moves by whole cell edges.
 pub fn frieze_type(section: &[LineOp]) -> FoundFrieze
     requires { IsSection section.now }
     ensures { IsFirst (HasChange section.now) (change_of result) }

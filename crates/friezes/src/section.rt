@@ -28,8 +28,8 @@ fn are_turns_or_shifts(section: &[LineOp]) -> bool
     true
 }
 
-/// Whether a list of small motions is a section along a line: a group modulo whole cell edges, in which a motion that
-/// turns nothing moves by whole cell edges.
+/// Whether a list of small motions is a section along a line: a group modulo whole cell edges, in which a motion
+/// that turns nothing moves by whole cell edges.
 pub fn is_section(section: &[LineOp]) -> bool
     requires { All IsSmallLine section.now }
     ensures { IsTrue result ↔ IsSection section.now }

@@ -1,5 +1,5 @@
-// Sections along known lines, by hand: the types in their own settings and about other origins, and the lines of a group
-// of the plane.
+// Sections along known lines, by hand: the types in their own settings and about other origins, and the lines of
+// a group of the plane.
 ghost use Rattle.std.specs.Prelude.{All};
 ghost use Rattle.friezes.specs.Sections.{IsSmallLine};
 

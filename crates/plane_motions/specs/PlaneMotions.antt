@@ -1,0 +1,61 @@
+-- Motions of the plane, how they multiply, and what they are in space.
+use Rattle.std.specs.Prelude.{◌≡◌, pos, List}
+use Rattle.fractions.specs.declared.part.Part.{Part}
+use Rattle.symmetry.specs.Motions.{Motion}
+use Rattle.motions.specs.declared.motion.Sign.TheVariants.{Plus}
+use Rattle.motions.specs.Layers.{PlanarMotion}
+use Rattle.motions.specs.PlaneMatrices.{Matrix2, Pair, image2, origin2, plus2, product2, unit2}
+use Rattle.motions.specs.PlaneViews.{matrix2_of}
+use Rattle.motions.specs.Views.{part_at}
+use Rattle.plane_motions.specs.declared.plane_motion.Motion2.{Motion2}
+
+-- (W, w): the matrix W, and the translation w in parts
+pub record PlaneMotion : Type 0 where
+  pub matrix : Matrix2
+  pub shift : Pair
+
+-- the two entries of an array of parts
+abbrev pub parts2 : List Part → Pair
+parts2 ps = record { x = part_at ps 0; y = part_at ps 1 }
+
+-- the motion that a Motion2 is
+abbrev pub plane_of : Motion2 → PlaneMotion
+plane_of m = record { matrix = matrix2_of m.w; shift = parts2 m.t }
+
+-- first (V, v), then (W, w): the motion (W V, W v + w)
+abbrev pub plane_followed_by : PlaneMotion → PlaneMotion → PlaneMotion
+plane_followed_by first next = record {
+  matrix = product2 next.matrix first.matrix;
+  shift = plus2 (image2 next.matrix first.shift) next.shift;
+}
+
+-- the motion that moves nothing
+abbrev pub plane_identity : PlaneMotion
+plane_identity = record { matrix = unit2; shift = origin2 }
+
+-- the motion of a layer that keeps its sides, and what a motion of a layer does in its plane
+abbrev pub in_layer : PlaneMotion → PlanarMotion
+in_layer m = record { matrix = m.matrix; side = Plus; shift = m.shift }
+
+abbrev pub in_plane : PlanarMotion → PlaneMotion
+in_plane m = record { matrix = m.matrix; shift = m.shift }
+
+-- the motion of space that leaves the third axis as it is
+abbrev pub plane_block : PlaneMotion → Motion
+plane_block m = record {
+  matrix = record {
+    first = record { x = m.matrix.first.x; y = m.matrix.first.y; z = pos 0 };
+    second = record { x = m.matrix.second.x; y = m.matrix.second.y; z = pos 0 };
+    third = record { x = pos 0; y = pos 0; z = pos 1 };
+  };
+  shift = record { x = m.shift.x; y = m.shift.y; z = pos 0 };
+}
+
+-- the third row and column of the matrix are those of the unit matrix, and the third translation is 0
+pub record IsFlat (m : Motion) : Type 0 where
+  pub row_x : m.matrix.third.x ≡ pos 0
+  pub row_y : m.matrix.third.y ≡ pos 0
+  pub row_z : m.matrix.third.z ≡ pos 1
+  pub column_x : m.matrix.first.z ≡ pos 0
+  pub column_y : m.matrix.second.z ≡ pos 0
+  pub shift : m.shift.z ≡ pos 0
