@@ -33,9 +33,9 @@ fn read_command(words: &[String]) -> Option<Result<Request, Refusal>>
 
 /// The request that the words are.
 ///
-/// The refusals, in this order: `Usage`, the words are no request; `FourIndex`, i is not -(h+k); `OutOfRange`, `AllZero`, `NotCoprime`, the indices
-/// are no Miller indices, or those of a direction; `FrameLimit`, `PointLimit`, `HeightLimit`, an entry of the frame, a coordinate of
-/// the point or the height is out of range.
+/// The refusals, in this order: `Usage`, the words are no request; `FourIndex`, i is not -(h+k); `OutOfRange`, `AllZero`,
+/// `NotCoprime`, the indices are no Miller indices, or those of no direction; `FrameLimit`, `PointLimit`, `HeightLimit`, an
+/// entry of the frame, a coordinate of the point or the height is out of range.
 pub fn read_words(words: &[String]) -> Result<Request, Refusal>
     ensures is { result_map asked_of result ≡ asked_by (map string_bytes words.now) }
     ensures range { IfOk result (λ request. IsAskedInRange (asked_of request)) }

@@ -1,4 +1,5 @@
-// The program `frame`: Miller indices and a group text or a CIF file in, the three vectors of a reduced frame or the line of one refusal out.
+// The program `frame`: Miller indices and a group text or a CIF file in, the three vectors of a reduced frame or the line of
+// one refusal out.
 //
 // Promises to its user: the contract of `run`, over the words, the standard streams and the status of the process.
 #![tactic(auto)]
