@@ -10,7 +10,7 @@ use crate::traits::{Failed, Source};
 use std::alloc::{AllocError, Global};
 
 // A call of `next` is asked for at most so many bytes.
-const PIECE: usize = 65_536;
+const PIECE: usize = 16_384;
 
 /// What a source gave up to its end.
 #[derive(Debug, PartialEq, Eq, Drop)]
