@@ -5,6 +5,7 @@ use Rattle.symmetry.specs.Vectors.{Vector}
 use Rattle.motions.specs.Views.{parts}
 use Rattle.motions.specs.declared.motion.Sign.TheVariants.{Plus}
 use Rattle.fractions.specs.declared.part.Part.{Part}
+use Rattle.triplets.specs.declared.notation.Notation.{Notation}
 use Rattle.triplets.specs.declared.fault.TextKind.{TextKind}
 use Rattle.triplets.specs.declared.marks.Mark.TheVariants as marks
 use Rattle.triplets.specs.declared.part.Spot.{Spot}
@@ -28,23 +29,23 @@ with_vector_grows : (v : Option (List Part)) (vs : List Vector) → length vs �
 with_vector_grows None vs = omega arith
 with_vector_grows (Some v) vs = omega (arith, length-append vs (parts v ∷ []))
 
-grows_by : (r : Result LineState TextKind) (b : ℕ) (bs : List ℕ) (s t : LineState) → ((u : LineState) → line_run (Ok u) bs ≡ line_going t → length u.vectors ≤ length t.vectors) →
-    line_step (mark b) s ≡ r → line_run r bs ≡ line_going t → length s.vectors ≤ length t.vectors
-grows_by (Err k) b bs s t then_on h e = absurd (let z = run_line_stopped k bs in cc)
-grows_by (Ok u) b bs s t then_on h e =
-    let v = completed (mark b) s.place in
-    let p = placed_by (place_step (mark b) s.place) (with_vector v s.vectors) u h in
+grows_by : (nt : Notation) → (r : Result LineState TextKind) (b : ℕ) (bs : List ℕ) (s t : LineState) → ((u : LineState) → line_run nt (Ok u) bs ≡ line_going t → length u.vectors ≤ length t.vectors) →
+    line_step nt (mark nt b) s ≡ r → line_run nt r bs ≡ line_going t → length s.vectors ≤ length t.vectors
+grows_by nt (Err k) b bs s t then_on h e = absurd (let z = run_line_stopped nt k bs in cc)
+grows_by nt (Ok u) b bs s t then_on h e =
+    let v = completed (mark nt b) s.place in
+    let p = placed_by (place_step nt (mark nt b) s.place) (with_vector v s.vectors) u h in
     let same : length u.vectors ≡ length (with_vector v s.vectors) = ap (λ (x : LineState). length x.vectors) p.state in
     omega (arith, then_on u e, with_vector_grows v s.vectors, same)
 
-vectors_grow : (bs : List ℕ) (s t : LineState) → line_run (Ok s) bs ≡ line_going t → length s.vectors ≤ length t.vectors
-vectors_grow [] s t e =
+vectors_grow : (nt : Notation) → (bs : List ℕ) (s t : LineState) → line_run nt (Ok s) bs ≡ line_going t → length s.vectors ≤ length t.vectors
+vectors_grow nt [] s t e =
     let same : length t.vectors ≡ length s.vectors = ap (λ (x : LineState). length x.vectors) (going_line_is s t e) in
     omega (arith, same)
-vectors_grow (b ∷ bs) s t e = grows_by (line_step (mark b) s) b bs s t (λ u. vectors_grow bs u t) refl e
+vectors_grow nt (b ∷ bs) s t e = grows_by nt (line_step nt (mark nt b) s) b bs s t (λ u. vectors_grow nt bs u t) refl e
 
-run_grows : (xs ys : List ℕ) (s t : LineState) → line_run (Ok line_start) xs ≡ line_going s → line_run (Ok line_start) (xs ++ ys) ≡ line_going t → length s.vectors ≤ length t.vectors
-run_grows xs ys s t h e = vectors_grow ys s t (ap (λ (r : Result LineState TextKind). line_run r ys) (sym h) ∙ (sym (line_run-append (Ok line_start) xs ys) ∙ e))
+run_grows : (nt : Notation) → (xs ys : List ℕ) (s t : LineState) → line_run nt (Ok line_start) xs ≡ line_going s → line_run nt (Ok line_start) (xs ++ ys) ≡ line_going t → length s.vectors ≤ length t.vectors
+run_grows nt xs ys s t h e = vectors_grow nt ys s t (ap (λ (r : Result LineState TextKind). line_run nt r ys) (sym h) ∙ (sym (line_run-append nt (Ok line_start) xs ys) ∙ e))
 
 -- ---- a vector is kept by its +, and by no byte before it
 
@@ -67,42 +68,42 @@ coordinate_signed (spots.Divided m) v xs vs e = absurd cc
 coordinate_signed (spots.Below m d) v xs vs e = absurd cc
 coordinate_signed spots.Behind v xs vs e = absurd cc
 
-plus_keeps : (p : LinePlace) (xs vs : List Vector) → line_step (marks.Signs Plus) (state_of p xs) ≡ behind vs → length vs ≡ length xs + 1
-plus_keeps places.Start xs vs e = let z = behind_is _ xs vs e in absurd cc
-plus_keeps (places.Operation t) xs vs e = operation_signed (step (marks.Signs Plus) t) xs vs e
-plus_keeps (places.Coordinates v) xs vs e = coordinate_signed v.part.spot v xs vs e
-plus_keeps (places.Closed v) xs vs e =
+plus_keeps : (nt : Notation) → (p : LinePlace) (xs vs : List Vector) → line_step nt (marks.Signs Plus) (state_of p xs) ≡ behind vs → length vs ≡ length xs + 1
+plus_keeps nt places.Start xs vs e = let z = behind_is _ xs vs e in absurd cc
+plus_keeps nt (places.Operation t) xs vs e = operation_signed (step nt (marks.Signs Plus) t) xs vs e
+plus_keeps nt (places.Coordinates v) xs vs e = coordinate_signed v.part.spot v xs vs e
+plus_keeps nt (places.Closed v) xs vs e =
     let same : length vs ≡ length (xs ++ parts v ∷ []) = ap (λ (x : LineState). length x.vectors) (going_line_is _ _ e) in
     omega (arith, same, length-append xs (parts v ∷ []))
-plus_keeps places.Behind xs vs e = absurd cc
-plus_keeps (places.Comment o) xs vs e = let z = behind_is _ xs vs e in absurd cc
+plus_keeps nt places.Behind xs vs e = absurd cc
+plus_keeps nt (places.Comment o) xs vs e = let z = behind_is _ xs vs e in absurd cc
 
 -- a vector without its +
-abbrev unclosed : Centring → List ℕ
-unclosed c = in_bracket None c.before (closed_text c.one c.two c.three (blanks_text c.between))
+abbrev unclosed : (nt : Notation) → Centring nt → List ℕ
+unclosed nt c = in_bracket nt None c.before (closed_text nt c.one c.two c.three (blanks_text c.between))
 
-closes : (c : Centring) → unclosed c ++ 43 ∷ [] ≡ centring_text c
-closes c = bracket_more None c.before (closed_text c.one c.two c.three (blanks_text c.between)) (43 ∷ []) (closed_text c.one c.two c.three (blanks_text c.between ++ 43 ∷ [])) (closed_more c.one c.two c.three (blanks_text c.between) (43 ∷ []))
+closes : (nt : Notation) → (c : Centring nt) → unclosed nt c ++ 43 ∷ [] ≡ centring_text nt c
+closes nt c = bracket_more nt None c.before (closed_text nt c.one c.two c.three (blanks_text c.between)) (43 ∷ []) (closed_text nt c.one c.two c.three (blanks_text c.between ++ 43 ∷ [])) (closed_more nt c.one c.two c.three (blanks_text c.between) (43 ∷ []))
 
-record IsUnclosed (bytes : List ℕ) : Type 0 where
+record IsUnclosed (nt : Notation) (bytes : List ℕ) : Type 0 where
   last : LineState
-  run_is : line_run (Ok line_start) bytes ≡ line_going last
+  run_is : line_run nt (Ok line_start) bytes ≡ line_going last
   none : length last.vectors ≡ 0
 
-unclosed_by : (r : Result LineState TextKind) (bytes : List ℕ) (v : Vector) → line_run (Ok line_start) bytes ≡ r → line_advance r 43 ≡ behind (v ∷ []) → IsUnclosed bytes
-unclosed_by (Ok s) bytes v h e = record { last = s; run_is = h; none = let k = plus_keeps s.place s.vectors (v ∷ []) e in omega (arith, k) }
-unclosed_by (Err k) bytes v h e = absurd cc
+unclosed_by : (nt : Notation) → (r : Result LineState TextKind) (bytes : List ℕ) (v : Vector) → line_run nt (Ok line_start) bytes ≡ r → line_advance nt r 43 ≡ behind (v ∷ []) → IsUnclosed nt bytes
+unclosed_by nt (Ok s) bytes v h e = record { last = s; run_is = h; none = let k = plus_keeps nt s.place s.vectors (v ∷ []) e in omega (arith, k) }
+unclosed_by nt (Err k) bytes v h e = absurd cc
 
-is_unclosed : (c : Centring) → IsUnclosed (unclosed c)
-is_unclosed c =
-    unclosed_by (line_run (Ok line_start) (unclosed c)) (unclosed c) (centring_value c) refl
-    (sym (line_run-append (Ok line_start) (unclosed c) (43 ∷ [])) ∙ (ap (line_run (Ok line_start)) (closes c) ∙ centrings_run (one c)))
+is_unclosed : (nt : Notation) → (c : Centring nt) → IsUnclosed nt (unclosed nt c)
+is_unclosed nt c =
+    unclosed_by nt (line_run nt (Ok line_start) (unclosed nt c)) (unclosed nt c) (centring_value nt c) refl
+    (sym (line_run-append nt (Ok line_start) (unclosed nt c) (43 ∷ [])) ∙ (ap (line_run nt (Ok line_start)) (closes nt c) ∙ centrings_run nt (one c)))
 
 -- no vector is the beginning of one without its +
-not_within : (c d : Centring) (rest : List ℕ) → ¬ (unclosed d ≡ centring_text c ++ rest)
-not_within c d rest e =
-    let u = is_unclosed d in
-    let g = run_grows (centring_text c) rest (state_of places.Behind (centring_value c ∷ [])) u.last (centrings_run (one c)) (ap (line_run (Ok line_start)) (sym e) ∙ u.run_is) in
+not_within : (nt : Notation) → (c d : Centring nt) (rest : List ℕ) → ¬ (unclosed nt d ≡ centring_text nt c ++ rest)
+not_within nt c d rest e =
+    let u = is_unclosed nt d in
+    let g = run_grows nt (centring_text nt c) rest (state_of places.Behind (centring_value nt c ∷ [])) u.last (centrings_run nt (one c)) (ap (line_run nt (Ok line_start)) (sym e) ∙ u.run_is) in
     let some : 1 ≤ length u.last.vectors = g in
     omega (arith, u.none, some)
 
@@ -131,108 +132,108 @@ last_left (y ∷ m) rest b x e =
     let n : 1 ≡ length ((y ∷ m) ++ x ∷ rest) = ap (λ (l : List ℕ). length l) e in
     absurd (omega (arith, n, length-append (y ∷ m) (x ∷ rest)))
 
-none_further : (c d : Centring) (m : List ℕ) → centring_text d ≡ centring_text c ++ m → m ≡ []
-none_further c d [] e = refl
-none_further c d (x ∷ m) e =
-    elim (cuts (unclosed d) (43 ∷ []) (centring_text c) (x ∷ m) (closes d ∙ e)) [
-      | inl k ↦ absurd (not_within c d [] (sym (append-nil (unclosed d)) ∙ (ap (λ (l : List ℕ). unclosed d ++ l) (sym (last_left k.between m 43 x k.back)) ∙ (sym k.front ∙ sym (append-nil (centring_text c))))))
-      | inr k ↦ absurd (not_within c d k.between k.front)
+none_further : (nt : Notation) → (c d : Centring nt) (m : List ℕ) → centring_text nt d ≡ centring_text nt c ++ m → m ≡ []
+none_further nt c d [] e = refl
+none_further nt c d (x ∷ m) e =
+    elim (cuts (unclosed nt d) (43 ∷ []) (centring_text nt c) (x ∷ m) (closes nt d ∙ e)) [
+      | inl k ↦ absurd (not_within nt c d [] (sym (append-nil (unclosed nt d)) ∙ (ap (λ (l : List ℕ). unclosed nt d ++ l) (sym (last_left k.between m 43 x k.back)) ∙ (sym k.front ∙ sym (append-nil (centring_text nt c))))))
+      | inr k ↦ absurd (not_within nt c d k.between k.front)
     ]
 
 abbrev first_vector : Vector → List Vector → Vector
 first_vector v [] = v
 first_vector v (w ∷ ws) = w
 
-same_value : (c d : Centring) → centring_text c ≡ centring_text d → centring_value c ≡ centring_value d
-same_value c d e =
-    let h : behind (centring_value d ∷ []) ≡ behind (centring_value c ∷ []) = sym (centrings_run (one d)) ∙ (ap (line_run (Ok line_start)) (sym e) ∙ centrings_run (one c)) in
-    ap (first_vector (centring_value c)) (ap (λ (x : LineState). x.vectors) (going_line_is _ _ h))
+same_value : (nt : Notation) → (c d : Centring nt) → centring_text nt c ≡ centring_text nt d → centring_value nt c ≡ centring_value nt d
+same_value nt c d e =
+    let h : behind (centring_value nt d ∷ []) ≡ behind (centring_value nt c ∷ []) = sym (centrings_run nt (one d)) ∙ (ap (line_run nt (Ok line_start)) (sym e) ∙ centrings_run nt (one c)) in
+    ap (first_vector (centring_value nt c)) (ap (λ (x : LineState). x.vectors) (going_line_is _ _ h))
 
-record IsOneCentring (c d : Centring) (xs ys : List ℕ) : Type 0 where
-  value : centring_value c ≡ centring_value d
+record IsOneCentring (nt : Notation) (c d : Centring nt) (xs ys : List ℕ) : Type 0 where
+  value : centring_value nt c ≡ centring_value nt d
   rest : xs ≡ ys
 
-one_after : (c d : Centring) (xs ys : List ℕ) → Cut (centring_text c) xs (centring_text d) ys → IsOneCentring c d xs ys
-one_after c d xs ys k =
-    let m = none_further c d k.between k.front in
+one_after : (nt : Notation) → (c d : Centring nt) (xs ys : List ℕ) → Cut (centring_text nt c) xs (centring_text nt d) ys → IsOneCentring nt c d xs ys
+one_after nt c d xs ys k =
+    let m = none_further nt c d k.between k.front in
     record {
-      value = same_value c d (sym (append-nil (centring_text c)) ∙ (ap (λ (l : List ℕ). centring_text c ++ l) (sym m) ∙ sym k.front));
+      value = same_value nt c d (sym (append-nil (centring_text nt c)) ∙ (ap (λ (l : List ℕ). centring_text nt c ++ l) (sym m) ∙ sym k.front));
       rest = k.back ∙ ap (λ (l : List ℕ). l ++ ys) m;
     }
 
-one_centring : (c d : Centring) (xs ys : List ℕ) → centring_text c ++ xs ≡ centring_text d ++ ys → IsOneCentring c d xs ys
-one_centring c d xs ys e =
-    elim (cuts (centring_text c) xs (centring_text d) ys e) [
-      | inl k ↦ one_after c d xs ys k
-      | inr k ↦ let o = one_after d c ys xs k in record { value = sym o.value; rest = sym o.rest }
+one_centring : (nt : Notation) → (c d : Centring nt) (xs ys : List ℕ) → centring_text nt c ++ xs ≡ centring_text nt d ++ ys → IsOneCentring nt c d xs ys
+one_centring nt c d xs ys e =
+    elim (cuts (centring_text nt c) xs (centring_text nt d) ys e) [
+      | inl k ↦ one_after nt c d xs ys k
+      | inr k ↦ let o = one_after nt d c ys xs k in record { value = sym o.value; rest = sym o.rest }
     ]
 
 -- the vectors begun are one list
-pub one_begun_row : (bytes : List ℕ) (vs ws : List Vector) → AreBegunVectors bytes vs → AreBegunVectors bytes ws → vs ≡ ws
-one_begun_row bytes [] [] h i = refl
-one_begun_row bytes [] (w ∷ ws) h i = absurd (h i.0 i.1 i.2)
-one_begun_row bytes (v ∷ vs) [] h i = absurd (i h.0 h.1 h.2)
-one_begun_row bytes (v ∷ vs) (w ∷ ws) h i =
-    let o = one_centring h.0 i.0 h.1 i.1 (sym h.2 ∙ i.2) in
+pub one_begun_row : (nt : Notation) → (bytes : List ℕ) (vs ws : List Vector) → AreBegunVectors nt bytes vs → AreBegunVectors nt bytes ws → vs ≡ ws
+one_begun_row nt bytes [] [] h i = refl
+one_begun_row nt bytes [] (w ∷ ws) h i = absurd (h i.0 i.1 i.2)
+one_begun_row nt bytes (v ∷ vs) [] h i = absurd (i h.0 h.1 h.2)
+one_begun_row nt bytes (v ∷ vs) (w ∷ ws) h i =
+    let o = one_centring nt h.0 i.0 h.1 i.1 (sym h.2 ∙ i.2) in
     let first : v ≡ w = h.3 ∙ (o.value ∙ sym i.3) in
-    let others = one_begun_row h.1 vs ws h.4 (subst (λ (x : List ℕ). AreBegunVectors x ws) (sym o.rest) i.4) in
+    let others = one_begun_row nt h.1 vs ws h.4 (subst (λ (x : List ℕ). AreBegunVectors nt x ws) (sym o.rest) i.4) in
     ap (λ (x : Vector). x ∷ vs) first ∙ ap (λ (l : List Vector). w ∷ l) others
 
 -- ---- what the reader keeps of a line
 
 -- the whole vectors of a line begun, and what stands behind them
-record HasWhole (q : LineBegun) : Type 0 where
-  whole : Option Centrings
+record HasWhole (nt : Notation) (q : LineBegun nt) : Type 0 where
+  whole : Option (Centrings nt)
   rest : List ℕ
-  text : line_text q ≡ prior_text whole ++ rest
-  vectors : (line_state q).vectors ≡ prior_value whole
+  text : line_text nt q ≡ prior_text nt whole ++ rest
+  vectors : (line_state nt q).vectors ≡ prior_value nt whole
 
-has_whole : (q : LineBegun) → HasWhole q
-has_whole (at_start bs) = record { whole = None; rest = blanks_text bs; text = refl; vectors = refl }
-has_whole (at_opening bs o) = record { whole = None; rest = line_text (at_opening bs o); text = refl; vectors = refl }
-has_whole (at_operation l q) = record { whole = None; rest = line_text (at_operation l q); text = refl; vectors = refl }
-has_whole (at_vector r bs q) = record { whole = r; rest = _; text = refl; vectors = refl }
-has_whole (at_closed r bs c d e ks) = record { whole = r; rest = _; text = refl; vectors = refl }
-has_whole (at_behind r bs) = record { whole = Some r; rest = blanks_text bs; text = refl; vectors = refl }
-has_whole (at_comment (empty bs) cs) = record { whole = None; rest = line_text (at_comment (empty bs) cs); text = refl; vectors = refl }
-has_whole (at_comment (operation l v w x) cs) = record { whole = None; rest = line_text (at_comment (operation l v w x) cs); text = refl; vectors = refl }
-has_whole (at_comment (row r bs) cs) = record { whole = Some r; rest = blanks_text bs ++ (35 ∷ cs); text = append_assoc (centrings_text r) (blanks_text bs) (35 ∷ cs); vectors = refl }
+has_whole : (nt : Notation) → (q : LineBegun nt) → HasWhole nt q
+has_whole nt (at_start bs) = record { whole = None; rest = blanks_text bs; text = refl; vectors = refl }
+has_whole nt (at_opening bs o) = record { whole = None; rest = line_text nt (at_opening bs o); text = refl; vectors = refl }
+has_whole nt (at_operation l q) = record { whole = None; rest = line_text nt (at_operation l q); text = refl; vectors = refl }
+has_whole nt (at_vector r bs q) = record { whole = r; rest = _; text = refl; vectors = refl }
+has_whole nt (at_closed r bs c d e ks) = record { whole = r; rest = _; text = refl; vectors = refl }
+has_whole nt (at_behind r bs) = record { whole = Some r; rest = blanks_text bs; text = refl; vectors = refl }
+has_whole nt (at_comment (empty bs) cs) = record { whole = None; rest = line_text nt (at_comment (empty bs) cs); text = refl; vectors = refl }
+has_whole nt (at_comment (operation l v w x) cs) = record { whole = None; rest = line_text nt (at_comment (operation l v w x) cs); text = refl; vectors = refl }
+has_whole nt (at_comment (row r bs) cs) = record { whole = Some r; rest = blanks_text bs ++ (35 ∷ cs); text = append_assoc (centrings_text nt r) (blanks_text bs) (35 ∷ cs); vectors = refl }
 
-all_more : (r : Option Centrings) (c : Centring) (rest : List ℕ) → prior_text r ++ (centring_text c ++ rest) ≡ centrings_text (all_of r c) ++ rest
-all_more None c rest = refl
-all_more (Some rs) c rest = sym (append_assoc (centrings_text rs) (centring_text c) rest)
+all_more : (nt : Notation) → (r : Option (Centrings nt)) (c : Centring nt) (rest : List ℕ) → prior_text nt r ++ (centring_text nt c ++ rest) ≡ centrings_text nt (all_of nt r c) ++ rest
+all_more nt None c rest = refl
+all_more nt (Some rs) c rest = sym (append_assoc (centrings_text nt rs) (centring_text nt c) rest)
 
-all_count : (r : Option Centrings) (c : Centring) → length (centrings_value (all_of r c)) ≡ length (prior_value r) + 1
-all_count None c = refl
-all_count (Some rs) c = length-append (centrings_value rs) (centring_value c ∷ [])
+all_count : (nt : Notation) → (r : Option (Centrings nt)) (c : Centring nt) → length (centrings_value nt (all_of nt r c)) ≡ length (prior_value nt r) + 1
+all_count nt None c = refl
+all_count nt (Some rs) c = length-append (centrings_value nt rs) (centring_value nt c ∷ [])
 
 -- behind the vectors that are kept none stands whole
-no_further : (r : Option Centrings) (rest : List ℕ) (s : LineState) → line_run (Ok line_start) (prior_text r ++ rest) ≡ line_going s → s.vectors ≡ prior_value r → AreBegunVectors rest []
-no_further r rest s h v c more e =
-    let g = run_grows (centrings_text (all_of r c)) more (state_of places.Behind (centrings_value (all_of r c))) s (centrings_run (all_of r c))
-    (ap (line_run (Ok line_start)) (sym (all_more r c more)) ∙ (ap (λ (x : List ℕ). line_run (Ok line_start) (prior_text r ++ x)) (sym e) ∙ h)) in
-    let grown : length (centrings_value (all_of r c)) ≤ length s.vectors = g in
-    let same : length s.vectors ≡ length (prior_value r) = ap (λ (x : List Vector). length x) v in
-    omega (arith, grown, same, all_count r c)
+no_further : (nt : Notation) → (r : Option (Centrings nt)) (rest : List ℕ) (s : LineState) → line_run nt (Ok line_start) (prior_text nt r ++ rest) ≡ line_going s → s.vectors ≡ prior_value nt r → AreBegunVectors nt rest []
+no_further nt r rest s h v c more e =
+    let g = run_grows nt (centrings_text nt (all_of nt r c)) more (state_of places.Behind (centrings_value nt (all_of nt r c))) s (centrings_run nt (all_of nt r c))
+    (ap (line_run nt (Ok line_start)) (sym (all_more nt r c more)) ∙ (ap (λ (x : List ℕ). line_run nt (Ok line_start) (prior_text nt r ++ x)) (sym e) ∙ h)) in
+    let grown : length (centrings_value nt (all_of nt r c)) ≤ length s.vectors = g in
+    let same : length s.vectors ≡ length (prior_value nt r) = ap (λ (x : List Vector). length x) v in
+    omega (arith, grown, same, all_count nt r c)
 
-centrings_then : (r : Centrings) (rest : List ℕ) (vs : List Vector) → AreBegunVectors rest vs → AreBegunVectors (centrings_text r ++ rest) (centrings_value r ++ vs)
-centrings_then (one c) rest vs h = (c, rest, refl, refl, h)
-centrings_then (further r c) rest vs h =
-    subst (λ (x : List ℕ). AreBegunVectors x (centrings_value (further r c) ++ vs)) (sym (append_assoc (centrings_text r) (centring_text c) rest))
-    (subst (λ (y : List Vector). AreBegunVectors (centrings_text r ++ (centring_text c ++ rest)) y) (sym (append_assoc (centrings_value r) (centring_value c ∷ []) vs))
-    (centrings_then r (centring_text c ++ rest) (centring_value c ∷ vs) (c, rest, refl, refl, h)))
+centrings_then : (nt : Notation) → (r : Centrings nt) (rest : List ℕ) (vs : List Vector) → AreBegunVectors nt rest vs → AreBegunVectors nt (centrings_text nt r ++ rest) (centrings_value nt r ++ vs)
+centrings_then nt (one c) rest vs h = (c, rest, refl, refl, h)
+centrings_then nt (further r c) rest vs h =
+    subst (λ (x : List ℕ). AreBegunVectors nt x (centrings_value nt (further r c) ++ vs)) (sym (append_assoc (centrings_text nt r) (centring_text nt c) rest))
+    (subst (λ (y : List Vector). AreBegunVectors nt (centrings_text nt r ++ (centring_text nt c ++ rest)) y) (sym (append_assoc (centrings_value nt r) (centring_value nt c ∷ []) vs))
+    (centrings_then nt r (centring_text nt c ++ rest) (centring_value nt c ∷ vs) (c, rest, refl, refl, h)))
 
-prior_then : (r : Option Centrings) (rest : List ℕ) → AreBegunVectors rest [] → AreBegunVectors (prior_text r ++ rest) (prior_value r)
-prior_then None rest h = h
-prior_then (Some r) rest h = subst (λ (y : List Vector). AreBegunVectors (centrings_text r ++ rest) y) (append-nil (centrings_value r)) (centrings_then r rest [] h)
+prior_then : (nt : Notation) → (r : Option (Centrings nt)) (rest : List ℕ) → AreBegunVectors nt rest [] → AreBegunVectors nt (prior_text nt r ++ rest) (prior_value nt r)
+prior_then nt None rest h = h
+prior_then nt (Some r) rest h = subst (λ (y : List Vector). AreBegunVectors nt (centrings_text nt r ++ rest) y) (append-nil (centrings_value nt r)) (centrings_then nt r rest [] h)
 
 -- the vectors that are kept of a line begun
-pub begun_row : (bytes : List ℕ) (s : LineState) → line_run (Ok line_start) bytes ≡ line_going s → AreBegunVectors bytes s.vectors
-begun_row bytes s h =
-    let g = line_goes bytes (at_start []) s h in
-    let w = has_whole g.to in
-    let text : bytes ≡ prior_text w.whole ++ w.rest = g.text ∙ w.text in
-    let vectors : s.vectors ≡ prior_value w.whole = ap (λ (x : LineState). x.vectors) g.state ∙ w.vectors in
-    subst (λ (x : List ℕ). AreBegunVectors x s.vectors) (sym text)
-    (subst (λ (y : List Vector). AreBegunVectors (prior_text w.whole ++ w.rest) y) (sym vectors)
-    (prior_then w.whole w.rest (no_further w.whole w.rest s (ap (line_run (Ok line_start)) (sym text) ∙ h) vectors)))
+pub begun_row : (nt : Notation) → (bytes : List ℕ) (s : LineState) → line_run nt (Ok line_start) bytes ≡ line_going s → AreBegunVectors nt bytes s.vectors
+begun_row nt bytes s h =
+    let g = line_goes nt bytes (at_start []) s h in
+    let w = has_whole nt g.to in
+    let text : bytes ≡ prior_text nt w.whole ++ w.rest = g.text ∙ w.text in
+    let vectors : s.vectors ≡ prior_value nt w.whole = ap (λ (x : LineState). x.vectors) g.state ∙ w.vectors in
+    subst (λ (x : List ℕ). AreBegunVectors nt x s.vectors) (sym text)
+    (subst (λ (y : List Vector). AreBegunVectors nt (prior_text nt w.whole ++ w.rest) y) (sym vectors)
+    (prior_then nt w.whole w.rest (no_further nt w.whole w.rest s (ap (line_run nt (Ok line_start)) (sym text) ∙ h) vectors)))

@@ -3,6 +3,8 @@ use Rattle.std.proofs.Common.{div-le_self, mul-le-mul_right, lt_of_le_of_lt, ◌
 use Rattle.std.specs.Prelude.{◌≤ℤ◌, ◌^◌, nat_le, nat_abs}
 use Rattle.std.proofs.lemmas.Bool.Decides.{nat_tests}
 use Rattle.std.proofs.lemmas.Int.{ints}
+use Rattle.triplets.specs.declared.notation.Notation.{Notation}
+use Rattle.triplets.specs.declared.notation.Notation.TheVariants.{Triplets, Pairs}
 use Rattle.triplets.specs.declared.marks.Axis.{Axis}
 use Rattle.triplets.specs.declared.marks.Axis.TheVariants.{X, Y, Z}
 use Rattle.motions.specs.declared.motion.Sign.{Sign}
@@ -124,49 +126,50 @@ within_part marks.Other n p q i h w = err_is _ q w
 pub within_begin : (n : ℕ) → IsPartWithin n begin
 within_begin n = (omega arith, tt)
 
-within_next : (m : Nth) (n : ℕ) (s t : TripletReader) (r : rows.Row) → next_part m s r ≡ going t → IsPartWithin n t.part
-within_next First n s t r w = subst (λ (x : TripletReader). IsPartWithin n x.part) (sym (going_is _ t w)) (within_begin n)
-within_next Second n s t r w = subst (λ (x : TripletReader). IsPartWithin n x.part) (sym (going_is _ t w)) (within_begin n)
-within_next Third n s t r w = absurd cc
+within_next : (nt : Notation) → (m : Nth) (n : ℕ) (s t : TripletReader) (r : rows.Row) → next_part nt m s r ≡ going t → IsPartWithin n t.part
+within_next nt First n s t r w = subst (λ (x : TripletReader). IsPartWithin n x.part) (sym (going_is _ t w)) (within_begin n)
+within_next Pairs Second n s t r w = absurd cc
+within_next Triplets Second n s t r w = subst (λ (x : TripletReader). IsPartWithin n x.part) (sym (going_is _ t w)) (within_begin n)
+within_next nt Third n s t r w = absurd cc
 
-within_comma : (o : Option PartReader) (n : ℕ) (s t : TripletReader) → comma_at o s ≡ going t → IsPartWithin n t.part
-within_comma None n s t w = absurd cc
-within_comma (Some p) n s t w = within_next s.nth n s t p.row w
+within_comma : (nt : Notation) → (o : Option PartReader) (n : ℕ) (s t : TripletReader) → comma_at nt o s ≡ going t → IsPartWithin n t.part
+within_comma nt None n s t w = absurd cc
+within_comma nt (Some p) n s t w = within_next nt s.nth n s t p.row w
 
 within_in_part : (m : Mark) (n : ℕ) (s t : TripletReader) → IsMarkInRange m → IsPartWithin n s.part → in_part s (part_step m s.part) ≡ going t → IsPartWithin (n + 1) t.part
 within_in_part m n s t i h w =
     let p = part_step_is (part_step m s.part) s t w in
     subst (λ (x : TripletReader). IsPartWithin (n + 1) x.part) (sym p.state) (within_part m n s.part p.part i h p.part_is)
 
-pub within_by : (m : Mark) (n : ℕ) (s t : TripletReader) → IsMarkInRange m → IsPartWithin n s.part → step m s ≡ going t → IsPartWithin (n + 1) t.part
-within_by marks.Blank n s t i h w = within_in_part marks.Blank n s t i h w
-within_by (marks.Signs g) n s t i h w = within_in_part (marks.Signs g) n s t i h w
-within_by (marks.Letter a) n s t i h w = within_in_part (marks.Letter a) n s t i h w
-within_by (marks.Digit d) n s t i h w = within_in_part (marks.Digit d) n s t i h w
-within_by marks.Slash n s t i h w = within_in_part marks.Slash n s t i h w
-within_by marks.Comma n s t i h w = within_comma (settled s.part) (n + 1) s t w
-within_by marks.Hash n s t i h w = absurd cc
-within_by marks.Open n s t i h w = within_in_part marks.Open n s t i h w
-within_by marks.Close n s t i h w = within_in_part marks.Close n s t i h w
-within_by marks.Other n s t i h w = within_in_part marks.Other n s t i h w
+pub within_by : (nt : Notation) → (m : Mark) (n : ℕ) (s t : TripletReader) → IsMarkInRange m → IsPartWithin n s.part → step nt m s ≡ going t → IsPartWithin (n + 1) t.part
+within_by nt marks.Blank n s t i h w = within_in_part marks.Blank n s t i h w
+within_by nt (marks.Signs g) n s t i h w = within_in_part (marks.Signs g) n s t i h w
+within_by nt (marks.Letter a) n s t i h w = within_in_part (marks.Letter a) n s t i h w
+within_by nt (marks.Digit d) n s t i h w = within_in_part (marks.Digit d) n s t i h w
+within_by nt marks.Slash n s t i h w = within_in_part marks.Slash n s t i h w
+within_by nt marks.Comma n s t i h w = within_comma nt (settled s.part) (n + 1) s t w
+within_by nt marks.Hash n s t i h w = absurd cc
+within_by nt marks.Open n s t i h w = within_in_part marks.Open n s t i h w
+within_by nt marks.Close n s t i h w = within_in_part marks.Close n s t i h w
+within_by nt marks.Other n s t i h w = within_in_part marks.Other n s t i h w
 
-range_of : (m : Mark) (b : ℕ) → IsMark b m → IsMarkInRange m
-range_of marks.Blank b h = tt
-range_of (marks.Signs s) b h = tt
-range_of (marks.Letter a) b h = tt
-range_of (marks.Digit n) b h = let low = h.0.low in let high = h.0.high in let e = h.2 in omega arith
-range_of marks.Slash b h = tt
-range_of marks.Comma b h = tt
-range_of marks.Hash b h = tt
-range_of marks.Open b h = tt
-range_of marks.Close b h = tt
-range_of marks.Other b h = tt
+range_of : (nt : Notation) → (m : Mark) (b : ℕ) → IsMark nt b m → IsMarkInRange m
+range_of nt marks.Blank b h = tt
+range_of nt (marks.Signs s) b h = tt
+range_of nt (marks.Letter a) b h = tt
+range_of nt (marks.Digit n) b h = let low = h.0.low in let high = h.0.high in let e = h.2 in omega arith
+range_of nt marks.Slash b h = tt
+range_of nt marks.Comma b h = tt
+range_of nt marks.Hash b h = tt
+range_of nt marks.Open b h = tt
+range_of nt marks.Close b h = tt
+range_of nt marks.Other b h = tt
 
-pub mark_range : (b : ℕ) → IsMarkInRange (mark b)
-mark_range b = range_of (mark b) b (mark_is b)
+pub mark_range : (nt : Notation) → (b : ℕ) → IsMarkInRange (mark nt b)
+mark_range nt b = range_of nt (mark nt b) b (mark_is nt b)
 
-pub within_step : (n : ℕ) (s t : TripletReader) (b : ℕ) → IsPartWithin n s.part → step (mark b) s ≡ going t → IsPartWithin (n + 1) t.part
-within_step n s t b h w = within_by (mark b) n s t (mark_range b) h w
+pub within_step : (nt : Notation) → (n : ℕ) (s t : TripletReader) (b : ℕ) → IsPartWithin n s.part → step nt (mark nt b) s ≡ going t → IsPartWithin (n + 1) t.part
+within_step nt n s t b h w = within_by nt (mark nt b) n s t (mark_range nt b) h w
 
 pub within_start : IsPartWithin 0 begin
 within_start = within_begin 0

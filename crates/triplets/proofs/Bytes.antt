@@ -3,48 +3,55 @@ use Rattle.std.proofs.Common.{◌≡◌, ℕ, ◌≤◌, Bool, true, false, cond
 use Rattle.std.specs.Prelude.{◌==◌, nat_le, ◌&&◌}
 use Rattle.std.proofs.lemmas.Bool.Decides.{nat_tests, eqb_tells}
 use Rattle.std.proofs.lemmas.Bool.{cases_lt}
+use Rattle.triplets.specs.declared.notation.Notation.{Notation}
 use Rattle.triplets.specs.declared.marks.Axis.{Axis}
 use Rattle.triplets.specs.declared.marks.Axis.TheVariants.{X, Y, Z}
 use Rattle.motions.specs.declared.motion.Sign.{Sign}
 use Rattle.motions.specs.declared.motion.Sign.TheVariants.{Plus, Minus}
 use Rattle.triplets.specs.declared.marks.Mark.{Mark}
 use Rattle.triplets.specs.declared.marks.Mark.TheVariants as marks
-use Rattle.triplets.specs.Marks.{mark}
+use Rattle.triplets.specs.declared.notation.Notation.TheVariants.{Triplets, Pairs}
+use Rattle.triplets.specs.Marks.{has_axis, third_letter, mark}
 use Rattle.triplets.specs.Grammar.{Blank, space, tab, carriage_return, blank_byte, sign_byte, letter_byte, Digit, digit_value}
 
-pub mark_sign : (s : Sign) → mark (sign_byte s) ≡ marks.Signs s
-mark_sign Plus = refl
-mark_sign Minus = refl
+pub mark_sign : (nt : Notation) → (s : Sign) → mark nt (sign_byte s) ≡ marks.Signs s
+mark_sign nt Plus = refl
+mark_sign nt Minus = refl
 
-pub mark_letter : (a : Axis) (c : Bool) → mark (letter_byte a c) ≡ marks.Letter a
-mark_letter X false = refl
-mark_letter X true = refl
-mark_letter Y false = refl
-mark_letter Y true = refl
-mark_letter Z false = refl
-mark_letter Z true = refl
+pub mark_letter : (nt : Notation) → (a : Axis) (c : Bool) → has_axis nt a ≡ true → mark nt (letter_byte a c) ≡ marks.Letter a
+mark_letter nt X false h = refl
+mark_letter nt X true h = refl
+mark_letter nt Y false h = refl
+mark_letter nt Y true h = refl
+mark_letter Triplets Z false h = refl
+mark_letter Triplets Z true h = refl
+mark_letter Pairs Z c h = absurd cc
 
 digit_test : (b : ℕ) → 48 ≤ b → b ≤ 57 → (nat_le 48 b && nat_le b 57) ≡ true
 digit_test b low high = grind (arith, nat_tests)
 
-pub mark_digit : (d : Digit) → mark d.byte ≡ marks.Digit (digit_value d)
-mark_digit d = rw (digit_test d.byte d.low d.high)
+pub mark_digit : (nt : Notation) → (d : Digit) → mark nt d.byte ≡ marks.Digit (digit_value d)
+mark_digit nt d = rw (digit_test d.byte d.low d.high)
 
 -- the bytes with a meaning
-abbrev pub IsMark : ℕ → Mark → Type 0
-IsMark b marks.Blank = (k : Blank) × (b ≡ blank_byte k)
-IsMark b (marks.Signs s) = b ≡ sign_byte s
-IsMark b (marks.Letter a) = (c : Bool) × (b ≡ letter_byte a c)
-IsMark b (marks.Digit n) = (d : Digit) × (b ≡ d.byte) × (n ≡ digit_value d)
-IsMark b marks.Slash = b ≡ 47
-IsMark b marks.Comma = b ≡ 44
-IsMark b marks.Hash = b ≡ 35
-IsMark b marks.Open = b ≡ 40
-IsMark b marks.Close = b ≡ 41
-IsMark b marks.Other = Unit {0}
+abbrev pub IsMark : Notation → ℕ → Mark → Type 0
+IsMark nt b marks.Blank = (k : Blank) × (b ≡ blank_byte k)
+IsMark nt b (marks.Signs s) = b ≡ sign_byte s
+IsMark nt b (marks.Letter a) = (c : Bool) × (b ≡ letter_byte a c) × (has_axis nt a ≡ true)
+IsMark nt b (marks.Digit n) = (d : Digit) × (b ≡ d.byte) × (n ≡ digit_value d)
+IsMark nt b marks.Slash = b ≡ 47
+IsMark nt b marks.Comma = b ≡ 44
+IsMark nt b marks.Hash = b ≡ 35
+IsMark nt b marks.Open = b ≡ 40
+IsMark nt b marks.Close = b ≡ 41
+IsMark nt b marks.Other = Unit {0}
 
-choose : (b k : ℕ) (x y : Mark) → (b ≡ k → IsMark b x) → IsMark b y → IsMark b (cond (b == k) x y)
-choose b k x y f g =
+third_mark : (nt : Notation) (b : ℕ) (c : Bool) → b ≡ letter_byte Z c → IsMark nt b (third_letter nt)
+third_mark Triplets b c e = (c, e, refl)
+third_mark Pairs b c e = tt
+
+choose : (nt : Notation) → (b k : ℕ) (x y : Mark) → (b ≡ k → IsMark nt b x) → IsMark nt b y → IsMark nt b (cond (b == k) x y)
+choose nt b k x y f g =
     elim (eqb_tells b k) [
       | inl h ↦ rw h.0 (f h.1)
       | inr h ↦ rw h.0 g
@@ -60,25 +67,25 @@ is_digit_cases b =
       ]
     ]
 
-pub mark_is : (b : ℕ) → IsMark b (mark b)
-mark_is b =
+pub mark_is : (nt : Notation) → (b : ℕ) → IsMark nt b (mark nt b)
+mark_is nt b =
     elim (is_digit_cases b) [
       | inl h ↦ rw h.0 (record { byte = b; low = h.1; high = h.2 }, refl, refl)
       | inr h ↦ rw h (
-          choose b 32 _ _ (λ e. (space, e)) (
-          choose b 9 _ _ (λ e. (tab, e)) (
-          choose b 13 _ _ (λ e. (carriage_return, e)) (
-          choose b 43 _ _ (λ e. e) (
-          choose b 45 _ _ (λ e. e) (
-          choose b 120 _ _ (λ e. (false, e)) (
-          choose b 88 _ _ (λ e. (true, e)) (
-          choose b 121 _ _ (λ e. (false, e)) (
-          choose b 89 _ _ (λ e. (true, e)) (
-          choose b 122 _ _ (λ e. (false, e)) (
-          choose b 90 _ _ (λ e. (true, e)) (
-          choose b 47 _ _ (λ e. e) (
-          choose b 44 _ _ (λ e. e) (
-          choose b 35 _ _ (λ e. e) (
-          choose b 40 _ _ (λ e. e) (
-          choose b 41 _ _ (λ e. e) tt))))))))))))))))
+          choose nt b 32 _ _ (λ e. (space, e)) (
+          choose nt b 9 _ _ (λ e. (tab, e)) (
+          choose nt b 13 _ _ (λ e. (carriage_return, e)) (
+          choose nt b 43 _ _ (λ e. e) (
+          choose nt b 45 _ _ (λ e. e) (
+          choose nt b 120 _ _ (λ e. (false, e, refl)) (
+          choose nt b 88 _ _ (λ e. (true, e, refl)) (
+          choose nt b 121 _ _ (λ e. (false, e, refl)) (
+          choose nt b 89 _ _ (λ e. (true, e, refl)) (
+          choose nt b 122 _ _ (third_mark nt b false) (
+          choose nt b 90 _ _ (third_mark nt b true) (
+          choose nt b 47 _ _ (λ e. e) (
+          choose nt b 44 _ _ (λ e. e) (
+          choose nt b 35 _ _ (λ e. e) (
+          choose nt b 40 _ _ (λ e. e) (
+          choose nt b 41 _ _ (λ e. e) tt))))))))))))))))
     ]

@@ -2,6 +2,7 @@
 use Rattle.std.proofs.Common.{◌≡◌, ◌≢◌, ℕ, ◌+◌, false, List, [], ◌∷◌, ◌++◌, length, take, None, Ok, refl, sym, ◌∙◌, subst, arith, inl, inr, append_assoc}
 use Rattle.std.proofs.lemmas.Bool.{cases_lt}
 use Rattle.std.proofs.lemmas.List.{append-nil, take-take}
+use Rattle.triplets.specs.declared.notation.Notation.{Notation}
 use Rattle.triplets.specs.declared.fault.TextKind.{TextKind}
 use Rattle.triplets.specs.declared.fault.TextKind.TheVariants as kinds
 use Rattle.triplets.specs.declared.heading.HeadingPlace.{HeadingPlace}
@@ -21,73 +22,73 @@ use Rattle.triplets.proofs.Headings.{heading_stopped, IsBegun, begun_prefix, no_
 use Rattle.triplets.proofs.HeadingKinds.{heading_kind}
 
 -- no line of either kind begins so
-neither : (bytes : List ℕ) → (IsPrefixOfGoodLine bytes → ⊥) → (IsPrefixIn IsHeading bytes → ⊥) → IsPrefixIn IsGoodFirstLine bytes → ⊥
-neither bytes f g h = elim h.1 [ inl x ↦ f (h.0, x) | inr x ↦ g (h.0, x) ]
+neither : (nt : Notation) → (bytes : List ℕ) → (IsPrefixOfGoodLine nt bytes → ⊥) → (IsPrefixIn IsHeading bytes → ⊥) → IsPrefixIn (IsGoodFirstLine nt) bytes → ⊥
+neither nt bytes f g h = elim h.1 [ inl x ↦ f (h.0, x) | inr x ↦ g (h.0, x) ]
 
 -- ---- blanks alone
 
-pub blanks_line : (bs : List Blank) → IsLine (blanks_text bs ++ []) nothing_listed
-blanks_line bs = record { form = empty bs; comment = None; text = refl; value = refl }
+pub blanks_line : (nt : Notation) → (bs : List Blank) → IsLine nt (blanks_text bs ++ []) nothing_listed
+blanks_line nt bs = record { form = empty bs; comment = None; text = refl; value = refl }
 
-pub blanks_read : (bs : List Blank) → line_run (Ok line_start) (blanks_text bs) ≡ line_going line_start
-blanks_read [] = refl
-blanks_read (space ∷ bs) = blanks_read bs
-blanks_read (tab ∷ bs) = blanks_read bs
-blanks_read (carriage_return ∷ bs) = blanks_read bs
+pub blanks_read : (nt : Notation) → (bs : List Blank) → line_run nt (Ok line_start) (blanks_text bs) ≡ line_going line_start
+blanks_read nt [] = refl
+blanks_read nt (space ∷ bs) = blanks_read nt bs
+blanks_read nt (tab ∷ bs) = blanks_read nt bs
+blanks_read nt (carriage_return ∷ bs) = blanks_read nt bs
 
-pub blanks_prefix : (bs : List Blank) → IsPrefixIn IsGoodFirstLine (blanks_text bs)
-blanks_prefix bs = ([], inl (nothing_listed, blanks_line bs))
+pub blanks_prefix : (nt : Notation) → (bs : List Blank) → IsPrefixIn (IsGoodFirstLine nt) (blanks_text bs)
+blanks_prefix nt bs = ([], inl (nothing_listed, blanks_line nt bs))
 
 -- a byte that begins neither a line of the grammar nor the word
-pub beginning_fault : (bs : List Blank) (b : ℕ) (rest : List ℕ) (k : TextKind) → b ≢ 103 → ((c : Blank) → b ≢ blank_byte c) → line_step (mark b) line_start ≡ line_stopped k →
-    IsFaultIn IsGoodFirstLine (blanks_text bs ++ b ∷ rest) (length (blanks_text bs)) k
-beginning_fault bs b rest k n m e =
-    fault_from IsGoodFirstLine (blanks_text bs) rest b k (blanks_prefix bs)
-    (neither (blanks_text bs ++ b ∷ []) (no_line_prefix (blanks_text bs ++ b ∷ []) k (line_more (blanks_text bs) b line_start (line_stopped k) (blanks_read bs) e)) (other_beginning bs b n m))
-    (line_kind (blanks_text bs) b line_start k (blanks_read bs) e)
+pub beginning_fault : (nt : Notation) → (bs : List Blank) (b : ℕ) (rest : List ℕ) (k : TextKind) → b ≢ 103 → ((c : Blank) → b ≢ blank_byte c) → line_step nt (mark nt b) line_start ≡ line_stopped k →
+    IsFaultIn nt (IsGoodFirstLine nt) (blanks_text bs ++ b ∷ rest) (length (blanks_text bs)) k
+beginning_fault nt bs b rest k n m e =
+    fault_from nt (IsGoodFirstLine nt) (blanks_text bs) rest b k (blanks_prefix nt bs)
+    (neither nt (blanks_text bs ++ b ∷ []) (no_line_prefix nt (blanks_text bs ++ b ∷ []) k (line_more nt (blanks_text bs) b line_start (line_stopped k) (blanks_read nt bs) e)) (other_beginning bs b n m))
+    (line_kind nt (blanks_text bs) b line_start k (blanks_read nt bs) e)
 
 -- ---- the word
 
-g_stops : (bs : List Blank) → line_run (Ok line_start) (blanks_text bs ++ 103 ∷ []) ≡ line_stopped kinds.UnknownSign
-g_stops [] = refl
-g_stops (space ∷ bs) = g_stops bs
-g_stops (tab ∷ bs) = g_stops bs
-g_stops (carriage_return ∷ bs) = g_stops bs
+g_stops : (nt : Notation) → (bs : List Blank) → line_run nt (Ok line_start) (blanks_text bs ++ 103 ∷ []) ≡ line_stopped kinds.UnknownSign
+g_stops nt [] = refl
+g_stops nt (space ∷ bs) = g_stops nt bs
+g_stops nt (tab ∷ bs) = g_stops nt bs
+g_stops nt (carriage_return ∷ bs) = g_stops nt bs
 
-no_line : (bs : List Blank) (hs : List ℕ) → IsPrefixOfGoodLine (blanks_text bs ++ (103 ∷ hs)) → ⊥
-no_line bs hs h =
-    no_line_prefix (blanks_text bs ++ 103 ∷ []) kinds.UnknownSign (g_stops bs)
-    (hs ++ h.0, subst IsGoodLine (append_assoc (blanks_text bs) (103 ∷ hs) h.0 ∙ sym (append_assoc (blanks_text bs) (103 ∷ []) (hs ++ h.0))) h.1)
+no_line : (nt : Notation) → (bs : List Blank) (hs : List ℕ) → IsPrefixOfGoodLine nt (blanks_text bs ++ (103 ∷ hs)) → ⊥
+no_line nt bs hs h =
+    no_line_prefix nt (blanks_text bs ++ 103 ∷ []) kinds.UnknownSign (g_stops nt bs)
+    (hs ++ h.0, subst (IsGoodLine nt) (append_assoc (blanks_text bs) (103 ∷ hs) h.0 ∙ sym (append_assoc (blanks_text bs) (103 ∷ []) (hs ++ h.0))) h.1)
 
-pub word_prefix : (bs : List Blank) (p : HeadingPlace) (hs : List ℕ) → IsBegun p hs → IsPrefixIn IsGoodFirstLine (blanks_text bs ++ (103 ∷ hs))
-word_prefix bs p hs g = let h = begun_prefix bs p hs g in (h.0, inr h.1)
+pub word_prefix : (nt : Notation) → (bs : List Blank) (p : HeadingPlace) (hs : List ℕ) → IsBegun p hs → IsPrefixIn (IsGoodFirstLine nt) (blanks_text bs ++ (103 ∷ hs))
+word_prefix nt bs p hs g = let h = begun_prefix bs p hs g in (h.0, inr h.1)
 
 -- a byte that the heading does not go on with
-pub word_fault : (bs : List Blank) (p : HeadingPlace) (hs : List ℕ) (b : ℕ) (rest : List ℕ) (k : TextKind) → IsBegun p hs → heading_step b p ≡ heading_stopped k →
-    IsFaultIn IsGoodFirstLine ((blanks_text bs ++ (103 ∷ hs)) ++ b ∷ rest) (length (blanks_text bs ++ (103 ∷ hs))) k
-word_fault bs p hs b rest k g e =
-    fault_from IsGoodFirstLine (blanks_text bs ++ (103 ∷ hs)) rest b k (word_prefix bs p hs g)
-    (subst (λ (x : List ℕ). IsPrefixIn IsGoodFirstLine x → ⊥) (sym (append_assoc (blanks_text bs) (103 ∷ hs) (b ∷ [])))
-    (neither (blanks_text bs ++ (103 ∷ (hs ++ b ∷ []))) (no_line bs (hs ++ b ∷ [])) (no_heading bs p hs b k g e)))
-    (heading_kind bs p hs b k g e)
+pub word_fault : (nt : Notation) → (bs : List Blank) (p : HeadingPlace) (hs : List ℕ) (b : ℕ) (rest : List ℕ) (k : TextKind) → IsBegun p hs → heading_step nt b p ≡ heading_stopped k →
+    IsFaultIn nt (IsGoodFirstLine nt) ((blanks_text bs ++ (103 ∷ hs)) ++ b ∷ rest) (length (blanks_text bs ++ (103 ∷ hs))) k
+word_fault nt bs p hs b rest k g e =
+    fault_from nt (IsGoodFirstLine nt) (blanks_text bs ++ (103 ∷ hs)) rest b k (word_prefix nt bs p hs g)
+    (subst (λ (x : List ℕ). IsPrefixIn (IsGoodFirstLine nt) x → ⊥) (sym (append_assoc (blanks_text bs) (103 ∷ hs) (b ∷ [])))
+    (neither nt (blanks_text bs ++ (103 ∷ (hs ++ b ∷ []))) (no_line nt bs (hs ++ b ∷ [])) (no_heading nt bs p hs b k g e)))
+    (heading_kind nt bs p hs b k g e)
 
 -- a word that ends too early
-pub short_word_fault : (bs : List Blank) (p : HeadingPlace) (hs : List ℕ) → IsBegun p hs → is_whole p ≡ false →
-    (let before : List ℕ = blanks_text bs ++ (103 ∷ hs) in IsFaultIn IsGoodFirstLine (before ++ []) (length before) kinds.MissingPart)
-short_word_fault bs p hs g e =
+pub short_word_fault : (nt : Notation) → (bs : List Blank) (p : HeadingPlace) (hs : List ℕ) → IsBegun p hs → is_whole p ≡ false →
+    (let before : List ℕ = blanks_text bs ++ (103 ∷ hs) in IsFaultIn nt (IsGoodFirstLine nt) (before ++ []) (length before) kinds.MissingPart)
+short_word_fault nt bs p hs g e =
     let before : List ℕ = blanks_text bs ++ (103 ∷ hs) in
-    subst (λ (x : List ℕ). IsFaultIn IsGoodFirstLine x (length before) kinds.MissingPart) (sym (append-nil before))
-    (end_from IsGoodFirstLine before (λ h. elim h [ inl x ↦ no_line bs hs ([], subst IsGoodLine (sym (append-nil before)) x) | inr x ↦ no_whole_heading bs p hs g e x ]) (word_prefix bs p hs g))
+    subst (λ (x : List ℕ). IsFaultIn nt (IsGoodFirstLine nt) x (length before) kinds.MissingPart) (sym (append-nil before))
+    (end_from nt (IsGoodFirstLine nt) before (λ h. elim h [ inl x ↦ no_line nt bs hs ([], subst (IsGoodLine nt) (sym (append-nil before)) x) | inr x ↦ no_whole_heading nt bs p hs g e x ]) (word_prefix nt bs p hs g))
 
 -- ---- a line of the grammar
 
 -- the first m bytes begin a line of the grammar and no heading
-pub record IsApart (l : List ℕ) (m : ℕ) : Type 0 where
-  pub line : IsPrefixOfGoodLine (take m l)
+pub record IsApart (nt : Notation) (l : List ℕ) (m : ℕ) : Type 0 where
+  pub line : IsPrefixOfGoodLine nt (take m l)
   pub heading : IsPrefixIn IsHeading (take m l) → ⊥
 
-pub no_whole : (l : List ℕ) (m : ℕ) → IsApart l m → IsHeading l → ⊥
-no_whole l m a h = a.heading (shorter IsHeading l m ([], subst IsHeading (sym (append-nil l)) h))
+pub no_whole : (nt : Notation) → (l : List ℕ) (m : ℕ) → IsApart nt l m → IsHeading l → ⊥
+no_whole nt l m a h = a.heading (shorter IsHeading l m ([], subst IsHeading (sym (append-nil l)) h))
 
 -- a fault stands behind these bytes, and no heading goes on so
 not_so_far : (Good : List ℕ → Type 0) (l : List ℕ) (m n : ℕ) → IsPrefixIn Good (take m l) → (IsPrefixIn IsHeading (take m l) → ⊥) → (IsPrefixIn Good (take n l) → ⊥) → IsPrefixIn IsHeading (take n l) → ⊥
@@ -97,25 +98,25 @@ not_so_far Good l m n good heading bad h =
       | inr x ↦ heading (subst (IsPrefixIn IsHeading) (take-take m n l x) (shorter IsHeading (take n l) m h))
     ]
 
-pub first_of_line : (l : List ℕ) (m n : ℕ) (k : TextKind) → IsApart l m → IsLineFault l n k → IsFaultIn IsGoodFirstLine l n k
-first_of_line l m n k a f = record {
+pub first_of_line : (nt : Notation) → (l : List ℕ) (m n : ℕ) (k : TextKind) → IsApart nt l m → IsLineFault nt l n k → IsFaultIn nt (IsGoodFirstLine nt) l n k
+first_of_line nt l m n k a f = record {
   place = record {
     within = f.place.within;
-    good = λ h. elim h [ inl x ↦ f.place.good x | inr x ↦ no_whole l m a x ];
+    good = λ h. elim h [ inl x ↦ f.place.good x | inr x ↦ no_whole nt l m a x ];
     prefix = (f.place.prefix.0, inl f.place.prefix.1);
-    here = λ z. neither (take (n + 1) l) (f.place.here z) (not_so_far IsGoodLine l m (n + 1) a.line a.heading (f.place.here z));
+    here = λ z. neither nt (take (n + 1) l) (f.place.here z) (not_so_far (IsGoodLine nt) l m (n + 1) a.line a.heading (f.place.here z));
   };
   kind_is = f.kind_is;
 }
 
 -- the other way round
-pub line_of_first : (l : List ℕ) (m n : ℕ) (k : TextKind) → IsApart l m → IsFaultIn IsGoodFirstLine l n k → IsLineFault l n k
-line_of_first l m n k a f = record {
+pub line_of_first : (nt : Notation) → (l : List ℕ) (m n : ℕ) (k : TextKind) → IsApart nt l m → IsFaultIn nt (IsGoodFirstLine nt) l n k → IsLineFault nt l n k
+line_of_first nt l m n k a f = record {
   place = record {
     within = f.place.within;
     good = λ h. f.place.good (inl h);
     prefix = elim (cases_lt n m) [
-      | inl x ↦ subst IsPrefixOfGoodLine (take-take n m l (omega (arith, x))) (shorter IsGoodLine (take m l) n a.line)
+      | inl x ↦ subst (IsPrefixOfGoodLine nt) (take-take n m l (omega (arith, x))) (shorter (IsGoodLine nt) (take m l) n a.line)
       | inr x ↦ elim f.place.prefix.1 [
         | inl y ↦ (f.place.prefix.0, y)
         | inr y ↦ absurd (a.heading (subst (IsPrefixIn IsHeading) (take-take m n l x) (shorter IsHeading (take n l) m (f.place.prefix.0, y))))
@@ -127,5 +128,5 @@ line_of_first l m n k a f = record {
 }
 
 -- no line is both
-pub not_both : (l : List ℕ) → IsHeading l → IsGoodLine l → ⊥
-not_both l h g = no_line h.before _ (subst IsPrefixOfGoodLine h.text ([], subst IsGoodLine (sym (append-nil l)) g))
+pub not_both : (nt : Notation) → (l : List ℕ) → IsHeading l → IsGoodLine nt l → ⊥
+not_both nt l h g = no_line nt h.before _ (subst (IsPrefixOfGoodLine nt) h.text ([], subst (IsGoodLine nt) (sym (append-nil l)) g))

@@ -1,6 +1,7 @@
 -- The kind of a fault of the heading.
 use Rattle.std.proofs.Common.{◌≡◌, ◌≢◌, ℕ, ◌≤◌, false, List, [], ◌∷◌, ◌++◌, refl, sym, ◌∙◌, subst, arith, inl, inr}
 use Rattle.std.specs.Prelude.{codes}
+use Rattle.triplets.specs.declared.notation.Notation.{Notation}
 use Rattle.triplets.specs.declared.fault.TextKind.{TextKind}
 use Rattle.triplets.specs.declared.fault.TextKind.TheVariants as kinds
 use Rattle.triplets.specs.declared.marks.Mark.TheVariants as marks
@@ -78,18 +79,18 @@ seen_blanks : (bs : List Blank) (p : HeadingPlace) (f : LineSeen) (hs : List ℕ
 seen_blanks [] p f hs h g n = seen_word p f hs h g n
 seen_blanks (b ∷ bs) p f hs h g n = seen_blanks bs p (line_seen_step f (blank_byte b)) hs (bare_blank f b h) g n
 
-no_comment : (p : HeadingPlace) (b : ℕ) (k : TextKind) → heading_step b p ≡ heading_stopped k → IsCommented p → ⊥
-no_comment words.Comment b k e h = absurd cc
-no_comment words.G b k e h = h
-no_comment words.Ge b k e h = h
-no_comment words.Gen b k e h = h
-no_comment words.Gene b k e h = h
-no_comment words.Gener b k e h = h
-no_comment words.Genera b k e h = h
-no_comment words.Generat b k e h = h
-no_comment words.Generato b k e h = h
-no_comment words.Generator b k e h = h
-no_comment words.Generators b k e h = h
+no_comment : (nt : Notation) → (p : HeadingPlace) (b : ℕ) (k : TextKind) → heading_step nt b p ≡ heading_stopped k → IsCommented p → ⊥
+no_comment nt words.Comment b k e h = absurd cc
+no_comment nt words.G b k e h = h
+no_comment nt words.Ge b k e h = h
+no_comment nt words.Gen b k e h = h
+no_comment nt words.Gene b k e h = h
+no_comment nt words.Gener b k e h = h
+no_comment nt words.Genera b k e h = h
+no_comment nt words.Generat b k e h = h
+no_comment nt words.Generato b k e h = h
+no_comment nt words.Generator b k e h = h
+no_comment nt words.Generators b k e h = h
 
 not_fresh : (m n : ℕ) → 97 ≤ m → Fresh m n → ⊥
 not_fresh m n h (inl x) = omega (arith, h, x)
@@ -97,17 +98,17 @@ not_fresh m n h (inr (inl x)) = omega (arith, h, x)
 not_fresh m n h (inr (inr x)) = omega (arith, h, x.0)
 
 -- behind the word and its beginnings the table says nothing of a byte that begins no comment
-pub other_kind : (bs : List Blank) (p : HeadingPlace) (hs : List ℕ) (b : ℕ) → IsBegun p hs → (IsCommented p → ⊥) → mark b ≢ marks.Hash → HasLineKind (blanks_text bs ++ (103 ∷ hs)) b kinds.UnknownSign
-other_kind bs p hs b g n m =
+pub other_kind : (nt : Notation) → (bs : List Blank) (p : HeadingPlace) (hs : List ℕ) (b : ℕ) → IsBegun p hs → (IsCommented p → ⊥) → mark nt b ≢ marks.Hash → HasLineKind nt (blanks_text bs ++ (103 ∷ hs)) b kinds.UnknownSign
+other_kind nt bs p hs b g n m =
     let before : List ℕ = blanks_text bs ++ (103 ∷ hs) in
     let f = line_seen line_seen_start before in
     let w : IsInWord f = seen_blanks bs p line_seen_start hs (record { bracket = refl; used = refl }) g n in
-    between_kind (mark b) f (λ a. line_stands a false before) b kinds.UnknownSign refl (mark_is b) w.between w.no_end (not_fresh f.mark f.commas w.letter) (line_uses before) m refl
+    between_kind nt (mark nt b) f (λ a. line_stands a false before) b kinds.UnknownSign refl (mark_is nt b) w.between w.no_end (not_fresh f.mark f.commas w.letter) (line_uses before) m refl
 
 -- a comment comes too early, or the byte is none that may stand there
-pub heading_kind : (bs : List Blank) (p : HeadingPlace) (hs : List ℕ) (b : ℕ) (k : TextKind) → IsBegun p hs → heading_step b p ≡ heading_stopped k → HasLineKind (blanks_text bs ++ (103 ∷ hs)) b k
-heading_kind bs p hs b k g e =
-    elim (stopped_by p b k e) [
+pub heading_kind : (nt : Notation) → (bs : List Blank) (p : HeadingPlace) (hs : List ℕ) (b : ℕ) (k : TextKind) → IsBegun p hs → heading_step nt b p ≡ heading_stopped k → HasLineKind nt (blanks_text bs ++ (103 ∷ hs)) b k
+heading_kind nt bs p hs b k g e =
+    elim (stopped_by nt p b k e) [
       | inl x ↦ inl x
-      | inr x ↦ subst (HasLineKind (blanks_text bs ++ (103 ∷ hs)) b) (sym x.1) (other_kind bs p hs b g (no_comment p b k e) x.0)
+      | inr x ↦ subst (HasLineKind nt (blanks_text bs ++ (103 ∷ hs)) b) (sym x.1) (other_kind nt bs p hs b g (no_comment nt p b k e) x.0)
     ]

@@ -3,6 +3,7 @@ use Rattle.std.proofs.Common.{◌≡◌, ◌≢◌, ℕ, cond, List, [], ◌∷�
 use Rattle.std.specs.Prelude.{◌==◌}
 use Rattle.std.proofs.lemmas.Bool.Decides.{eqb_tells}
 use Rattle.std.proofs.lemmas.List.{append-nil}
+use Rattle.triplets.specs.declared.notation.Notation.{Notation}
 use Rattle.triplets.specs.declared.fault.TextKind.{TextKind}
 use Rattle.triplets.specs.declared.fault.TextKind.TheVariants as kinds
 use Rattle.triplets.specs.declared.marks.Mark.TheVariants as marks
@@ -19,14 +20,14 @@ use Rattle.triplets.proofs.Headings.{heading_going, heading_stopped, heading_run
 use Rattle.triplets.proofs.HeadingKinds.{IsCommented, other_kind}
 
 -- what is read from a place on
-begun_by : (r : Result HeadingPlace TextKind) (b : ℕ) (xs hs : List ℕ) (p q : HeadingPlace) → ((x : HeadingPlace) (ys : List ℕ) → IsBegun x ys → heading_run (Ok x) xs ≡ heading_going q → IsBegun q (ys ++ xs)) → IsBegun p hs →
-    heading_step b p ≡ r → heading_run r xs ≡ heading_going q → IsBegun q (hs ++ (b ∷ xs))
-begun_by (Err k) b xs hs p q further g h w = absurd (let z : heading_stopped k ≡ heading_going q = sym (run_heading_stopped k xs) ∙ w in cc)
-begun_by (Ok x) b xs hs p q further g h w = subst (IsBegun q) (append_assoc hs (b ∷ []) xs) (further x (hs ++ b ∷ []) (begun_more p x hs b g h) w)
+begun_by : (nt : Notation) → (r : Result HeadingPlace TextKind) (b : ℕ) (xs hs : List ℕ) (p q : HeadingPlace) → ((x : HeadingPlace) (ys : List ℕ) → IsBegun x ys → heading_run nt (Ok x) xs ≡ heading_going q → IsBegun q (ys ++ xs)) → IsBegun p hs →
+    heading_step nt b p ≡ r → heading_run nt r xs ≡ heading_going q → IsBegun q (hs ++ (b ∷ xs))
+begun_by nt (Err k) b xs hs p q further g h w = absurd (let z : heading_stopped k ≡ heading_going q = sym (run_heading_stopped nt k xs) ∙ w in cc)
+begun_by nt (Ok x) b xs hs p q further g h w = subst (IsBegun q) (append_assoc hs (b ∷ []) xs) (further x (hs ++ b ∷ []) (begun_more nt p x hs b g h) w)
 
-begun_on : (xs hs : List ℕ) (p q : HeadingPlace) → IsBegun p hs → heading_run (Ok p) xs ≡ heading_going q → IsBegun q (hs ++ xs)
-begun_on [] hs p q g w = subst (IsBegun q) (sym (append-nil hs)) (subst (λ x. IsBegun x hs) (let z : p ≡ q = cc in z) g)
-begun_on (b ∷ xs) hs p q g w = begun_by (heading_step b p) b xs hs p q (λ x ys i v. begun_on xs ys x q i v) g refl w
+begun_on : (nt : Notation) → (xs hs : List ℕ) (p q : HeadingPlace) → IsBegun p hs → heading_run nt (Ok p) xs ≡ heading_going q → IsBegun q (hs ++ xs)
+begun_on nt [] hs p q g w = subst (IsBegun q) (sym (append-nil hs)) (subst (λ x. IsBegun x hs) (let z : p ≡ q = cc in z) g)
+begun_on nt (b ∷ xs) hs p q g w = begun_by nt (heading_step nt b p) b xs hs p q (λ x ys i v. begun_on nt xs ys x q i v) g refl w
 
 -- letters of the word, and where the reader stands behind them
 record IsPartly (hs : List ℕ) : Type 0 where
@@ -34,40 +35,40 @@ record IsPartly (hs : List ℕ) : Type 0 where
   begun : IsBegun place hs
   no_comment : IsCommented place → ⊥
 
-commented : (p : HeadingPlace) (xs : List ℕ) → heading_run (heading_going p) xs ≡ heading_going words.Generators → IsCommented p → ⊥
-commented words.Comment xs w h = let z : heading_going words.Comment ≡ heading_going words.Generators = sym (comment_run xs) ∙ w in cc
-commented words.G xs w h = h
-commented words.Ge xs w h = h
-commented words.Gen xs w h = h
-commented words.Gene xs w h = h
-commented words.Gener xs w h = h
-commented words.Genera xs w h = h
-commented words.Generat xs w h = h
-commented words.Generato xs w h = h
-commented words.Generator xs w h = h
-commented words.Generators xs w h = h
+commented : (nt : Notation) → (p : HeadingPlace) (xs : List ℕ) → heading_run nt (heading_going p) xs ≡ heading_going words.Generators → IsCommented p → ⊥
+commented nt words.Comment xs w h = let z : heading_going words.Comment ≡ heading_going words.Generators = sym (comment_run nt xs) ∙ w in cc
+commented nt words.G xs w h = h
+commented nt words.Ge xs w h = h
+commented nt words.Gen xs w h = h
+commented nt words.Gene xs w h = h
+commented nt words.Gener xs w h = h
+commented nt words.Genera xs w h = h
+commented nt words.Generat xs w h = h
+commented nt words.Generato xs w h = h
+commented nt words.Generator xs w h = h
+commented nt words.Generators xs w h = h
 
-partly_by : (r : Result HeadingPlace TextKind) (hs more : List ℕ) → heading_run (heading_going words.G) hs ≡ r → heading_run r more ≡ heading_going words.Generators → IsPartly hs
-partly_by (Err k) hs more h w = absurd (let z : heading_stopped k ≡ heading_going words.Generators = sym (run_heading_stopped k more) ∙ w in cc)
-partly_by (Ok p) hs more h w = record { place = p; begun = begun_on hs [] words.G p refl h; no_comment = commented p more w }
+partly_by : (nt : Notation) → (r : Result HeadingPlace TextKind) (hs more : List ℕ) → heading_run nt (heading_going words.G) hs ≡ r → heading_run nt r more ≡ heading_going words.Generators → IsPartly hs
+partly_by nt (Err k) hs more h w = absurd (let z : heading_stopped k ≡ heading_going words.Generators = sym (run_heading_stopped nt k more) ∙ w in cc)
+partly_by nt (Ok p) hs more h w = record { place = p; begun = begun_on nt hs [] words.G p refl h; no_comment = commented nt p more w }
 
-partly : (hs more : List ℕ) → hs ++ more ≡ other_letters → IsPartly hs
-partly hs more e = partly_by (heading_run (heading_going words.G) hs) hs more refl (sym (heading_run-append (heading_going words.G) hs more) ∙ ap (heading_run (heading_going words.G)) e)
+partly : (nt : Notation) → (hs more : List ℕ) → hs ++ more ≡ other_letters → IsPartly hs
+partly nt hs more e = partly_by nt (heading_run nt (heading_going words.G) hs) hs more refl (sym (heading_run-append nt (heading_going words.G) hs more) ∙ ap (heading_run nt (heading_going words.G)) e)
 
-hash_is : (b : ℕ) → mark b ≡ marks.Hash → b ≡ 35
-hash_is b e = subst (IsMark b) e (mark_is b)
+hash_is : (nt : Notation) → (b : ℕ) → mark nt b ≡ marks.Hash → b ≡ 35
+hash_is nt b e = subst (IsMark nt b) e (mark_is nt b)
 
-kind_by : (bs : List Blank) (hs : List ℕ) (b : ℕ) (kind : TextKind) → IsPartly hs → HasLineKind (blanks_text bs ++ (103 ∷ hs)) b kind → kind ≡ cond (b == 35) kinds.MissingPart kinds.UnknownSign
-kind_by bs hs b kind g h =
+kind_by : (nt : Notation) → (bs : List Blank) (hs : List ℕ) (b : ℕ) (kind : TextKind) → IsPartly hs → HasLineKind nt (blanks_text bs ++ (103 ∷ hs)) b kind → kind ≡ cond (b == 35) kinds.MissingPart kinds.UnknownSign
+kind_by nt bs hs b kind g h =
     elim (eqb_tells b 35) [
-      | inl x ↦ one_line_kind (blanks_text bs ++ (103 ∷ hs)) b kind kinds.MissingPart h (inl (x.1, refl)) ∙ sym (ap (λ t. cond t kinds.MissingPart kinds.UnknownSign) x.0)
-      | inr x ↦ one_line_kind (blanks_text bs ++ (103 ∷ hs)) b kind kinds.UnknownSign h (other_kind bs g.place hs b g.begun g.no_comment (λ e. x.1 (hash_is b e))) ∙ sym (ap (λ t. cond t kinds.MissingPart kinds.UnknownSign) x.0)
+      | inl x ↦ one_line_kind nt (blanks_text bs ++ (103 ∷ hs)) b kind kinds.MissingPart h (inl (x.1, refl)) ∙ sym (ap (λ t. cond t kinds.MissingPart kinds.UnknownSign) x.0)
+      | inr x ↦ one_line_kind nt (blanks_text bs ++ (103 ∷ hs)) b kind kinds.UnknownSign h (other_kind nt bs g.place hs b g.begun g.no_comment (λ e. x.1 (hash_is nt b e))) ∙ sym (ap (λ t. cond t kinds.MissingPart kinds.UnknownSign) x.0)
     ]
 
 -- behind letters of the word a comment comes too early, and any other byte is none that may stand there
-pub kind_in_heading : (blanks : List Blank) (letters rest : List ℕ) (b : ℕ) (kind : TextKind) → letters ++ rest ≡ heading_word → letters ≢ [] → HasLineKind (blanks_text blanks ++ letters) b kind → kind ≡ cond (b == 35) kinds.MissingPart kinds.UnknownSign
-kind_in_heading bs [] rest b kind e n h = absurd (n refl)
-kind_in_heading bs (c ∷ hs) rest b kind e n h =
+pub kind_in_heading : (nt : Notation) → (blanks : List Blank) (letters rest : List ℕ) (b : ℕ) (kind : TextKind) → letters ++ rest ≡ heading_word → letters ≢ [] → HasLineKind nt (blanks_text blanks ++ letters) b kind → kind ≡ cond (b == 35) kinds.MissingPart kinds.UnknownSign
+kind_in_heading nt bs [] rest b kind e n h = absurd (n refl)
+kind_in_heading nt bs (c ∷ hs) rest b kind e n h =
     let first : c ≡ 103 = cc in
     let others : hs ++ rest ≡ other_letters = cc in
-    kind_by bs hs b kind (partly hs rest others) (subst (λ x. HasLineKind (blanks_text bs ++ (x ∷ hs)) b kind) first h)
+    kind_by nt bs hs b kind (partly nt hs rest others) (subst (λ x. HasLineKind nt (blanks_text bs ++ (x ∷ hs)) b kind) first h)

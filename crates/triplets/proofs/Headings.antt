@@ -3,6 +3,7 @@ use Rattle.std.proofs.Common.{◌≡◌, ◌≢◌, ℕ, Bool, true, false, cond
 use Rattle.std.specs.Prelude.{◌==◌, codes}
 use Rattle.std.proofs.lemmas.Bool.Decides.{eqb_tells}
 use Rattle.std.proofs.lemmas.List.{append-nil}
+use Rattle.triplets.specs.declared.notation.Notation.{Notation}
 use Rattle.triplets.specs.declared.fault.TextKind.{TextKind}
 use Rattle.triplets.specs.declared.fault.TextKind.TheVariants as kinds
 use Rattle.triplets.specs.declared.marks.Mark.{Mark}
@@ -26,22 +27,22 @@ heading_going p = Ok p
 abbrev pub heading_stopped : TextKind → Result HeadingPlace TextKind
 heading_stopped k = Err k
 
-abbrev pub heading_advance : Result HeadingPlace TextKind → ℕ → Result HeadingPlace TextKind
-heading_advance (Err k) b = Err k
-heading_advance (Ok p) b = heading_step b p
+abbrev pub heading_advance : (nt : Notation) → Result HeadingPlace TextKind → ℕ → Result HeadingPlace TextKind
+heading_advance nt (Err k) b = Err k
+heading_advance nt (Ok p) b = heading_step nt b p
 
 -- the bytes behind the first letter one by one
-abbrev pub heading_run : Result HeadingPlace TextKind → List ℕ → Result HeadingPlace TextKind
-heading_run r [] = r
-heading_run r (b ∷ bs) = heading_run (heading_advance r b) bs
+abbrev pub heading_run : (nt : Notation) → Result HeadingPlace TextKind → List ℕ → Result HeadingPlace TextKind
+heading_run nt r [] = r
+heading_run nt r (b ∷ bs) = heading_run nt (heading_advance nt r b) bs
 
-pub heading_run-append : (r : Result HeadingPlace TextKind) (xs ys : List ℕ) → heading_run r (xs ++ ys) ≡ heading_run (heading_run r xs) ys
-heading_run-append r [] ys = refl
-heading_run-append r (x ∷ xs) ys = heading_run-append (heading_advance r x) xs ys
+pub heading_run-append : (nt : Notation) → (r : Result HeadingPlace TextKind) (xs ys : List ℕ) → heading_run nt r (xs ++ ys) ≡ heading_run nt (heading_run nt r xs) ys
+heading_run-append nt r [] ys = refl
+heading_run-append nt r (x ∷ xs) ys = heading_run-append nt (heading_advance nt r x) xs ys
 
-pub run_heading_stopped : (k : TextKind) (xs : List ℕ) → heading_run (heading_stopped k) xs ≡ heading_stopped k
-run_heading_stopped k [] = refl
-run_heading_stopped k (x ∷ xs) = run_heading_stopped k xs
+pub run_heading_stopped : (nt : Notation) → (k : TextKind) (xs : List ℕ) → heading_run nt (heading_stopped k) xs ≡ heading_stopped k
+run_heading_stopped nt k [] = refl
+run_heading_stopped nt k (x ∷ xs) = run_heading_stopped nt k xs
 
 -- the word behind its first letter
 abbrev pub other_letters : List ℕ
@@ -86,33 +87,33 @@ place_is p q e = cc
 no_place : (k : TextKind) (q : HeadingPlace) {A : Type 0} → heading_stopped k ≡ heading_going q → A
 no_place k q e = absurd cc
 
-behind_more : (m : Mark) (hs : List ℕ) (b : ℕ) (q : HeadingPlace) → IsMark b m → IsBegun words.Generators hs → behind_word m ≡ heading_going q → IsBegun q (hs ++ b ∷ [])
-behind_more marks.Blank hs b q i g h =
+behind_more : (nt : Notation) → (m : Mark) (hs : List ℕ) (b : ℕ) (q : HeadingPlace) → IsMark nt b m → IsBegun words.Generators hs → behind_word m ≡ heading_going q → IsBegun q (hs ++ b ∷ [])
+behind_more nt marks.Blank hs b q i g h =
     subst (λ x. IsBegun x (hs ++ b ∷ [])) (place_is words.Generators q h)
     (g.0 ++ i.0 ∷ [], longer hs (other_letters ++ blanks_text g.0) b (blank_byte i.0) g.1 i.1 ∙ ap (λ (x : List ℕ). other_letters ++ x) (blanks_more g.0 i.0))
-behind_more marks.Hash hs b q i g h = subst (λ x. IsBegun x (hs ++ b ∷ [])) (place_is words.Comment q h) (g.0, [], longer hs (other_letters ++ blanks_text g.0) b 35 g.1 i)
-behind_more (marks.Signs s) hs b q i g h = no_place _ q h
-behind_more (marks.Letter a) hs b q i g h = no_place _ q h
-behind_more (marks.Digit d) hs b q i g h = no_place _ q h
-behind_more marks.Slash hs b q i g h = no_place _ q h
-behind_more marks.Comma hs b q i g h = no_place _ q h
-behind_more marks.Open hs b q i g h = no_place _ q h
-behind_more marks.Close hs b q i g h = no_place _ q h
-behind_more marks.Other hs b q i g h = no_place _ q h
+behind_more nt marks.Hash hs b q i g h = subst (λ x. IsBegun x (hs ++ b ∷ [])) (place_is words.Comment q h) (g.0, [], longer hs (other_letters ++ blanks_text g.0) b 35 g.1 i)
+behind_more nt (marks.Signs s) hs b q i g h = no_place _ q h
+behind_more nt (marks.Letter a) hs b q i g h = no_place _ q h
+behind_more nt (marks.Digit d) hs b q i g h = no_place _ q h
+behind_more nt marks.Slash hs b q i g h = no_place _ q h
+behind_more nt marks.Comma hs b q i g h = no_place _ q h
+behind_more nt marks.Open hs b q i g h = no_place _ q h
+behind_more nt marks.Close hs b q i g h = no_place _ q h
+behind_more nt marks.Other hs b q i g h = no_place _ q h
 
 -- one more byte
-pub begun_more : (p q : HeadingPlace) (hs : List ℕ) (b : ℕ) → IsBegun p hs → heading_step b p ≡ heading_going q → IsBegun q (hs ++ b ∷ [])
-begun_more words.G q hs b g h = letter_more [] hs 101 b words.Ge q (λ e. e) g h
-begun_more words.Ge q hs b g h = letter_more (codes "e") hs 110 b words.Gen q (λ e. e) g h
-begun_more words.Gen q hs b g h = letter_more (codes "en") hs 101 b words.Gene q (λ e. e) g h
-begun_more words.Gene q hs b g h = letter_more (codes "ene") hs 114 b words.Gener q (λ e. e) g h
-begun_more words.Gener q hs b g h = letter_more (codes "ener") hs 97 b words.Genera q (λ e. e) g h
-begun_more words.Genera q hs b g h = letter_more (codes "enera") hs 116 b words.Generat q (λ e. e) g h
-begun_more words.Generat q hs b g h = letter_more (codes "enerat") hs 111 b words.Generato q (λ e. e) g h
-begun_more words.Generato q hs b g h = letter_more (codes "enerato") hs 114 b words.Generator q (λ e. e) g h
-begun_more words.Generator q hs b g h = letter_more (codes "enerator") hs 115 b words.Generators q (λ e. ([], e)) g h
-begun_more words.Generators q hs b g h = behind_more (mark b) hs b q (mark_is b) g h
-begun_more words.Comment q hs b g h =
+pub begun_more : (nt : Notation) → (p q : HeadingPlace) (hs : List ℕ) (b : ℕ) → IsBegun p hs → heading_step nt b p ≡ heading_going q → IsBegun q (hs ++ b ∷ [])
+begun_more nt words.G q hs b g h = letter_more [] hs 101 b words.Ge q (λ e. e) g h
+begun_more nt words.Ge q hs b g h = letter_more (codes "e") hs 110 b words.Gen q (λ e. e) g h
+begun_more nt words.Gen q hs b g h = letter_more (codes "en") hs 101 b words.Gene q (λ e. e) g h
+begun_more nt words.Gene q hs b g h = letter_more (codes "ene") hs 114 b words.Gener q (λ e. e) g h
+begun_more nt words.Gener q hs b g h = letter_more (codes "ener") hs 97 b words.Genera q (λ e. e) g h
+begun_more nt words.Genera q hs b g h = letter_more (codes "enera") hs 116 b words.Generat q (λ e. e) g h
+begun_more nt words.Generat q hs b g h = letter_more (codes "enerat") hs 111 b words.Generato q (λ e. e) g h
+begun_more nt words.Generato q hs b g h = letter_more (codes "enerato") hs 114 b words.Generator q (λ e. e) g h
+begun_more nt words.Generator q hs b g h = letter_more (codes "enerator") hs 115 b words.Generators q (λ e. ([], e)) g h
+begun_more nt words.Generators q hs b g h = behind_more nt (mark nt b) hs b q (mark_is nt b) g h
+begun_more nt words.Comment q hs b g h =
     subst (λ x. IsBegun x (hs ++ b ∷ [])) (place_is words.Comment q h) (
       g.0,
       g.1 ++ b ∷ [],
@@ -167,38 +168,38 @@ begun_prefix bs words.Comment hs g = itself (blanks_text bs ++ (103 ∷ hs)) (wh
 
 -- ---- a heading is read
 
-blanks_run : (ks : List Blank) (xs : List ℕ) → heading_run (heading_going words.Generators) (blanks_text ks ++ xs) ≡ heading_run (heading_going words.Generators) xs
-blanks_run [] xs = refl
-blanks_run (space ∷ ks) xs = blanks_run ks xs
-blanks_run (tab ∷ ks) xs = blanks_run ks xs
-blanks_run (carriage_return ∷ ks) xs = blanks_run ks xs
+blanks_run : (nt : Notation) → (ks : List Blank) (xs : List ℕ) → heading_run nt (heading_going words.Generators) (blanks_text ks ++ xs) ≡ heading_run nt (heading_going words.Generators) xs
+blanks_run nt [] xs = refl
+blanks_run nt (space ∷ ks) xs = blanks_run nt ks xs
+blanks_run nt (tab ∷ ks) xs = blanks_run nt ks xs
+blanks_run nt (carriage_return ∷ ks) xs = blanks_run nt ks xs
 
-pub comment_run : (cs : List ℕ) → heading_run (heading_going words.Comment) cs ≡ heading_going words.Comment
-comment_run [] = refl
-comment_run (c ∷ cs) = comment_run cs
+pub comment_run : (nt : Notation) → (cs : List ℕ) → heading_run nt (heading_going words.Comment) cs ≡ heading_going words.Comment
+comment_run nt [] = refl
+comment_run nt (c ∷ cs) = comment_run nt cs
 
-begun_run : (p : HeadingPlace) (hs : List ℕ) → IsBegun p hs → heading_run (heading_going words.G) hs ≡ heading_going p
-begun_run words.G hs g = ap (heading_run (heading_going words.G)) g
-begun_run words.Ge hs g = ap (heading_run (heading_going words.G)) g
-begun_run words.Gen hs g = ap (heading_run (heading_going words.G)) g
-begun_run words.Gene hs g = ap (heading_run (heading_going words.G)) g
-begun_run words.Gener hs g = ap (heading_run (heading_going words.G)) g
-begun_run words.Genera hs g = ap (heading_run (heading_going words.G)) g
-begun_run words.Generat hs g = ap (heading_run (heading_going words.G)) g
-begun_run words.Generato hs g = ap (heading_run (heading_going words.G)) g
-begun_run words.Generator hs g = ap (heading_run (heading_going words.G)) g
-begun_run words.Generators hs g = ap (heading_run (heading_going words.G)) (g.1 ∙ ap (λ (x : List ℕ). other_letters ++ x) (sym (append-nil (blanks_text g.0)))) ∙ blanks_run g.0 []
-begun_run words.Comment hs g = ap (heading_run (heading_going words.G)) g.2 ∙ (blanks_run g.0 (35 ∷ g.1) ∙ comment_run g.1)
+begun_run : (nt : Notation) → (p : HeadingPlace) (hs : List ℕ) → IsBegun p hs → heading_run nt (heading_going words.G) hs ≡ heading_going p
+begun_run nt words.G hs g = ap (heading_run nt (heading_going words.G)) g
+begun_run nt words.Ge hs g = ap (heading_run nt (heading_going words.G)) g
+begun_run nt words.Gen hs g = ap (heading_run nt (heading_going words.G)) g
+begun_run nt words.Gene hs g = ap (heading_run nt (heading_going words.G)) g
+begun_run nt words.Gener hs g = ap (heading_run nt (heading_going words.G)) g
+begun_run nt words.Genera hs g = ap (heading_run nt (heading_going words.G)) g
+begun_run nt words.Generat hs g = ap (heading_run nt (heading_going words.G)) g
+begun_run nt words.Generato hs g = ap (heading_run nt (heading_going words.G)) g
+begun_run nt words.Generator hs g = ap (heading_run nt (heading_going words.G)) g
+begun_run nt words.Generators hs g = ap (heading_run nt (heading_going words.G)) (g.1 ∙ ap (λ (x : List ℕ). other_letters ++ x) (sym (append-nil (blanks_text g.0)))) ∙ blanks_run nt g.0 []
+begun_run nt words.Comment hs g = ap (heading_run nt (heading_going words.G)) g.2 ∙ (blanks_run nt g.0 (35 ∷ g.1) ∙ comment_run nt g.1)
 
 -- the bytes behind the first letter are read to the end of the heading
-record IsRead (hs : List ℕ) : Type 0 where
+record IsRead (nt : Notation) (hs : List ℕ) : Type 0 where
   last : HeadingPlace
-  run_is : heading_run (heading_going words.G) hs ≡ heading_going last
+  run_is : heading_run nt (heading_going words.G) hs ≡ heading_going last
   whole : is_whole last ≡ true
 
-word_read : (ks : List Blank) (c : Option (List ℕ)) → IsRead (other_letters ++ (blanks_text ks ++ comment_text c))
-word_read ks None = record { last = words.Generators; run_is = blanks_run ks []; whole = refl }
-word_read ks (Some cs) = record { last = words.Comment; run_is = blanks_run ks (35 ∷ cs) ∙ comment_run cs; whole = refl }
+word_read : (nt : Notation) → (ks : List Blank) (c : Option (List ℕ)) → IsRead nt (other_letters ++ (blanks_text ks ++ comment_text c))
+word_read nt ks None = record { last = words.Generators; run_is = blanks_run nt ks []; whole = refl }
+word_read nt ks (Some cs) = record { last = words.Comment; run_is = blanks_run nt ks (35 ∷ cs) ∙ comment_run nt cs; whole = refl }
 
 -- ---- where the word begins
 
@@ -225,26 +226,26 @@ begins_by [] (k ∷ ks) b xs ys e = inr (k, head_is _ _ _ _ e)
 begins_by (c ∷ bs) [] b xs ys e = absurd (blank_no_g c (head_is _ _ _ _ e))
 begins_by (c ∷ bs) (k ∷ ks) b xs ys e = begins_by bs ks b xs ys (tail_is _ _ _ _ e)
 
-heading_read : (bs : List Blank) (hs : List ℕ) → IsHeading (blanks_text bs ++ (103 ∷ hs)) → IsRead hs
-heading_read bs hs h = subst IsRead (sym (behind_g bs h.before hs (other_letters ++ (blanks_text h.behind ++ comment_text h.comment)) h.text)) (word_read h.behind h.comment)
+heading_read : (nt : Notation) → (bs : List Blank) (hs : List ℕ) → IsHeading (blanks_text bs ++ (103 ∷ hs)) → IsRead nt hs
+heading_read nt bs hs h = subst (IsRead nt) (sym (behind_g bs h.before hs (other_letters ++ (blanks_text h.behind ++ comment_text h.comment)) h.text)) (word_read nt h.behind h.comment)
 
 -- ---- what is no heading
 
 -- where the reader stops none begins so
-pub no_heading : (bs : List Blank) (p : HeadingPlace) (hs : List ℕ) (b : ℕ) (k : TextKind) → IsBegun p hs → heading_step b p ≡ heading_stopped k → IsPrefixIn IsHeading (blanks_text bs ++ (103 ∷ (hs ++ b ∷ []))) → ⊥
-no_heading bs p hs b k g e h =
-    let r = heading_read bs ((hs ++ b ∷ []) ++ h.0) (subst IsHeading (append_assoc (blanks_text bs) (103 ∷ (hs ++ b ∷ [])) h.0) h.1) in
-    let s : heading_run (heading_going words.G) (hs ++ b ∷ []) ≡ heading_stopped k = heading_run-append (heading_going words.G) hs (b ∷ []) ∙ (ap (λ (x : Result HeadingPlace TextKind). heading_advance x b) (begun_run p hs g) ∙ e) in
-    let t : heading_run (heading_going words.G) ((hs ++ b ∷ []) ++ h.0) ≡ heading_stopped k =
-    heading_run-append (heading_going words.G) (hs ++ b ∷ []) h.0 ∙ (ap (λ (x : Result HeadingPlace TextKind). heading_run x h.0) s ∙ run_heading_stopped k h.0) in
+pub no_heading : (nt : Notation) → (bs : List Blank) (p : HeadingPlace) (hs : List ℕ) (b : ℕ) (k : TextKind) → IsBegun p hs → heading_step nt b p ≡ heading_stopped k → IsPrefixIn IsHeading (blanks_text bs ++ (103 ∷ (hs ++ b ∷ []))) → ⊥
+no_heading nt bs p hs b k g e h =
+    let r = heading_read nt bs ((hs ++ b ∷ []) ++ h.0) (subst IsHeading (append_assoc (blanks_text bs) (103 ∷ (hs ++ b ∷ [])) h.0) h.1) in
+    let s : heading_run nt (heading_going words.G) (hs ++ b ∷ []) ≡ heading_stopped k = heading_run-append nt (heading_going words.G) hs (b ∷ []) ∙ (ap (λ (x : Result HeadingPlace TextKind). heading_advance nt x b) (begun_run nt p hs g) ∙ e) in
+    let t : heading_run nt (heading_going words.G) ((hs ++ b ∷ []) ++ h.0) ≡ heading_stopped k =
+    heading_run-append nt (heading_going words.G) (hs ++ b ∷ []) h.0 ∙ (ap (λ (x : Result HeadingPlace TextKind). heading_run nt x h.0) s ∙ run_heading_stopped nt k h.0) in
     let z : heading_going r.last ≡ heading_stopped k = sym r.run_is ∙ t in
     cc
 
 -- a word that ends too early
-pub no_whole_heading : (bs : List Blank) (p : HeadingPlace) (hs : List ℕ) → IsBegun p hs → is_whole p ≡ false → IsHeading (blanks_text bs ++ (103 ∷ hs)) → ⊥
-no_whole_heading bs p hs g e h =
-    let r = heading_read bs hs h in
-    let s : p ≡ r.last = place_is p r.last (sym (begun_run p hs g) ∙ r.run_is) in
+pub no_whole_heading : (nt : Notation) → (bs : List Blank) (p : HeadingPlace) (hs : List ℕ) → IsBegun p hs → is_whole p ≡ false → IsHeading (blanks_text bs ++ (103 ∷ hs)) → ⊥
+no_whole_heading nt bs p hs g e h =
+    let r = heading_read nt bs hs h in
+    let s : p ≡ r.last = place_is p r.last (sym (begun_run nt p hs g) ∙ r.run_is) in
     let z : true ≡ false = sym r.whole ∙ (ap is_whole (sym s) ∙ e) in
     cc
 
@@ -257,8 +258,8 @@ other_beginning bs b n m h =
     ]
 
 -- no vector stands where it begins
-pub no_vector : (bs : List Blank) (hs : List ℕ) → AreBegunVectors (blanks_text bs ++ (103 ∷ hs)) []
-no_vector bs hs c rest e =
+pub no_vector : (nt : Notation) → (bs : List Blank) (hs : List ℕ) → AreBegunVectors nt (blanks_text bs ++ (103 ∷ hs)) []
+no_vector nt bs hs c rest e =
     elim (begins_by c.before bs opening _ hs (sym (append_assoc (blanks_text c.before) _ rest) ∙ sym e)) [
       | inl z ↦ omega (arith, z)
       | inr z ↦ blank_no_bracket z.0 (sym z.1)
@@ -272,19 +273,19 @@ no_vector bs hs c rest e =
 -- ---- the faults of the reader
 
 -- a byte that the heading does not go on with: a comment too early, or any other
-pub stopped_by : (p : HeadingPlace) (b : ℕ) (k : TextKind) → heading_step b p ≡ heading_stopped k → ((b ≡ 35) × (k ≡ kinds.MissingPart)) ⊎ ((mark b ≢ marks.Hash) × (k ≡ kinds.UnknownSign))
-stopped_by p b k h = by_place p h
+pub stopped_by : (nt : Notation) → (p : HeadingPlace) (b : ℕ) (k : TextKind) → heading_step nt b p ≡ heading_stopped k → ((b ≡ 35) × (k ≡ kinds.MissingPart)) ⊎ ((mark nt b ≢ marks.Hash) × (k ≡ kinds.UnknownSign))
+stopped_by nt p b k h = by_place p h
   where
     kind_is : (j : TextKind) → heading_stopped j ≡ heading_stopped k → k ≡ j
     kind_is j e = cc
 
-    hash_is : mark b ≡ marks.Hash → b ≡ 35
-    hash_is e = subst (IsMark b) e (mark_is b)
+    hash_is : mark nt b ≡ marks.Hash → b ≡ 35
+    hash_is e = subst (IsMark nt b) e (mark_is nt b)
 
-    letter : (n : ℕ) (next : HeadingPlace) → letter_step n next b ≡ heading_stopped k → ((b ≡ 35) × (k ≡ kinds.MissingPart)) ⊎ ((mark b ≢ marks.Hash) × (k ≡ kinds.UnknownSign))
+    letter : (n : ℕ) (next : HeadingPlace) → letter_step n next b ≡ heading_stopped k → ((b ≡ 35) × (k ≡ kinds.MissingPart)) ⊎ ((mark nt b ≢ marks.Hash) × (k ≡ kinds.UnknownSign))
     letter n next e = by (b == n) e
       where
-        by : (t : Bool) → cond t (heading_going next) (cond (b == 35) (heading_stopped kinds.MissingPart) (heading_stopped kinds.UnknownSign)) ≡ heading_stopped k → ((b ≡ 35) × (k ≡ kinds.MissingPart)) ⊎ ((mark b ≢ marks.Hash) × (k ≡ kinds.UnknownSign))
+        by : (t : Bool) → cond t (heading_going next) (cond (b == 35) (heading_stopped kinds.MissingPart) (heading_stopped kinds.UnknownSign)) ≡ heading_stopped k → ((b ≡ 35) × (k ≡ kinds.MissingPart)) ⊎ ((mark nt b ≢ marks.Hash) × (k ≡ kinds.UnknownSign))
         by true e = absurd cc
         by false e =
             elim (eqb_tells b 35) [
@@ -295,7 +296,7 @@ stopped_by p b k h = by_place p h
               )
             ]
 
-    behind : (m : Mark) → mark b ≡ m → behind_word m ≡ heading_stopped k → ((b ≡ 35) × (k ≡ kinds.MissingPart)) ⊎ ((mark b ≢ marks.Hash) × (k ≡ kinds.UnknownSign))
+    behind : (m : Mark) → mark nt b ≡ m → behind_word m ≡ heading_stopped k → ((b ≡ 35) × (k ≡ kinds.MissingPart)) ⊎ ((mark nt b ≢ marks.Hash) × (k ≡ kinds.UnknownSign))
     behind marks.Blank i e = absurd cc
     behind marks.Hash i e = absurd cc
     behind (marks.Signs s) i e = inr ((λ y. let z : marks.Signs s ≡ marks.Hash = sym i ∙ y in cc), kind_is kinds.UnknownSign e)
@@ -307,7 +308,7 @@ stopped_by p b k h = by_place p h
     behind marks.Close i e = inr ((λ y. let z : marks.Close ≡ marks.Hash = sym i ∙ y in cc), kind_is kinds.UnknownSign e)
     behind marks.Other i e = inr ((λ y. let z : marks.Other ≡ marks.Hash = sym i ∙ y in cc), kind_is kinds.UnknownSign e)
 
-    by_place : (p : HeadingPlace) → heading_step b p ≡ heading_stopped k → ((b ≡ 35) × (k ≡ kinds.MissingPart)) ⊎ ((mark b ≢ marks.Hash) × (k ≡ kinds.UnknownSign))
+    by_place : (p : HeadingPlace) → heading_step nt b p ≡ heading_stopped k → ((b ≡ 35) × (k ≡ kinds.MissingPart)) ⊎ ((mark nt b ≢ marks.Hash) × (k ≡ kinds.UnknownSign))
     by_place words.G e = letter 101 words.Ge e
     by_place words.Ge e = letter 110 words.Gen e
     by_place words.Gen e = letter 101 words.Gene e
@@ -317,5 +318,5 @@ stopped_by p b k h = by_place p h
     by_place words.Generat e = letter 111 words.Generato e
     by_place words.Generato e = letter 114 words.Generator e
     by_place words.Generator e = letter 115 words.Generators e
-    by_place words.Generators e = behind (mark b) refl e
+    by_place words.Generators e = behind (mark nt b) refl e
     by_place words.Comment e = absurd cc

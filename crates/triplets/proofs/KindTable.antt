@@ -2,6 +2,7 @@
 use Rattle.std.proofs.Common.{◌≡◌, ℕ, ◌≤◌, Bool, true, false, cond, List, Option, Some, None, Result, Err, refl, sym, ◌∙◌, ap, subst, arith, inl, inr, ◌⊎◌}
 use Rattle.std.specs.Prelude.{IsTrue, nat_le, ◌==◌, ◌||◌}
 use Rattle.std.proofs.lemmas.Bool.Decides.{nat_tests, eqb_tells}
+use Rattle.triplets.specs.declared.notation.Notation.{Notation}
 use Rattle.triplets.specs.declared.marks.Axis.{Axis}
 use Rattle.triplets.specs.declared.marks.Axis.TheVariants.{X, Y, Z}
 use Rattle.motions.specs.declared.motion.Sign.{Sign}
@@ -14,7 +15,7 @@ use Rattle.triplets.specs.declared.part.Row as rows
 use Rattle.triplets.specs.declared.part.PartReader.{PartReader}
 use Rattle.triplets.specs.declared.part.Spot.{Spot}
 use Rattle.triplets.specs.declared.part.Spot.TheVariants.{Begin, Signed, Digits, Divided, Below, Behind}
-use Rattle.triplets.specs.Marks.{mark}
+use Rattle.triplets.specs.Marks.{has_axis, mark}
 use Rattle.triplets.specs.Rows.{uses}
 use Rattle.triplets.specs.PartReading.{on_blank, on_sign, on_digit, on_slash, on_new_letter_at, below_or}
 use Rattle.triplets.specs.Grammar.{letter_byte, Digit, digit_value}
@@ -23,19 +24,19 @@ use Rattle.triplets.proofs.Bytes.{mark_letter, mark_digit}
 use Rattle.triplets.proofs.Partials.{fine}
 use Rattle.triplets.proofs.Seen.{Seen, digit_true, digit_not_letter, SpotAgrees, letter_bounds, at}
 
-abbrev pub KindOf : (m o c : ℕ) → (Axis → Bool) → Type 0 → ℕ → TextKind → Type 0
-KindOf m o c S G b kind =
+abbrev pub KindOf : (nt : Notation) → (m o c : ℕ) → (Axis → Bool) → Type 0 → ℕ → TextKind → Type 0
+KindOf nt m o c S G b kind =
     TableRow ((b ≡ 35) × ¬ G) kinds.MissingPart kind (
     TableRow ((b ≡ 44) × G) kinds.ExtraPart kind (
     TableRow ((b ≡ 44) × (m ≡ 44)) kinds.Empty kind (
-    TableRow ((a : Axis) × IsTrue (is_letter a b) × IsTrue (S a)) kinds.Repeated kind (
-    TableRow (IsLetter b × (1 ≤ c)) kinds.Coefficient kind (
+    TableRow ((a : Axis) × IsTrue (is_letter a b) × (has_axis nt a ≡ true) × IsTrue (S a)) kinds.Repeated kind (
+    TableRow (IsLetter nt b × (1 ≤ c)) kinds.Coefficient kind (
     TableRow (IsTrue (is_digit b) × (o ≡ 47)) kinds.Denominator kind (
     TableRow (IsTrue (is_digit b) × (3 ≤ c)) kinds.Coefficient kind (
     kind ≡ kinds.UnknownSign)))))))
 
-pub table_is : (before : List ℕ) (b : ℕ) (k : TextKind) → KindOf (last_mark 44 before) (last_other 0 before) (digits_at_end 0 before) (λ a. stands a false before) (IsGood before) b k → HasKind before b k
-table_is before b k h = h
+pub table_is : (nt : Notation) → (before : List ℕ) (b : ℕ) (k : TextKind) → KindOf nt (last_mark 44 before) (last_other 0 before) (digits_at_end 0 before) (λ a. stands a false before) (IsGood nt before) b k → HasKind nt before b k
+table_is nt before b k h = h
 
 -- which byte it is
 
@@ -99,30 +100,30 @@ silent marks.Other = true
 pub apart : (b : Bool) {A : Type 0} → b ≡ true → b ≡ false → A
 apart b h e = let z : false ≡ true = sym e ∙ h in absurd cc
 
-pub silent_at : (b c : ℕ) → b ≡ c → silent (mark b) ≡ true → silent (mark c) ≡ true
-silent_at b c e h = subst (λ x. silent (mark x) ≡ true) e h
+pub silent_at : (nt : Notation) → (b c : ℕ) → b ≡ c → silent (mark nt b) ≡ true → silent (mark nt c) ≡ true
+silent_at nt b c e h = subst (λ x. silent (mark nt x) ≡ true) e h
 
-pub no_letter : (b : ℕ) → silent (mark b) ≡ true → (a : Axis) → IsTrue (is_letter a b) → ⊥
-no_letter b h a l = let k = letter_cases a b l in apart _ (silent_at b _ k.1 h) (ap silent (mark_letter a k.0))
+pub no_letter : (nt : Notation) → (b : ℕ) → silent (mark nt b) ≡ true → (a : Axis) → IsTrue (is_letter a b) → has_axis nt a ≡ true → ⊥
+no_letter nt b h a l axis = let k = letter_cases a b l in apart _ (silent_at nt b _ k.1 h) (ap silent (mark_letter nt a k.0 axis))
 
-pub no_digit : (b : ℕ) → silent (mark b) ≡ true → IsTrue (is_digit b) → ⊥
-no_digit b h l = let k = digit_of b l in apart _ (silent_at b _ k.1 h) (ap silent (mark_digit k.0))
+pub no_digit : (nt : Notation) → (b : ℕ) → silent (mark nt b) ≡ true → IsTrue (is_digit b) → ⊥
+no_digit nt b h l = let k = digit_of b l in apart _ (silent_at nt b _ k.1 h) (ap silent (mark_digit nt k.0))
 
-pub unknown : (m o c : ℕ) (S : Axis → Bool) (G : Type 0) (b : ℕ) → silent (mark b) ≡ true → KindOf m o c S G b kinds.UnknownSign
-unknown m o c S G b h =
+pub unknown : (nt : Notation) → (m o c : ℕ) (S : Axis → Bool) (G : Type 0) (b : ℕ) → silent (mark nt b) ≡ true → KindOf nt m o c S G b kinds.UnknownSign
+unknown nt m o c S G b h =
     inr (
-      λ e. apart _ (silent_at b 35 e.0 h) refl,
+      λ e. apart _ (silent_at nt b 35 e.0 h) refl,
       inr (
-        λ e. apart _ (silent_at b 44 e.0 h) refl,
+        λ e. apart _ (silent_at nt b 44 e.0 h) refl,
         inr (
-          λ e. apart _ (silent_at b 44 e.0 h) refl,
+          λ e. apart _ (silent_at nt b 44 e.0 h) refl,
           inr (
-            λ e. no_letter b h e.0 e.1,
+            λ e. no_letter nt b h e.0 e.1 e.2,
             inr (
-              λ e. no_letter b h e.0.0 e.0.1,
+              λ e. no_letter nt b h e.0.0 e.0.1 e.0.2,
               inr (
-                λ e. no_digit b h e.0,
-                inr (λ e. no_digit b h e.0, refl),
+                λ e. no_digit nt b h e.0,
+                inr (λ e. no_digit nt b h e.0, refl),
               ),
             ),
           ),
@@ -153,34 +154,34 @@ below_err v None p k e = cc
 below_err v (Some d) p k e = absurd cc
 
 -- at a letter that does not stand in the part
-pub new_letter_fault : (spot : Spot) (r : rows.Row) (u : Used) (g : Sign) (f : Seen) (a : Axis) (c : Bool) (k : TextKind) → SpotAgrees spot f → on_new_letter_at a spot (at r u g spot) ≡ part_stopped k →
-    TableRow (IsLetter (letter_byte a c) × (1 ≤ f.count)) kinds.Coefficient k (
+pub new_letter_fault : (nt : Notation) → (spot : Spot) (r : rows.Row) (u : Used) (g : Sign) (f : Seen) (a : Axis) (c : Bool) (k : TextKind) → has_axis nt a ≡ true → SpotAgrees spot f → on_new_letter_at a spot (at r u g spot) ≡ part_stopped k →
+    TableRow (IsLetter nt (letter_byte a c) × (1 ≤ f.count)) kinds.Coefficient k (
     TableRow (IsTrue (is_digit (letter_byte a c)) × (f.other ≡ 47)) kinds.Denominator k (
     TableRow (IsTrue (is_digit (letter_byte a c)) × (3 ≤ f.count)) kinds.Coefficient k (
     k ≡ kinds.UnknownSign)))
-new_letter_fault Begin r u g f a c k h w = not_ok _ k w
-new_letter_fault Signed r u g f a c k h w = not_ok _ k w
-new_letter_fault (Digits n v) r u g f a c k h w = inl (((a, letter_self a c), omega (arith, h.1, h.3)), unmet _ _ _ k w)
-new_letter_fault (Divided v) r u g f a c k h w =
+new_letter_fault nt Begin r u g f a c k axis h w = not_ok _ k w
+new_letter_fault nt Signed r u g f a c k axis h w = not_ok _ k w
+new_letter_fault nt (Digits n v) r u g f a c k axis h w = inl (((a, letter_self a c, axis), omega (arith, h.1, h.3)), unmet _ _ _ k w)
+new_letter_fault nt (Divided v) r u g f a c k axis h w =
     inr (λ e. omega (arith, e.1, h.1), inr (λ e. apart _ e.0 (letter_bounds a c).3, inr (λ e. apart _ e.0 (letter_bounds a c).3, err_kind _ k w)))
-new_letter_fault (Below v d) r u g f a c k h w = inl (((a, letter_self a c), h.1), err_kind _ k w)
-new_letter_fault Behind r u g f a c k h w =
+new_letter_fault nt (Below v d) r u g f a c k axis h w = inl (((a, letter_self a c, axis), h.1), err_kind _ k w)
+new_letter_fault nt Behind r u g f a c k axis h w =
     inr (λ e. omega (arith, e.1, h.1), inr (λ e. apart _ e.0 (letter_bounds a c).3, inr (λ e. apart _ e.0 (letter_bounds a c).3, err_kind _ k w)))
 
-pub letter_fault_by : (t : Bool) (spot : Spot) (r : rows.Row) (u : Used) (g : Sign) (f : Seen) (S : Axis → Bool) (G : Type 0) (a : Axis) (c : Bool) (k : TextKind) → ((x : Axis) → S x ≡ uses x u) → SpotAgrees spot f →
-    uses a u ≡ t → cond t (part_stopped kinds.Repeated) (on_new_letter_at a spot (at r u g spot)) ≡ part_stopped k → KindOf f.mark f.other f.count S G (letter_byte a c) k
-letter_fault_by true spot r u g f S G a c k s h t w =
+pub letter_fault_by : (nt : Notation) → (t : Bool) (spot : Spot) (r : rows.Row) (u : Used) (g : Sign) (f : Seen) (S : Axis → Bool) (G : Type 0) (a : Axis) (c : Bool) (k : TextKind) → has_axis nt a ≡ true → ((x : Axis) → S x ≡ uses x u) → SpotAgrees spot f →
+    uses a u ≡ t → cond t (part_stopped kinds.Repeated) (on_new_letter_at a spot (at r u g spot)) ≡ part_stopped k → KindOf nt f.mark f.other f.count S G (letter_byte a c) k
+letter_fault_by nt true spot r u g f S G a c k axis s h t w =
     inr (
       λ e. (letter_bounds a c).2 e.0,
       inr (
         λ e. (letter_bounds a c).0 e.0,
         inr (
           λ e. (letter_bounds a c).0 e.0,
-          inl ((a, letter_self a c, s a ∙ t), err_kind _ k w),
+          inl ((a, letter_self a c, axis, s a ∙ t), err_kind _ k w),
         ),
       ),
     )
-letter_fault_by false spot r u g f S G a c k s h t w =
+letter_fault_by nt false spot r u g f S G a c k axis s h t w =
     inr (
       λ e. (letter_bounds a c).2 e.0,
       inr (
@@ -188,8 +189,8 @@ letter_fault_by false spot r u g f S G a c k s h t w =
         inr (
           λ e. (letter_bounds a c).0 e.0,
           inr (
-            λ e. apart _ (subst (λ x. S x ≡ true) (letter_one a e.0 c e.1) e.2) (s a ∙ t),
-            new_letter_fault spot r u g f a c k h w,
+            λ e. apart _ (subst (λ x. S x ≡ true) (letter_one a e.0 c e.1) e.3) (s a ∙ t),
+            new_letter_fault nt spot r u g f a c k axis h w,
           ),
         ),
       ),
@@ -199,9 +200,9 @@ pub three_of : (n c : ℕ) → nat_le 3 n ≡ true → c ≡ n → 3 ≤ c
 three_of n c h e = grind (arith, nat_tests)
 
 -- at a digit
-pub digit_fault : (spot : Spot) (r : rows.Row) (u : Used) (g : Sign) (f : Seen) (S : Axis → Bool) (G : Type 0) (d : Digit) (k : TextKind) → SpotAgrees spot f → on_digit (digit_value d) (at r u g spot) ≡ part_stopped k →
-    KindOf f.mark f.other f.count S G d.byte k
-digit_fault spot r u g f S G d k h w =
+pub digit_fault : (nt : Notation) → (spot : Spot) (r : rows.Row) (u : Used) (g : Sign) (f : Seen) (S : Axis → Bool) (G : Type 0) (d : Digit) (k : TextKind) → SpotAgrees spot f → on_digit (digit_value d) (at r u g spot) ≡ part_stopped k →
+    KindOf nt f.mark f.other f.count S G d.byte k
+digit_fault nt spot r u g f S G d k h w =
     inr (
       λ e. omega (arith, e.0, d.low),
       inr (

@@ -3,6 +3,8 @@ use Rattle.std.proofs.Common.{◌≡◌, ℕ, ◌+◌, ◌≤◌, Bool, true, fa
 use Rattle.std.specs.Prelude.{◌&&◌}
 use Rattle.motions.specs.declared.motion.Sign.{Sign}
 use Rattle.motions.specs.declared.motion.Sign.TheVariants.{Plus, Minus}
+use Rattle.triplets.specs.declared.notation.Notation.{Notation}
+use Rattle.triplets.specs.declared.notation.Notation.TheVariants.{Triplets, Pairs}
 use Rattle.triplets.specs.declared.fault.TextKind.{TextKind}
 use Rattle.triplets.specs.declared.marks.Mark.{Mark}
 use Rattle.triplets.specs.declared.marks.Mark.TheVariants as marks
@@ -46,26 +48,29 @@ bounded_coordinate : (n : ℕ) (r : Result PartReader TextKind) (l : Bool) (v : 
 bounded_coordinate n (Ok p) l v q f e = bounded n _ q e (f p refl)
 bounded_coordinate n (Err k) l v q f e = not_placed _ q e
 
-bounded_next : (m : Nth) (n : ℕ) (v : VectorReader) (x : ℤ) (q : LinePlace) → next_coordinate m v x ≡ placed q → IsPlaceWithin n q
-bounded_next First n v x q e = bounded n _ q e (within_begin n)
-bounded_next Second n v x q e = bounded n _ q e (within_begin n)
-bounded_next Third n v x q e = not_placed _ q e
+bounded_next : (nt : Notation) → (m : Nth) (n : ℕ) (v : VectorReader) (x : ℤ) (q : LinePlace) → next_coordinate nt m v x ≡ placed q → IsPlaceWithin n q
+bounded_next nt First n v x q e = bounded n _ q e (within_begin n)
+bounded_next Pairs Second n v x q e = not_placed _ q e
+bounded_next Triplets Second n v x q e = bounded n _ q e (within_begin n)
+bounded_next nt Third n v x q e = not_placed _ q e
 
-bounded_comma : (o : Option PartReader) (n : ℕ) (v : VectorReader) (q : LinePlace) → coordinate_comma o v ≡ placed q → IsPlaceWithin n q
-bounded_comma None n v q e = not_placed _ q e
-bounded_comma (Some p) n v q e = bounded_next v.nth n v p.row.shift q e
+bounded_comma : (nt : Notation) → (o : Option PartReader) (n : ℕ) (v : VectorReader) (q : LinePlace) → coordinate_comma nt o v ≡ placed q → IsPlaceWithin n q
+bounded_comma nt None n v q e = not_placed _ q e
+bounded_comma nt (Some p) n v q e = bounded_next nt v.nth n v p.row.shift q e
 
-bounded_closed : (m : Nth) (o : Option PartReader) (n : ℕ) (v : VectorReader) (q : LinePlace) → closed_at m o v ≡ placed q → IsPlaceWithin n q
-bounded_closed First None n v q e = not_placed _ q e
-bounded_closed Second None n v q e = not_placed _ q e
-bounded_closed Third None n v q e = not_placed _ q e
-bounded_closed First (Some p) n v q e = not_placed _ q e
-bounded_closed Second (Some p) n v q e = not_placed _ q e
-bounded_closed Third (Some p) n v q e = bounded n _ q e tt
+bounded_closed : (nt : Notation) → (m : Nth) (o : Option PartReader) (n : ℕ) (v : VectorReader) (q : LinePlace) → closed_at nt m o v ≡ placed q → IsPlaceWithin n q
+bounded_closed nt First None n v q e = not_placed _ q e
+bounded_closed nt Second None n v q e = not_placed _ q e
+bounded_closed nt Third None n v q e = not_placed _ q e
+bounded_closed nt First (Some p) n v q e = not_placed _ q e
+bounded_closed Triplets Second (Some p) n v q e = not_placed _ q e
+bounded_closed Pairs Second (Some p) n v q e = bounded n _ q e tt
+bounded_closed Triplets Third (Some p) n v q e = bounded n _ q e tt
+bounded_closed Pairs Third (Some p) n v q e = not_placed _ q e
 
-bounded_close : (b : Bool) (n : ℕ) (v : VectorReader) (q : LinePlace) → cond b (placed (places.Operation start)) (closed_at v.nth (settled v.part) v) ≡ placed q → IsPlaceWithin n q
-bounded_close true n v q e = bounded n _ q e (within_begin n)
-bounded_close false n v q e = bounded_closed v.nth (settled v.part) n v q e
+bounded_close : (nt : Notation) → (b : Bool) (n : ℕ) (v : VectorReader) (q : LinePlace) → cond b (placed (places.Operation start)) (closed_at nt v.nth (settled v.part) v) ≡ placed q → IsPlaceWithin n q
+bounded_close nt true n v q e = bounded n _ q e (within_begin n)
+bounded_close nt false n v q e = bounded_closed nt v.nth (settled v.part) n v q e
 
 bounded_sign : (spot : Spot) (s : Sign) (n : ℕ) (v : VectorReader) (q : LinePlace) → IsPartWithin n v.part → coordinate_sign s spot v ≡ placed q → IsPlaceWithin (n + 1) q
 bounded_sign Begin s n v q h e = bounded (n + 1) _ q e (more_room n v.part.row h.0, tt)
@@ -75,48 +80,48 @@ bounded_sign (Divided w) s n v q h e = not_placed _ q e
 bounded_sign (Below w d) s n v q h e = not_placed _ q e
 bounded_sign Behind s n v q h e = not_placed _ q e
 
-bounded_vector : (m : Mark) (n : ℕ) (v : VectorReader) (q : LinePlace) → IsMarkInRange m → IsPartWithin n v.part → vector_step m v ≡ placed q → IsPlaceWithin (n + 1) q
-bounded_vector (marks.Letter a) n v q i h e = not_placed _ q e
-bounded_vector (marks.Signs s) n v q i h e = bounded_sign v.part.spot s n v q h e
-bounded_vector marks.Comma n v q i h e = bounded_comma (settled v.part) (n + 1) v q e
-bounded_vector marks.Close n v q i h e = bounded_close (v.label && is_digits v.part.spot) (n + 1) v q e
-bounded_vector (marks.Digit d) n v q i h e = bounded_coordinate (n + 1) (part_step (marks.Digit d) v.part) v.label v q (λ p w. within_part (marks.Digit d) n v.part p i h w) e
-bounded_vector marks.Blank n v q i h e = bounded_coordinate (n + 1) (part_step marks.Blank v.part) false v q (λ p w. within_part marks.Blank n v.part p i h w) e
-bounded_vector marks.Slash n v q i h e = bounded_coordinate (n + 1) (part_step marks.Slash v.part) false v q (λ p w. within_part marks.Slash n v.part p i h w) e
-bounded_vector marks.Hash n v q i h e = not_placed _ q e
-bounded_vector marks.Open n v q i h e = not_placed _ q e
-bounded_vector marks.Other n v q i h e = not_placed _ q e
+bounded_vector : (nt : Notation) → (m : Mark) (n : ℕ) (v : VectorReader) (q : LinePlace) → IsMarkInRange m → IsPartWithin n v.part → vector_step nt m v ≡ placed q → IsPlaceWithin (n + 1) q
+bounded_vector nt (marks.Letter a) n v q i h e = not_placed _ q e
+bounded_vector nt (marks.Signs s) n v q i h e = bounded_sign v.part.spot s n v q h e
+bounded_vector nt marks.Comma n v q i h e = bounded_comma nt (settled v.part) (n + 1) v q e
+bounded_vector nt marks.Close n v q i h e = bounded_close nt (v.label && is_digits v.part.spot) (n + 1) v q e
+bounded_vector nt (marks.Digit d) n v q i h e = bounded_coordinate (n + 1) (part_step (marks.Digit d) v.part) v.label v q (λ p w. within_part (marks.Digit d) n v.part p i h w) e
+bounded_vector nt marks.Blank n v q i h e = bounded_coordinate (n + 1) (part_step marks.Blank v.part) false v q (λ p w. within_part marks.Blank n v.part p i h w) e
+bounded_vector nt marks.Slash n v q i h e = bounded_coordinate (n + 1) (part_step marks.Slash v.part) false v q (λ p w. within_part marks.Slash n v.part p i h w) e
+bounded_vector nt marks.Hash n v q i h e = not_placed _ q e
+bounded_vector nt marks.Open n v q i h e = not_placed _ q e
+bounded_vector nt marks.Other n v q i h e = not_placed _ q e
 
-bounded_step : (m : Mark) (n : ℕ) (t : TripletReader) (q : LinePlace) → IsMarkInRange m → IsPartWithin n t.part → in_operation (step m t) ≡ placed q → IsPlaceWithin (n + 1) q
-bounded_step m n t q i h e = bounded_operation (n + 1) (step m t) q (λ u w. within_by m n t u i h w) e
+bounded_step : (nt : Notation) → (m : Mark) (n : ℕ) (t : TripletReader) (q : LinePlace) → IsMarkInRange m → IsPartWithin n t.part → in_operation (step nt m t) ≡ placed q → IsPlaceWithin (n + 1) q
+bounded_step nt m n t q i h e = bounded_operation (n + 1) (step nt m t) q (λ u w. within_by nt m n t u i h w) e
 
-bounded_start : (m : Mark) (n : ℕ) (q : LinePlace) → IsMarkInRange m → start_step m ≡ placed q → IsPlaceWithin (n + 1) q
-bounded_start marks.Blank n q i e = bounded (n + 1) _ q e tt
-bounded_start marks.Open n q i e = bounded (n + 1) _ q e (within_begin (n + 1))
-bounded_start marks.Hash n q i e = bounded (n + 1) _ q e tt
-bounded_start (marks.Letter a) n q i e = bounded_step (marks.Letter a) n start q i (within_begin n) e
-bounded_start (marks.Signs s) n q i e = bounded_step (marks.Signs s) n start q i (within_begin n) e
-bounded_start (marks.Digit d) n q i e = bounded_step (marks.Digit d) n start q i (within_begin n) e
-bounded_start marks.Slash n q i e = bounded_step marks.Slash n start q i (within_begin n) e
-bounded_start marks.Comma n q i e = bounded_step marks.Comma n start q i (within_begin n) e
-bounded_start marks.Close n q i e = bounded_step marks.Close n start q i (within_begin n) e
-bounded_start marks.Other n q i e = bounded_step marks.Other n start q i (within_begin n) e
+bounded_start : (nt : Notation) → (m : Mark) (n : ℕ) (q : LinePlace) → IsMarkInRange m → start_step nt m ≡ placed q → IsPlaceWithin (n + 1) q
+bounded_start nt marks.Blank n q i e = bounded (n + 1) _ q e tt
+bounded_start nt marks.Open n q i e = bounded (n + 1) _ q e (within_begin (n + 1))
+bounded_start nt marks.Hash n q i e = bounded (n + 1) _ q e tt
+bounded_start nt (marks.Letter a) n q i e = bounded_step nt (marks.Letter a) n start q i (within_begin n) e
+bounded_start nt (marks.Signs s) n q i e = bounded_step nt (marks.Signs s) n start q i (within_begin n) e
+bounded_start nt (marks.Digit d) n q i e = bounded_step nt (marks.Digit d) n start q i (within_begin n) e
+bounded_start nt marks.Slash n q i e = bounded_step nt marks.Slash n start q i (within_begin n) e
+bounded_start nt marks.Comma n q i e = bounded_step nt marks.Comma n start q i (within_begin n) e
+bounded_start nt marks.Close n q i e = bounded_step nt marks.Close n start q i (within_begin n) e
+bounded_start nt marks.Other n q i e = bounded_step nt marks.Other n start q i (within_begin n) e
 
 bounded_behind_comment : (o : Option Motion3) (n : ℕ) (q : LinePlace) → comment_behind o ≡ placed q → IsPlaceWithin n q
 bounded_behind_comment None n q e = not_placed _ q e
 bounded_behind_comment (Some t) n q e = bounded n _ q e tt
 
-bounded_in_operation : (m : Mark) (n : ℕ) (t : TripletReader) (q : LinePlace) → IsMarkInRange m → IsPartWithin n t.part → operation_step m t ≡ placed q → IsPlaceWithin (n + 1) q
-bounded_in_operation marks.Blank n t q i h e = bounded_step marks.Blank n t q i h e
-bounded_in_operation marks.Open n t q i h e = bounded_step marks.Open n t q i h e
-bounded_in_operation marks.Hash n t q i h e = bounded_behind_comment (value t) (n + 1) q e
-bounded_in_operation (marks.Letter a) n t q i h e = bounded_step (marks.Letter a) n t q i h e
-bounded_in_operation (marks.Signs s) n t q i h e = bounded_step (marks.Signs s) n t q i h e
-bounded_in_operation (marks.Digit d) n t q i h e = bounded_step (marks.Digit d) n t q i h e
-bounded_in_operation marks.Slash n t q i h e = bounded_step marks.Slash n t q i h e
-bounded_in_operation marks.Comma n t q i h e = bounded_step marks.Comma n t q i h e
-bounded_in_operation marks.Close n t q i h e = bounded_step marks.Close n t q i h e
-bounded_in_operation marks.Other n t q i h e = bounded_step marks.Other n t q i h e
+bounded_in_operation : (nt : Notation) → (m : Mark) (n : ℕ) (t : TripletReader) (q : LinePlace) → IsMarkInRange m → IsPartWithin n t.part → operation_step nt m t ≡ placed q → IsPlaceWithin (n + 1) q
+bounded_in_operation nt marks.Blank n t q i h e = bounded_step nt marks.Blank n t q i h e
+bounded_in_operation nt marks.Open n t q i h e = bounded_step nt marks.Open n t q i h e
+bounded_in_operation nt marks.Hash n t q i h e = bounded_behind_comment (value nt t) (n + 1) q e
+bounded_in_operation nt (marks.Letter a) n t q i h e = bounded_step nt (marks.Letter a) n t q i h e
+bounded_in_operation nt (marks.Signs s) n t q i h e = bounded_step nt (marks.Signs s) n t q i h e
+bounded_in_operation nt (marks.Digit d) n t q i h e = bounded_step nt (marks.Digit d) n t q i h e
+bounded_in_operation nt marks.Slash n t q i h e = bounded_step nt marks.Slash n t q i h e
+bounded_in_operation nt marks.Comma n t q i h e = bounded_step nt marks.Comma n t q i h e
+bounded_in_operation nt marks.Close n t q i h e = bounded_step nt marks.Close n t q i h e
+bounded_in_operation nt marks.Other n t q i h e = bounded_step nt marks.Other n t q i h e
 
 bounded_in_closed : (m : Mark) (n : ℕ) (v : List Part) (q : LinePlace) → closed_step m v ≡ placed q → IsPlaceWithin n q
 bounded_in_closed marks.Blank n v q e = bounded n _ q e tt
@@ -143,17 +148,17 @@ bounded_in_behind marks.Comma n q e = not_placed _ q e
 bounded_in_behind marks.Close n q e = not_placed _ q e
 bounded_in_behind marks.Other n q e = not_placed _ q e
 
-bounded_place : (p : LinePlace) (b : ℕ) (n : ℕ) (q : LinePlace) → IsPlaceWithin n p → place_step (mark b) p ≡ placed q → IsPlaceWithin (n + 1) q
-bounded_place places.Start b n q h e = bounded_start (mark b) n q (mark_range b) e
-bounded_place (places.Operation t) b n q h e = bounded_in_operation (mark b) n t q (mark_range b) h e
-bounded_place (places.Coordinates v) b n q h e = bounded_vector (mark b) n v q (mark_range b) h e
-bounded_place (places.Closed v) b n q h e = bounded_in_closed (mark b) (n + 1) v q e
-bounded_place places.Behind b n q h e = bounded_in_behind (mark b) (n + 1) q e
-bounded_place (places.Comment o) b n q h e = bounded (n + 1) _ q e tt
+bounded_place : (nt : Notation) → (p : LinePlace) (b : ℕ) (n : ℕ) (q : LinePlace) → IsPlaceWithin n p → place_step nt (mark nt b) p ≡ placed q → IsPlaceWithin (n + 1) q
+bounded_place nt places.Start b n q h e = bounded_start nt (mark nt b) n q (mark_range nt b) e
+bounded_place nt (places.Operation t) b n q h e = bounded_in_operation nt (mark nt b) n t q (mark_range nt b) h e
+bounded_place nt (places.Coordinates v) b n q h e = bounded_vector nt (mark nt b) n v q (mark_range nt b) h e
+bounded_place nt (places.Closed v) b n q h e = bounded_in_closed (mark nt b) (n + 1) v q e
+bounded_place nt places.Behind b n q h e = bounded_in_behind (mark nt b) (n + 1) q e
+bounded_place nt (places.Comment o) b n q h e = bounded (n + 1) _ q e tt
 
 -- the place stays within what the column allows
-pub place_within : (b n : ℕ) (p q : LinePlace) → IsPlaceWithin n p → place_step (mark b) p ≡ placed q → IsPlaceWithin (n + 1) q
-place_within b n p q h e = bounded_place p b n q h e
+pub place_within : (nt : Notation) → (b n : ℕ) (p q : LinePlace) → IsPlaceWithin n p → place_step nt (mark nt b) p ≡ placed q → IsPlaceWithin (n + 1) q
+place_within nt b n p q h e = bounded_place nt p b n q h e
 
 pub place_small : (p : LinePlace) (n : ℕ) → n ≤ 16777216 → IsPlaceWithin n p → IsPlaceSmall p
 place_small places.Start n b h = tt

@@ -2,6 +2,8 @@
 use Rattle.std.proofs.Common.{◌≡◌, ◌≢◌, ℕ, ◌≤◌, Bool, true, false, cond, List, Option, Some, None, Result, Ok, Err, refl, sym, ◌∙◌, ap, subst, arith, inl, inr, ◌⊎◌}
 use Rattle.std.specs.Prelude.{IsTrue, ◌&&◌}
 use Rattle.symmetry.specs.Vectors.{Vector}
+use Rattle.triplets.specs.declared.notation.Notation.{Notation}
+use Rattle.triplets.specs.declared.notation.Notation.TheVariants.{Triplets, Pairs}
 use Rattle.triplets.specs.declared.marks.Axis.{Axis}
 use Rattle.triplets.specs.declared.marks.Axis.TheVariants.{X, Y, Z}
 use Rattle.motions.specs.declared.motion.Sign.{Sign}
@@ -23,27 +25,27 @@ use Rattle.fractions.specs.declared.part.Part.{Part}
 use Rattle.triplets.specs.declared.line.VectorReader.{VectorReader}
 use Rattle.triplets.specs.declared.line.LinePlace.{LinePlace}
 use Rattle.triplets.specs.declared.line.LinePlace.TheVariants as places
-use Rattle.triplets.specs.Marks.{mark}
+use Rattle.triplets.specs.Marks.{has_axis, mark}
 use Rattle.triplets.specs.Rows.{unused, uses}
 use Rattle.triplets.specs.PartReading.{settled, part_step, on_digit}
 use Rattle.triplets.specs.TripletReading.{start, next_part, comma_at, early_comma, value, step}
 use Rattle.triplets.specs.Grammar.{Blank, space, tab, carriage_return, blank_byte, sign_byte, letter_byte, Digit}
 use Rattle.triplets.specs.LineReading.{in_operation, in_coordinate, next_coordinate, coordinate_comma, closed_at, is_digits, behind_number, coordinate_sign, vector_step, start_step, comment_behind, operation_step, closed_step, behind_step, place_step, completed, with_vector, LineState, line_start, at_place, line_step, line_run}
 use Rattle.triplets.specs.Faults.{is_digit, is_letter, TableRow, IsLetter}
-use Rattle.triplets.specs.LineFaults.{line_stands, is_end_of_part, HasLineKind}
+use Rattle.triplets.specs.LineFaults.{commas_within, line_stands, is_end_of_part, HasLineKind}
 use Rattle.triplets.proofs.Bytes.{IsMark, mark_is}
 use Rattle.triplets.proofs.Wholes.{stopped, found}
 use Rattle.triplets.proofs.Seen.{Seen, SpotAgrees, letter_bounds, digit_not_letter, at}
-use Rattle.triplets.proofs.KindFacts.{fault_by, Tabled, after_comma, no_triplet}
+use Rattle.triplets.proofs.KindFacts.{IsCounted, fault_by, Tabled, after_comma, no_triplet}
 use Rattle.triplets.proofs.KindTable.{KindOf, digit_fault, silent, unknown, apart, letter_self, part_stopped, blank_fault, slash_fault}
 use Rattle.triplets.proofs.LineBounds.{placed}
 use Rattle.triplets.proofs.LineBegun.{line_going, line_stopped}
-use Rattle.triplets.proofs.LineSeen.{LineSeen, line_seen, line_seen_start, SameMark, smade, settles, PartKnown, Between, LineAgrees, line_agrees}
+use Rattle.triplets.proofs.LineSeen.{LineSeen, line_seen, line_seen_start, index, SameMark, smade, settles, PartKnown, Between, LineAgrees, line_agrees}
 
-abbrev pub Suffix : (o c : ℕ) → (Axis → Bool) → ℕ → TextKind → Type 0
-Suffix o c S b k =
-    TableRow ((a : Axis) × IsTrue (is_letter a b) × IsTrue (S a)) kinds.Repeated k (
-    TableRow (IsLetter b × (1 ≤ c)) kinds.Coefficient k (
+abbrev pub Suffix : (nt : Notation) → (o c : ℕ) → (Axis → Bool) → ℕ → TextKind → Type 0
+Suffix nt o c S b k =
+    TableRow ((a : Axis) × IsTrue (is_letter a b) × (has_axis nt a ≡ true) × IsTrue (S a)) kinds.Repeated k (
+    TableRow (IsLetter nt b × (1 ≤ c)) kinds.Coefficient k (
     TableRow (IsTrue (is_digit b) × (o ≡ 47)) kinds.Denominator k (
     TableRow (IsTrue (is_digit b) × (3 ≤ c)) kinds.Coefficient k (
     k ≡ kinds.UnknownSign))))
@@ -51,47 +53,47 @@ Suffix o c S b k =
 abbrev pub Fresh : ℕ → ℕ → Type 0
 Fresh m n = (m ≡ 44) ⊎ ((m ≡ 40) ⊎ ((m ≡ 41) × (n ≡ 0)))
 
-abbrev pub LineKindOf : LineSeen → (Axis → Bool) → ℕ → TextKind → Type 0
-LineKindOf f S b k =
+abbrev pub LineKindOf : (nt : Notation) → LineSeen → (Axis → Bool) → ℕ → TextKind → Type 0
+LineKindOf nt f S b k =
     TableRow (b ≡ 35) kinds.MissingPart k (
     TableRow ((b ≡ 41) × (f.bracket ≡ 40) × IsTrue (is_digit f.mark)) kinds.MissingPart k (
-    TableRow ((b ≡ 44) × (f.commas ≡ 2) × IsTrue (is_end_of_part f.mark)) kinds.ExtraPart k (
+    TableRow ((b ≡ 44) × (commas_within nt ≤ f.commas) × IsTrue (is_end_of_part f.mark)) kinds.ExtraPart k (
     TableRow ((b ≡ 44) × Fresh f.mark f.commas) kinds.Empty k (
-    Suffix f.other f.count S b k))))
+    Suffix nt f.other f.count S b k))))
 
-pub suffix_of : (m o c : ℕ) (S : Axis → Bool) (G : Type 0) (b : ℕ) (k : TextKind) → b ≢ 35 → b ≢ 44 → KindOf m o c S G b k → Suffix o c S b k
-suffix_of m o c S G b k n35 n44 (inl h) = absurd (n35 h.0.0)
-suffix_of m o c S G b k n35 n44 (inr (x, inl h)) = absurd (n44 h.0.0)
-suffix_of m o c S G b k n35 n44 (inr (x, inr (y, inl h))) = absurd (n44 h.0.0)
-suffix_of m o c S G b k n35 n44 (inr (x, inr (y, inr (z, s)))) = s
+pub suffix_of : (nt : Notation) → (m o c : ℕ) (S : Axis → Bool) (G : Type 0) (b : ℕ) (k : TextKind) → b ≢ 35 → b ≢ 44 → KindOf nt m o c S G b k → Suffix nt o c S b k
+suffix_of nt m o c S G b k n35 n44 (inl h) = absurd (n35 h.0.0)
+suffix_of nt m o c S G b k n35 n44 (inr (x, inl h)) = absurd (n44 h.0.0)
+suffix_of nt m o c S G b k n35 n44 (inr (x, inr (y, inl h))) = absurd (n44 h.0.0)
+suffix_of nt m o c S G b k n35 n44 (inr (x, inr (y, inr (z, s)))) = s
 
-pub front : (f : LineSeen) (S : Axis → Bool) (b : ℕ) (k : TextKind) → b ≢ 35 → ((b ≡ 41) × (f.bracket ≡ 40) × IsTrue (is_digit f.mark) → ⊥) → b ≢ 44 → Suffix f.other f.count S b k → LineKindOf f S b k
-front f S b k n35 n41 n44 s = inr (n35, inr (n41, inr ((λ e. n44 e.0), inr ((λ e. n44 e.0), s))))
+pub front : (nt : Notation) → (f : LineSeen) (S : Axis → Bool) (b : ℕ) (k : TextKind) → b ≢ 35 → ((b ≡ 41) × (f.bracket ≡ 40) × IsTrue (is_digit f.mark) → ⊥) → b ≢ 44 → Suffix nt f.other f.count S b k → LineKindOf nt f S b k
+front nt f S b k n35 n41 n44 s = inr (n35, inr (n41, inr ((λ e. n44 e.0), inr ((λ e. n44 e.0), s))))
 
 abbrev pub tame : Mark → Bool
 tame marks.Comma = false
 tame marks.Hash = false
 tame _ = true
 
-pub tame_at : (b c : ℕ) → b ≡ c → tame (mark b) ≡ true → tame (mark c) ≡ true
-tame_at b c e h = subst (λ x. tame (mark x) ≡ true) e h
+pub tame_at : (nt : Notation) → (b c : ℕ) → b ≡ c → tame (mark nt b) ≡ true → tame (mark nt c) ≡ true
+tame_at nt b c e h = subst (λ x. tame (mark nt x) ≡ true) e h
 
-pub tame35 : (b : ℕ) → tame (mark b) ≡ true → b ≢ 35
-tame35 b h e = apart _ (tame_at b 35 e h) refl
+pub tame35 : (nt : Notation) → (b : ℕ) → tame (mark nt b) ≡ true → b ≢ 35
+tame35 nt b h e = apart _ (tame_at nt b 35 e h) refl
 
-pub tame44 : (b : ℕ) → tame (mark b) ≡ true → b ≢ 44
-tame44 b h e = apart _ (tame_at b 44 e h) refl
+pub tame44 : (nt : Notation) → (b : ℕ) → tame (mark nt b) ≡ true → b ≢ 44
+tame44 nt b h e = apart _ (tame_at nt b 44 e h) refl
 
 abbrev pub NoRow2 : LineSeen → ℕ → Type 0
 NoRow2 f b = (b ≡ 41) × (f.bracket ≡ 40) × IsTrue (is_digit f.mark) → ⊥
 
 -- a byte that says nothing
-pub silent_kind : (f : LineSeen) (S : Axis → Bool) (b : ℕ) (m : Mark) (k : TextKind) → mark b ≡ m → silent m ≡ true → tame m ≡ true → NoRow2 f b → k ≡ kinds.UnknownSign → LineKindOf f S b k
-silent_kind f S b m k e s t n h =
-    let tb : tame (mark b) ≡ true = ap tame e ∙ t in
-    let sb : silent (mark b) ≡ true = ap silent e ∙ s in
-    subst (LineKindOf f S b) (sym h) (front f S b kinds.UnknownSign (tame35 b tb) n (tame44 b tb)
-    (suffix_of f.mark f.other f.count S ⊥ b kinds.UnknownSign (tame35 b tb) (tame44 b tb) (unknown f.mark f.other f.count S ⊥ b sb)))
+pub silent_kind : (nt : Notation) → (f : LineSeen) (S : Axis → Bool) (b : ℕ) (m : Mark) (k : TextKind) → mark nt b ≡ m → silent m ≡ true → tame m ≡ true → NoRow2 f b → k ≡ kinds.UnknownSign → LineKindOf nt f S b k
+silent_kind nt f S b m k e s t n h =
+    let tb : tame (mark nt b) ≡ true = ap tame e ∙ t in
+    let sb : silent (mark nt b) ≡ true = ap silent e ∙ s in
+    subst (LineKindOf nt f S b) (sym h) (front nt f S b kinds.UnknownSign (tame35 nt b tb) n (tame44 nt b tb)
+    (suffix_of nt f.mark f.other f.count S ⊥ b kinds.UnknownSign (tame35 nt b tb) (tame44 nt b tb) (unknown nt f.mark f.other f.count S ⊥ b sb)))
 
 abbrev pub place_stopped : TextKind → Result LinePlace TextKind
 place_stopped k = Err k
@@ -136,21 +138,26 @@ not_fresh m c n (inr h) e x = e h.0
 abbrev pub comma : ℕ
 comma = 44
 
-pub early_rest : (spot : Spot) (g : Seen) (f : LineSeen) (S : Axis → Bool) → SpotAgrees spot g → SameMark f.mark f.commas g.mark →
-    TableRow ((comma ≡ 44) × Fresh f.mark f.commas) kinds.Empty (early_comma spot) (Suffix f.other f.count S 44 (early_comma spot))
-early_rest Begin g f S h m = inl ((refl, is_fresh _ _ _ m h.0), refl)
-early_rest Signed g f S h m = inr ((λ e. not_fresh _ _ _ m h.0 e.1), after_comma S f.other f.count)
-early_rest (Digits n v) g f S h m = inr ((λ e. not_fresh _ _ _ m h.0 e.1), after_comma S f.other f.count)
-early_rest (Divided v) g f S h m = inr ((λ e. not_fresh _ _ _ m h.0 e.1), after_comma S f.other f.count)
-early_rest (Below v d) g f S h m = inr ((λ e. not_fresh _ _ _ m h.0 e.1), after_comma S f.other f.count)
-early_rest Behind g f S h m = inr ((λ e. not_fresh _ _ _ m h.0 e.1), after_comma S f.other f.count)
+pub early_rest : (nt : Notation) → (spot : Spot) (g : Seen) (f : LineSeen) (S : Axis → Bool) → SpotAgrees spot g → SameMark f.mark f.commas g.mark →
+    TableRow ((comma ≡ 44) × Fresh f.mark f.commas) kinds.Empty (early_comma spot) (Suffix nt f.other f.count S 44 (early_comma spot))
+early_rest nt Begin g f S h m = inl ((refl, is_fresh _ _ _ m h.0), refl)
+early_rest nt Signed g f S h m = inr ((λ e. not_fresh _ _ _ m h.0 e.1), after_comma nt S f.other f.count)
+early_rest nt (Digits n v) g f S h m = inr ((λ e. not_fresh _ _ _ m h.0 e.1), after_comma nt S f.other f.count)
+early_rest nt (Divided v) g f S h m = inr ((λ e. not_fresh _ _ _ m h.0 e.1), after_comma nt S f.other f.count)
+early_rest nt (Below v d) g f S h m = inr ((λ e. not_fresh _ _ _ m h.0 e.1), after_comma nt S f.other f.count)
+early_rest nt Behind g f S h m = inr ((λ e. not_fresh _ _ _ m h.0 e.1), after_comma nt S f.other f.count)
 
-pub early_kind : (f : LineSeen) (p : PartReader) (n : Nth) (S : Axis → Bool) → PartKnown f p n → settles p.spot ≡ false → LineKindOf f S 44 (early_comma p.spot)
-early_kind f p n S k e =
-    inr ((λ x. absurd (omega arith)), inr ((λ x. absurd (omega (arith, x.0))), inr ((λ x. apart _ x.2 (k.end ∙ e)), early_rest p.spot k.core f S k.agrees.spot k.follows.mark)))
+pub early_kind : (nt : Notation) → (f : LineSeen) (p : PartReader) (n : Nth) (S : Axis → Bool) → PartKnown f p n → settles p.spot ≡ false → LineKindOf nt f S 44 (early_comma p.spot)
+early_kind nt f p n S k e =
+    inr ((λ x. absurd (omega arith)), inr ((λ x. absurd (omega (arith, x.0))), inr ((λ x. apart _ x.2 (k.end ∙ e)), early_rest nt p.spot k.core f S k.agrees.spot k.follows.mark)))
 
-pub extra_kind : (f : LineSeen) (p : PartReader) (S : Axis → Bool) → PartKnown f p Third → settles p.spot ≡ true → LineKindOf f S 44 kinds.ExtraPart
-extra_kind f p S k e = inr ((λ x. absurd (omega arith)), inr ((λ x. absurd (omega (arith, x.0))), inl ((refl, k.commas, k.end ∙ e), refl)))
+pub extra_kind : (nt : Notation) → (f : LineSeen) (p : PartReader) (n : Nth) (S : Axis → Bool) → PartKnown f p n → commas_within nt ≤ index n → settles p.spot ≡ true → LineKindOf nt f S 44 kinds.ExtraPart
+extra_kind nt f p n S k c e = inr ((λ x. absurd (omega arith)), inr ((λ x. absurd (omega (arith, x.0))), inl ((refl, omega (arith, k.commas, c), k.end ∙ e), refl)))
+
+-- the third part is behind all commas
+all_commas : (nt : Notation) → commas_within nt ≤ 2
+all_commas Triplets = omega arith
+all_commas Pairs = omega arith
 
 -- ---- faults of an operation
 
@@ -158,51 +165,69 @@ pub in_op_err : (r : Result TripletReader TextKind) (k : TextKind) → in_operat
 in_op_err (Ok t) k e = absurd cc
 in_op_err (Err l) k e = ap stopped (sym (stop_is _ k e))
 
-pub op_tame : (m : Mark) (t : TripletReader) (f : LineSeen) (S : Axis → Bool) (b : ℕ) (k : TextKind) → mark b ≡ m → tame m ≡ true → IsMark b m → LineAgrees (places.Operation t) f → ((x : Axis) → S x ≡ uses x f.used) → in_operation (step m t) ≡ place_stopped k → LineKindOf f S b k
-op_tame m t f S b k e a i h s w =
+counted_by : (nt : Notation) (n : Nth) (m : Mark) → tame m ≡ true → IsCounted nt n m
+counted_by Triplets n m h = tt
+counted_by Pairs First m h = tt
+counted_by Pairs Second m h = tt
+counted_by Pairs Third marks.Blank h = tt
+counted_by Pairs Third (marks.Signs s) h = tt
+counted_by Pairs Third (marks.Letter a) h = tt
+counted_by Pairs Third (marks.Digit d) h = tt
+counted_by Pairs Third marks.Slash h = tt
+counted_by Pairs Third marks.Comma h = absurd cc
+counted_by Pairs Third marks.Hash h = tt
+counted_by Pairs Third marks.Open h = tt
+counted_by Pairs Third marks.Close h = tt
+counted_by Pairs Third marks.Other h = tt
+
+pub op_tame : (nt : Notation) → (m : Mark) (t : TripletReader) (f : LineSeen) (S : Axis → Bool) (b : ℕ) (k : TextKind) → mark nt b ≡ m → tame m ≡ true → IsMark nt b m → LineAgrees (places.Operation t) f → ((x : Axis) → S x ≡ uses x f.used) → in_operation (step nt m t) ≡ place_stopped k → LineKindOf nt f S b k
+op_tame nt m t f S b k e a i h s w =
     let c = h.0.core in
     let fol = h.0.follows in
-    let tb : tame (mark b) ≡ true = ap tame e ∙ a in
-    let G : Type 0 = (x : Motion3) × (value t ≡ found x) in
-    let table : Tabled c S G b k = fault_by m t c S G b k e i (λ x. s x ∙ ap (uses x) (fol.used ∙ h.0.agrees.used)) h.0.agrees ((λ x v. (x, v)), (λ v g. let z : found g.0 ≡ no_triplet = sym g.1 ∙ v in cc)) (in_op_err (step m t) k w) in
-    front f S b k (tame35 b tb) (λ x. h.1 x.1) (tame44 b tb)
-    (subst (λ o. Suffix o f.count S b k) (sym fol.other) (subst (λ n. Suffix c.other n S b k) (sym fol.count) (suffix_of c.mark c.other c.count S G b k (tame35 b tb) (tame44 b tb) table)))
+    let tb : tame (mark nt b) ≡ true = ap tame e ∙ a in
+    let G : Type 0 = (x : Motion3) × (value nt t ≡ found x) in
+    let table : Tabled nt c S G b k = fault_by nt m t c S G b k e i (counted_by nt t.nth m a) (λ x. s x ∙ ap (uses x) (fol.used ∙ h.0.agrees.used)) h.0.agrees ((λ x v. (x, v)), (λ v g. let z : found g.0 ≡ no_triplet = sym g.1 ∙ v in cc)) (in_op_err (step nt m t) k w) in
+    front nt f S b k (tame35 nt b tb) (λ x. h.1 x.1) (tame44 nt b tb)
+    (subst (λ o. Suffix nt o f.count S b k) (sym fol.other) (subst (λ n. Suffix nt c.other n S b k) (sym fol.count) (suffix_of nt c.mark c.other c.count S G b k (tame35 nt b tb) (tame44 nt b tb) table)))
 
-pub op_comma_kind : (o : Option PartReader) (n : Nth) (t : TripletReader) (f : LineSeen) (S : Axis → Bool) (k : TextKind) → settled t.part ≡ o → t.nth ≡ n → LineAgrees (places.Operation t) f → in_operation (comma_at o t) ≡ place_stopped k → LineKindOf f S 44 k
-op_comma_kind None n t f S k e i h w = subst (LineKindOf f S 44) (sym (stop_is _ k w)) (early_kind f t.part t.nth S h.0 (settles_none t.part.spot t.part.row t.part.used t.part.sign e))
-op_comma_kind (Some p) First t f S k e i h w = absurd (let z = ap (λ n. in_operation (next_part n t p.row)) (sym i) ∙ w in cc)
-op_comma_kind (Some p) Second t f S k e i h w = absurd (let z = ap (λ n. in_operation (next_part n t p.row)) (sym i) ∙ w in cc)
-op_comma_kind (Some p) Third t f S k e i h w =
-    subst (LineKindOf f S 44) (sym (stop_is _ k (ap (λ n. in_operation (next_part n t p.row)) (sym i) ∙ w)))
-    (extra_kind f t.part S (subst (PartKnown f t.part) i h.0) (settles_some t.part.spot t.part.row t.part.used t.part.sign p e))
+pub op_comma_kind : (nt : Notation) → (o : Option PartReader) (n : Nth) (t : TripletReader) (f : LineSeen) (S : Axis → Bool) (k : TextKind) → settled t.part ≡ o → t.nth ≡ n → LineAgrees (places.Operation t) f → in_operation (comma_at nt o t) ≡ place_stopped k → LineKindOf nt f S 44 k
+op_comma_kind nt None n t f S k e i h w = subst (LineKindOf nt f S 44) (sym (stop_is _ k w)) (early_kind nt f t.part t.nth S h.0 (settles_none t.part.spot t.part.row t.part.used t.part.sign e))
+op_comma_kind nt (Some p) First t f S k e i h w = absurd (let z = ap (λ n. in_operation (next_part nt n t p.row)) (sym i) ∙ w in cc)
+op_comma_kind Triplets (Some p) Second t f S k e i h w = absurd (let z = ap (λ n. in_operation (next_part Triplets n t p.row)) (sym i) ∙ w in cc)
+op_comma_kind Pairs (Some p) Second t f S k e i h w =
+    subst (LineKindOf Pairs f S 44) (sym (stop_is _ k (ap (λ n. in_operation (next_part Pairs n t p.row)) (sym i) ∙ w)))
+    (extra_kind Pairs f t.part Second S (subst (PartKnown f t.part) i h.0) (omega arith) (settles_some t.part.spot t.part.row t.part.used t.part.sign p e))
+op_comma_kind nt (Some p) Third t f S k e i h w =
+    subst (LineKindOf nt f S 44) (sym (stop_is _ k (ap (λ n. in_operation (next_part nt n t p.row)) (sym i) ∙ w)))
+    (extra_kind nt f t.part Third S (subst (PartKnown f t.part) i h.0) (all_commas nt) (settles_some t.part.spot t.part.row t.part.used t.part.sign p e))
 
-pub hash_kind_of : (v : Option Motion3) (f : LineSeen) (S : Axis → Bool) (k : TextKind) → comment_behind v ≡ place_stopped k → LineKindOf f S 35 k
-hash_kind_of None f S k w = inl (refl, stop_is _ k w)
-hash_kind_of (Some t) f S k w = absurd cc
+pub hash_kind_of : (nt : Notation) → (v : Option Motion3) (f : LineSeen) (S : Axis → Bool) (k : TextKind) → comment_behind v ≡ place_stopped k → LineKindOf nt f S 35 k
+hash_kind_of nt None f S k w = inl (refl, stop_is _ k w)
+hash_kind_of nt (Some t) f S k w = absurd cc
 
-pub op_kind : (m : Mark) (t : TripletReader) (f : LineSeen) (S : Axis → Bool) (b : ℕ) (k : TextKind) → mark b ≡ m → IsMark b m → LineAgrees (places.Operation t) f → ((x : Axis) → S x ≡ uses x f.used) → operation_step m t ≡ place_stopped k → LineKindOf f S b k
-op_kind marks.Comma t f S b k e i h s w = subst (λ x. LineKindOf f S x k) (sym i) (op_comma_kind (settled t.part) t.nth t f S k refl refl h w)
-op_kind marks.Hash t f S b k e i h s w = subst (λ x. LineKindOf f S x k) (sym i) (hash_kind_of (value t) f S k w)
-op_kind marks.Blank t f S b k e i h s w = op_tame marks.Blank t f S b k e refl i h s w
-op_kind (marks.Signs g) t f S b k e i h s w = op_tame (marks.Signs g) t f S b k e refl i h s w
-op_kind (marks.Letter a) t f S b k e i h s w = op_tame (marks.Letter a) t f S b k e refl i h s w
-op_kind (marks.Digit n) t f S b k e i h s w = op_tame (marks.Digit n) t f S b k e refl i h s w
-op_kind marks.Slash t f S b k e i h s w = op_tame marks.Slash t f S b k e refl i h s w
-op_kind marks.Open t f S b k e i h s w = op_tame marks.Open t f S b k e refl i h s w
-op_kind marks.Close t f S b k e i h s w = op_tame marks.Close t f S b k e refl i h s w
-op_kind marks.Other t f S b k e i h s w = op_tame marks.Other t f S b k e refl i h s w
+pub op_kind : (nt : Notation) → (m : Mark) (t : TripletReader) (f : LineSeen) (S : Axis → Bool) (b : ℕ) (k : TextKind) → mark nt b ≡ m → IsMark nt b m → LineAgrees (places.Operation t) f → ((x : Axis) → S x ≡ uses x f.used) → operation_step nt m t ≡ place_stopped k → LineKindOf nt f S b k
+op_kind nt marks.Comma t f S b k e i h s w = subst (λ x. LineKindOf nt f S x k) (sym i) (op_comma_kind nt (settled t.part) t.nth t f S k refl refl h w)
+op_kind nt marks.Hash t f S b k e i h s w = subst (λ x. LineKindOf nt f S x k) (sym i) (hash_kind_of nt (value nt t) f S k w)
+op_kind nt marks.Blank t f S b k e i h s w = op_tame nt marks.Blank t f S b k e refl i h s w
+op_kind nt (marks.Signs g) t f S b k e i h s w = op_tame nt (marks.Signs g) t f S b k e refl i h s w
+op_kind nt (marks.Letter a) t f S b k e i h s w = op_tame nt (marks.Letter a) t f S b k e refl i h s w
+op_kind nt (marks.Digit n) t f S b k e i h s w = op_tame nt (marks.Digit n) t f S b k e refl i h s w
+op_kind nt marks.Slash t f S b k e i h s w = op_tame nt marks.Slash t f S b k e refl i h s w
+op_kind nt marks.Open t f S b k e i h s w = op_tame nt marks.Open t f S b k e refl i h s w
+op_kind nt marks.Close t f S b k e i h s w = op_tame nt marks.Close t f S b k e refl i h s w
+op_kind nt marks.Other t f S b k e i h s w = op_tame nt marks.Other t f S b k e refl i h s w
 
-pub start_kind : (m : Mark) (f : LineSeen) (S : Axis → Bool) (b : ℕ) (k : TextKind) → mark b ≡ m → IsMark b m → LineAgrees places.Start f → ((x : Axis) → S x ≡ uses x f.used) → start_step m ≡ place_stopped k → LineKindOf f S b k
-start_kind marks.Blank f S b k e i h s w = not_stopped _ k w
-start_kind marks.Open f S b k e i h s w = not_stopped _ k w
-start_kind marks.Hash f S b k e i h s w = not_stopped _ k w
-start_kind marks.Comma f S b k e i h s w = op_kind marks.Comma start f S b k e i h s w
-start_kind (marks.Signs g) f S b k e i h s w = op_kind (marks.Signs g) start f S b k e i h s w
-start_kind (marks.Letter a) f S b k e i h s w = op_kind (marks.Letter a) start f S b k e i h s w
-start_kind (marks.Digit n) f S b k e i h s w = op_kind (marks.Digit n) start f S b k e i h s w
-start_kind marks.Slash f S b k e i h s w = op_kind marks.Slash start f S b k e i h s w
-start_kind marks.Close f S b k e i h s w = op_kind marks.Close start f S b k e i h s w
-start_kind marks.Other f S b k e i h s w = op_kind marks.Other start f S b k e i h s w
+pub start_kind : (nt : Notation) → (m : Mark) (f : LineSeen) (S : Axis → Bool) (b : ℕ) (k : TextKind) → mark nt b ≡ m → IsMark nt b m → LineAgrees places.Start f → ((x : Axis) → S x ≡ uses x f.used) → start_step nt m ≡ place_stopped k → LineKindOf nt f S b k
+start_kind nt marks.Blank f S b k e i h s w = not_stopped _ k w
+start_kind nt marks.Open f S b k e i h s w = not_stopped _ k w
+start_kind nt marks.Hash f S b k e i h s w = not_stopped _ k w
+start_kind nt marks.Comma f S b k e i h s w = op_kind nt marks.Comma start f S b k e i h s w
+start_kind nt (marks.Signs g) f S b k e i h s w = op_kind nt (marks.Signs g) start f S b k e i h s w
+start_kind nt (marks.Letter a) f S b k e i h s w = op_kind nt (marks.Letter a) start f S b k e i h s w
+start_kind nt (marks.Digit n) f S b k e i h s w = op_kind nt (marks.Digit n) start f S b k e i h s w
+start_kind nt marks.Slash f S b k e i h s w = op_kind nt marks.Slash start f S b k e i h s w
+start_kind nt marks.Close f S b k e i h s w = op_kind nt marks.Close start f S b k e i h s w
+start_kind nt marks.Other f S b k e i h s w = op_kind nt marks.Other start f S b k e i h s w
 
 -- ---- faults of a vector
 
@@ -214,22 +239,22 @@ no_used f S x s u = s x ∙ (ap (uses x) u ∙ none x)
     none Y = refl
     none Z = refl
 
-pub letter_rows : (spot : Spot) (g : Seen) (f : LineSeen) (a : Axis) (c : Bool) (k : TextKind) → SpotAgrees spot g → f.count ≡ g.count → k ≡ behind_number spot →
-    TableRow (IsLetter (letter_byte a c) × (1 ≤ f.count)) kinds.Coefficient k (TableRow (IsTrue (is_digit (letter_byte a c)) × (f.other ≡ 47)) kinds.Denominator k (TableRow (IsTrue (is_digit (letter_byte a c)) × (3 ≤ f.count)) kinds.Coefficient k (k ≡ kinds.UnknownSign)))
-letter_rows Begin g f a c k h n e = inr ((λ x. omega (arith, x.1, h.1, n)), inr ((λ x. apart _ x.0 (letter_bounds a c).3), inr ((λ x. apart _ x.0 (letter_bounds a c).3), e)))
-letter_rows Signed g f a c k h n e = inr ((λ x. omega (arith, x.1, h.1, n)), inr ((λ x. apart _ x.0 (letter_bounds a c).3), inr ((λ x. apart _ x.0 (letter_bounds a c).3), e)))
-letter_rows (Digits m v) g f a c k h n e = inl (((a, letter_self a c), omega (arith, h.1, h.3, n)), e)
-letter_rows (Divided v) g f a c k h n e = inr ((λ x. omega (arith, x.1, h.1, n)), inr ((λ x. apart _ x.0 (letter_bounds a c).3), inr ((λ x. apart _ x.0 (letter_bounds a c).3), e)))
-letter_rows (Below v d) g f a c k h n e = inl (((a, letter_self a c), omega (arith, h.1, n)), e)
-letter_rows Behind g f a c k h n e = inr ((λ x. omega (arith, x.1, h.1, n)), inr ((λ x. apart _ x.0 (letter_bounds a c).3), inr ((λ x. apart _ x.0 (letter_bounds a c).3), e)))
+pub letter_rows : (nt : Notation) → (spot : Spot) (g : Seen) (f : LineSeen) (a : Axis) (c : Bool) (k : TextKind) → has_axis nt a ≡ true → SpotAgrees spot g → f.count ≡ g.count → k ≡ behind_number spot →
+    TableRow (IsLetter nt (letter_byte a c) × (1 ≤ f.count)) kinds.Coefficient k (TableRow (IsTrue (is_digit (letter_byte a c)) × (f.other ≡ 47)) kinds.Denominator k (TableRow (IsTrue (is_digit (letter_byte a c)) × (3 ≤ f.count)) kinds.Coefficient k (k ≡ kinds.UnknownSign)))
+letter_rows nt Begin g f a c k axis h n e = inr ((λ x. omega (arith, x.1, h.1, n)), inr ((λ x. apart _ x.0 (letter_bounds a c).3), inr ((λ x. apart _ x.0 (letter_bounds a c).3), e)))
+letter_rows nt Signed g f a c k axis h n e = inr ((λ x. omega (arith, x.1, h.1, n)), inr ((λ x. apart _ x.0 (letter_bounds a c).3), inr ((λ x. apart _ x.0 (letter_bounds a c).3), e)))
+letter_rows nt (Digits m v) g f a c k axis h n e = inl (((a, letter_self a c, axis), omega (arith, h.1, h.3, n)), e)
+letter_rows nt (Divided v) g f a c k axis h n e = inr ((λ x. omega (arith, x.1, h.1, n)), inr ((λ x. apart _ x.0 (letter_bounds a c).3), inr ((λ x. apart _ x.0 (letter_bounds a c).3), e)))
+letter_rows nt (Below v d) g f a c k axis h n e = inl (((a, letter_self a c, axis), omega (arith, h.1, n)), e)
+letter_rows nt Behind g f a c k axis h n e = inr ((λ x. omega (arith, x.1, h.1, n)), inr ((λ x. apart _ x.0 (letter_bounds a c).3), inr ((λ x. apart _ x.0 (letter_bounds a c).3), e)))
 
 pub in_coordinate_err : (l : Bool) (v : VectorReader) (r : Result PartReader TextKind) (k : TextKind) → in_coordinate l v r ≡ place_stopped k → r ≡ part_stopped k
 in_coordinate_err l v (Ok p) k e = absurd cc
 in_coordinate_err l v (Err x) k e = ap part_stopped (sym (stop_is _ k e))
 
-pub letter_kind : (spot : Spot) (g : Seen) (f : LineSeen) (S : Axis → Bool) (a : Axis) (c : Bool) (k : TextKind) → SpotAgrees spot g → f.count ≡ g.count → ((x : Axis) → S x ≡ false) → k ≡ behind_number spot → LineKindOf f S (letter_byte a c) k
-letter_kind spot g f S a c k h n s e =
-    front f S (letter_byte a c) k (letter_bounds a c).2 (λ x. not_41 a c x.0) (letter_bounds a c).0 (inr ((λ x. apart _ x.2 (s x.0)), letter_rows spot g f a c k h n e))
+pub letter_kind : (nt : Notation) → (spot : Spot) (g : Seen) (f : LineSeen) (S : Axis → Bool) (a : Axis) (c : Bool) (k : TextKind) → has_axis nt a ≡ true → SpotAgrees spot g → f.count ≡ g.count → ((x : Axis) → S x ≡ false) → k ≡ behind_number spot → LineKindOf nt f S (letter_byte a c) k
+letter_kind nt spot g f S a c k axis h n s e =
+    front nt f S (letter_byte a c) k (letter_bounds a c).2 (λ x. not_41 a c x.0) (letter_bounds a c).0 (inr ((λ x. apart _ x.3 (s x.0)), letter_rows nt spot g f a c k axis h n e))
   where
     not_41 : (a : Axis) (c : Bool) → letter_byte a c ≢ 41
     not_41 X false e = omega arith
@@ -247,92 +272,97 @@ vec_sign_kind (Divided x) s v k w = stop_is _ k w
 vec_sign_kind (Below x d) s v k w = stop_is _ k w
 vec_sign_kind Behind s v k w = stop_is _ k w
 
-pub vec_comma_kind : (o : Option PartReader) (n : Nth) (v : VectorReader) (f : LineSeen) (S : Axis → Bool) (k : TextKind) → settled v.part ≡ o → v.nth ≡ n → LineAgrees (places.Coordinates v) f → coordinate_comma o v ≡ place_stopped k → LineKindOf f S 44 k
-vec_comma_kind None n v f S k e i h w = subst (LineKindOf f S 44) (sym (stop_is _ k w)) (early_kind f v.part v.nth S h.0 (settles_none v.part.spot v.part.row v.part.used v.part.sign e))
-vec_comma_kind (Some p) First v f S k e i h w = absurd (let z = ap (λ n. next_coordinate n v p.row.shift) (sym i) ∙ w in cc)
-vec_comma_kind (Some p) Second v f S k e i h w = absurd (let z = ap (λ n. next_coordinate n v p.row.shift) (sym i) ∙ w in cc)
-vec_comma_kind (Some p) Third v f S k e i h w =
-    subst (LineKindOf f S 44) (sym (stop_is _ k (ap (λ n. next_coordinate n v p.row.shift) (sym i) ∙ w)))
-    (extra_kind f v.part S (subst (PartKnown f v.part) i h.0) (settles_some v.part.spot v.part.row v.part.used v.part.sign p e))
+pub vec_comma_kind : (nt : Notation) → (o : Option PartReader) (n : Nth) (v : VectorReader) (f : LineSeen) (S : Axis → Bool) (k : TextKind) → settled v.part ≡ o → v.nth ≡ n → LineAgrees (places.Coordinates v) f → coordinate_comma nt o v ≡ place_stopped k → LineKindOf nt f S 44 k
+vec_comma_kind nt None n v f S k e i h w = subst (LineKindOf nt f S 44) (sym (stop_is _ k w)) (early_kind nt f v.part v.nth S h.0 (settles_none v.part.spot v.part.row v.part.used v.part.sign e))
+vec_comma_kind nt (Some p) First v f S k e i h w = absurd (let z = ap (λ n. next_coordinate nt n v p.row.shift) (sym i) ∙ w in cc)
+vec_comma_kind Triplets (Some p) Second v f S k e i h w = absurd (let z = ap (λ n. next_coordinate Triplets n v p.row.shift) (sym i) ∙ w in cc)
+vec_comma_kind Pairs (Some p) Second v f S k e i h w =
+    subst (LineKindOf Pairs f S 44) (sym (stop_is _ k (ap (λ n. next_coordinate Pairs n v p.row.shift) (sym i) ∙ w)))
+    (extra_kind Pairs f v.part Second S (subst (PartKnown f v.part) i h.0) (omega arith) (settles_some v.part.spot v.part.row v.part.used v.part.sign p e))
+vec_comma_kind nt (Some p) Third v f S k e i h w =
+    subst (LineKindOf nt f S 44) (sym (stop_is _ k (ap (λ n. next_coordinate nt n v p.row.shift) (sym i) ∙ w)))
+    (extra_kind nt f v.part Third S (subst (PartKnown f v.part) i h.0) (all_commas nt) (settles_some v.part.spot v.part.row v.part.used v.part.sign p e))
 
 -- a bracket where no coordinate is whole, and where too few are
-pub close_unknown : (f : LineSeen) (S : Axis → Bool) (k : TextKind) → is_digit f.mark ≡ false → k ≡ kinds.UnknownSign → LineKindOf f S 41 k
-close_unknown f S k d e = silent_kind f S 41 marks.Close k refl refl refl (λ x. apart _ x.2 d) e
+pub close_unknown : (nt : Notation) → (f : LineSeen) (S : Axis → Bool) (k : TextKind) → is_digit f.mark ≡ false → k ≡ kinds.UnknownSign → LineKindOf nt f S 41 k
+close_unknown nt f S k d e = silent_kind nt f S 41 marks.Close k refl refl refl (λ x. apart _ x.2 d) e
 
-pub close_missing : (f : LineSeen) (S : Axis → Bool) (k : TextKind) → f.bracket ≡ 40 → is_digit f.mark ≡ true → k ≡ kinds.MissingPart → LineKindOf f S 41 k
-close_missing f S k b d e = inr ((λ x. absurd (omega arith)), inl ((refl, b, d), e))
+pub close_missing : (nt : Notation) → (f : LineSeen) (S : Axis → Bool) (k : TextKind) → f.bracket ≡ 40 → is_digit f.mark ≡ true → k ≡ kinds.MissingPart → LineKindOf nt f S 41 k
+close_missing nt f S k b d e = inr ((λ x. absurd (omega arith)), inl ((refl, b, d), e))
 
-pub vec_close_kind : (n : Nth) (o : Option PartReader) (v : VectorReader) (f : LineSeen) (S : Axis → Bool) (k : TextKind) → settled v.part ≡ o → LineAgrees (places.Coordinates v) f → closed_at n o v ≡ place_stopped k → LineKindOf f S 41 k
-vec_close_kind First None v f S k e h w = close_unknown f S k (h.2 ∙ settles_none v.part.spot v.part.row v.part.used v.part.sign e) (stop_is _ k w)
-vec_close_kind Second None v f S k e h w = close_unknown f S k (h.2 ∙ settles_none v.part.spot v.part.row v.part.used v.part.sign e) (stop_is _ k w)
-vec_close_kind Third None v f S k e h w = close_unknown f S k (h.2 ∙ settles_none v.part.spot v.part.row v.part.used v.part.sign e) (stop_is _ k w)
-vec_close_kind First (Some p) v f S k e h w = close_missing f S k h.1 (h.2 ∙ settles_some v.part.spot v.part.row v.part.used v.part.sign p e) (stop_is _ k w)
-vec_close_kind Second (Some p) v f S k e h w = close_missing f S k h.1 (h.2 ∙ settles_some v.part.spot v.part.row v.part.used v.part.sign p e) (stop_is _ k w)
-vec_close_kind Third (Some p) v f S k e h w = not_stopped _ k w
+pub vec_close_kind : (nt : Notation) → (n : Nth) (o : Option PartReader) (v : VectorReader) (f : LineSeen) (S : Axis → Bool) (k : TextKind) → settled v.part ≡ o → LineAgrees (places.Coordinates v) f → closed_at nt n o v ≡ place_stopped k → LineKindOf nt f S 41 k
+vec_close_kind nt First None v f S k e h w = close_unknown nt f S k (h.2 ∙ settles_none v.part.spot v.part.row v.part.used v.part.sign e) (stop_is _ k w)
+vec_close_kind nt Second None v f S k e h w = close_unknown nt f S k (h.2 ∙ settles_none v.part.spot v.part.row v.part.used v.part.sign e) (stop_is _ k w)
+vec_close_kind nt Third None v f S k e h w = close_unknown nt f S k (h.2 ∙ settles_none v.part.spot v.part.row v.part.used v.part.sign e) (stop_is _ k w)
+vec_close_kind nt First (Some p) v f S k e h w = close_missing nt f S k h.1 (h.2 ∙ settles_some v.part.spot v.part.row v.part.used v.part.sign p e) (stop_is _ k w)
+vec_close_kind Triplets Second (Some p) v f S k e h w = close_missing Triplets f S k h.1 (h.2 ∙ settles_some v.part.spot v.part.row v.part.used v.part.sign p e) (stop_is _ k w)
+vec_close_kind Pairs Second (Some p) v f S k e h w = not_stopped _ k w
+vec_close_kind Triplets Third (Some p) v f S k e h w = not_stopped _ k w
+vec_close_kind Pairs Third (Some p) v f S k e h w = close_missing Pairs f S k h.1 (h.2 ∙ settles_some v.part.spot v.part.row v.part.used v.part.sign p e) (stop_is _ k w)
 
-pub vec_close_by : (t : Bool) (v : VectorReader) (f : LineSeen) (S : Axis → Bool) (k : TextKind) → LineAgrees (places.Coordinates v) f → cond t (placed (places.Operation start)) (closed_at v.nth (settled v.part) v) ≡ place_stopped k → LineKindOf f S 41 k
-vec_close_by true v f S k h w = not_stopped _ k w
-vec_close_by false v f S k h w = vec_close_kind v.nth (settled v.part) v f S k refl h w
+pub vec_close_by : (nt : Notation) → (t : Bool) (v : VectorReader) (f : LineSeen) (S : Axis → Bool) (k : TextKind) → LineAgrees (places.Coordinates v) f → cond t (placed (places.Operation start)) (closed_at nt v.nth (settled v.part) v) ≡ place_stopped k → LineKindOf nt f S 41 k
+vec_close_by nt true v f S k h w = not_stopped _ k w
+vec_close_by nt false v f S k h w = vec_close_kind nt v.nth (settled v.part) v f S k refl h w
 
 pub not_41_digit : (d : Digit) → d.byte ≢ 41
 not_41_digit d e = omega (arith, d.low)
 
-pub vec_kind : (m : Mark) (v : VectorReader) (f : LineSeen) (S : Axis → Bool) (b : ℕ) (k : TextKind) → mark b ≡ m → IsMark b m → LineAgrees (places.Coordinates v) f → ((x : Axis) → S x ≡ uses x f.used) → vector_step m v ≡ place_stopped k → LineKindOf f S b k
-vec_kind (marks.Letter a) v f S b k e i h s w =
-    subst (λ x. LineKindOf f S x k) (sym i.1) (letter_kind v.part.spot h.0.core f S a i.0 k h.0.agrees.spot h.0.follows.count (λ x. no_used f S x s h.3) (stop_is _ k w))
-vec_kind (marks.Signs g) v f S b k e i h s w = silent_kind f S b (marks.Signs g) k e refl refl (λ x. sign_41 g (sym i ∙ x.0)) (vec_sign_kind v.part.spot g v k w)
+pub vec_kind : (nt : Notation) → (m : Mark) (v : VectorReader) (f : LineSeen) (S : Axis → Bool) (b : ℕ) (k : TextKind) → mark nt b ≡ m → IsMark nt b m → LineAgrees (places.Coordinates v) f → ((x : Axis) → S x ≡ uses x f.used) → vector_step nt m v ≡ place_stopped k → LineKindOf nt f S b k
+vec_kind nt (marks.Letter a) v f S b k e i h s w =
+    subst (λ x. LineKindOf nt f S x k) (sym i.1) (letter_kind nt v.part.spot h.0.core f S a i.0 k i.2 h.0.agrees.spot h.0.follows.count (λ x. no_used f S x s h.3) (stop_is _ k w))
+vec_kind nt (marks.Signs g) v f S b k e i h s w = silent_kind nt f S b (marks.Signs g) k e refl refl (λ x. sign_41 g (sym i ∙ x.0)) (vec_sign_kind v.part.spot g v k w)
   where
     sign_41 : (g : Sign) → sign_byte g ≢ 41
     sign_41 Plus e = omega arith
     sign_41 Minus e = omega arith
-vec_kind marks.Comma v f S b k e i h s w = subst (λ x. LineKindOf f S x k) (sym i) (vec_comma_kind (settled v.part) v.nth v f S k refl refl h w)
-vec_kind marks.Close v f S b k e i h s w = subst (λ x. LineKindOf f S x k) (sym i) (vec_close_by (v.label && is_digits v.part.spot) v f S k h w)
-vec_kind (marks.Digit n) v f S b k e i h s w =
+vec_kind nt marks.Comma v f S b k e i h s w = subst (λ x. LineKindOf nt f S x k) (sym i) (vec_comma_kind nt (settled v.part) v.nth v f S k refl refl h w)
+vec_kind nt marks.Close v f S b k e i h s w = subst (λ x. LineKindOf nt f S x k) (sym i) (vec_close_by nt (v.label && is_digits v.part.spot) v f S k h w)
+vec_kind nt (marks.Digit n) v f S b k e i h s w =
     let c = h.0.core in
     let fol = h.0.follows in
     let d = i.0 in
     let n35 : d.byte ≢ 35 = λ z. omega (arith, d.low) in
     let n44 : d.byte ≢ 44 = λ z. omega (arith, d.low) in
-    let table : Tabled c S ⊥ d.byte k = digit_fault v.part.spot v.part.row v.part.used v.part.sign c S ⊥ d k h.0.agrees.spot (subst (λ x. on_digit x v.part ≡ part_stopped k) i.2 (in_coordinate_err v.label v (part_step (marks.Digit n) v.part) k w)) in
-    subst (λ x. LineKindOf f S x k) (sym i.1) (front f S d.byte k n35 (λ x. not_41_digit d x.0) n44
-    (subst (λ o. Suffix o f.count S d.byte k) (sym fol.other) (subst (λ x. Suffix c.other x S d.byte k) (sym fol.count) (suffix_of c.mark c.other c.count S ⊥ d.byte k n35 n44 table))))
-vec_kind marks.Blank v f S b k e i h s w = silent_kind f S b marks.Blank k e refl refl (λ x. blank_41 i.0 (sym i.1 ∙ x.0)) (blank_fault v.part.spot v.part.row v.part.used v.part.sign k (in_coordinate_err false v (part_step marks.Blank v.part) k w))
+    let table : Tabled nt c S ⊥ d.byte k = digit_fault nt v.part.spot v.part.row v.part.used v.part.sign c S ⊥ d k h.0.agrees.spot (subst (λ x. on_digit x v.part ≡ part_stopped k) i.2 (in_coordinate_err v.label v (part_step (marks.Digit n) v.part) k w)) in
+    subst (λ x. LineKindOf nt f S x k) (sym i.1) (front nt f S d.byte k n35 (λ x. not_41_digit d x.0) n44
+    (subst (λ o. Suffix nt o f.count S d.byte k) (sym fol.other) (subst (λ x. Suffix nt c.other x S d.byte k) (sym fol.count) (suffix_of nt c.mark c.other c.count S ⊥ d.byte k n35 n44 table))))
+vec_kind nt marks.Blank v f S b k e i h s w = silent_kind nt f S b marks.Blank k e refl refl (λ x. blank_41 i.0 (sym i.1 ∙ x.0)) (blank_fault v.part.spot v.part.row v.part.used v.part.sign k (in_coordinate_err false v (part_step marks.Blank v.part) k w))
   where
     blank_41 : (g : Blank) → blank_byte g ≢ 41
     blank_41 space e = omega arith
     blank_41 tab e = omega arith
     blank_41 carriage_return e = omega arith
-vec_kind marks.Slash v f S b k e i h s w = silent_kind f S b marks.Slash k e refl refl (λ x. absurd (omega (arith, i, x.0))) (slash_fault v.part.spot v.part.row v.part.used v.part.sign k (in_coordinate_err false v (part_step marks.Slash v.part) k w))
-vec_kind marks.Hash v f S b k e i h s w = inl (i, stop_is _ k w)
-vec_kind marks.Open v f S b k e i h s w = silent_kind f S b marks.Open k e refl refl (λ x. absurd (omega (arith, i, x.0))) (stop_is _ k w)
-vec_kind marks.Other v f S b k e i h s w = silent_kind f S b marks.Other k e refl refl (λ x. let z : mark 41 ≡ marks.Other = subst (λ y. mark y ≡ marks.Other) x.0 e in cc) (stop_is _ k w)
+vec_kind nt marks.Slash v f S b k e i h s w = silent_kind nt f S b marks.Slash k e refl refl (λ x. absurd (omega (arith, i, x.0))) (slash_fault v.part.spot v.part.row v.part.used v.part.sign k (in_coordinate_err false v (part_step marks.Slash v.part) k w))
+vec_kind nt marks.Hash v f S b k e i h s w = inl (i, stop_is _ k w)
+vec_kind nt marks.Open v f S b k e i h s w = silent_kind nt f S b marks.Open k e refl refl (λ x. absurd (omega (arith, i, x.0))) (stop_is _ k w)
+vec_kind nt marks.Other v f S b k e i h s w = silent_kind nt f S b marks.Other k e refl refl (λ x. let z : mark nt 41 ≡ marks.Other = subst (λ y. mark nt y ≡ marks.Other) x.0 e in cc) (stop_is _ k w)
 
 -- ---- faults between vectors
 
-pub between_digit : (f : LineSeen) (S : Axis → Bool) (d : Digit) (k : TextKind) → Between f → k ≡ kinds.UnknownSign → LineKindOf f S d.byte k
-between_digit f S d k h e =
-    front f S d.byte k (λ z. omega (arith, d.low)) (λ x. not_41_digit d x.0) (λ z. omega (arith, d.low))
+pub between_digit : (nt : Notation) → (f : LineSeen) (S : Axis → Bool) (d : Digit) (k : TextKind) → Between f → k ≡ kinds.UnknownSign → LineKindOf nt f S d.byte k
+between_digit nt f S d k h e =
+    front nt f S d.byte k (λ z. omega (arith, d.low)) (λ x. not_41_digit d x.0) (λ z. omega (arith, d.low))
     (inr ((λ x. apart _ x.1 (digit_not_letter x.0 d)), inr ((λ x. apart _ x.0.1 (digit_not_letter x.0.0 d)), inr ((λ x. h.other x.1), inr ((λ x. omega (arith, x.1, h.count)), e)))))
 
-pub between_letter : (f : LineSeen) (S : Axis → Bool) (a : Axis) (c : Bool) (k : TextKind) → Between f → ((x : Axis) → S x ≡ uses x f.used) → k ≡ kinds.UnknownSign → LineKindOf f S (letter_byte a c) k
-between_letter f S a c k h s e = letter_kind Signed (smade 0 0 0 unused) f S a c k ((λ z. omega arith), refl, λ z. omega arith) h.count (λ x. no_used f S x s h.used) e
+pub between_letter : (nt : Notation) → (f : LineSeen) (S : Axis → Bool) (a : Axis) (c : Bool) (k : TextKind) → has_axis nt a ≡ true → Between f → ((x : Axis) → S x ≡ uses x f.used) → k ≡ kinds.UnknownSign → LineKindOf nt f S (letter_byte a c) k
+between_letter nt f S a c k axis h s e = letter_kind nt Signed (smade 0 0 0 unused) f S a c k axis ((λ z. omega arith), refl, λ z. omega arith) h.count (λ x. no_used f S x s h.used) e
 
-pub between_comma : (f : LineSeen) (S : Axis → Bool) (k : TextKind) → is_end_of_part f.mark ≡ false → (Fresh f.mark f.commas → ⊥) → k ≡ kinds.UnknownSign → LineKindOf f S 44 k
-between_comma f S k n r e = subst (LineKindOf f S 44) (sym e) (inr ((λ x. absurd (omega arith)), inr ((λ x. absurd (omega (arith, x.0))), inr ((λ x. apart _ x.2 n), inr ((λ x. r x.1), after_comma S f.other f.count)))))
+pub between_comma : (nt : Notation) → (f : LineSeen) (S : Axis → Bool) (k : TextKind) → is_end_of_part f.mark ≡ false → (Fresh f.mark f.commas → ⊥) → k ≡ kinds.UnknownSign → LineKindOf nt f S 44 k
+between_comma nt f S k n r e = subst (LineKindOf nt f S 44) (sym e) (inr ((λ x. absurd (omega arith)), inr ((λ x. absurd (omega (arith, x.0))), inr ((λ x. apart _ x.2 n), inr ((λ x. r x.1), after_comma nt S f.other f.count)))))
 
-pub between_kind : (m : Mark) (f : LineSeen) (S : Axis → Bool) (b : ℕ) (k : TextKind) → mark b ≡ m → IsMark b m → Between f → is_end_of_part f.mark ≡ false → (Fresh f.mark f.commas → ⊥) → ((x : Axis) → S x ≡ uses x f.used) → (m ≡ marks.Hash → ⊥) → k ≡ kinds.UnknownSign → LineKindOf f S b k
-between_kind (marks.Letter a) f S b k e i h n r s o w = subst (λ x. LineKindOf f S x k) (sym i.1) (between_letter f S a i.0 k h s w)
-between_kind (marks.Digit d) f S b k e i h n r s o w = subst (λ x. LineKindOf f S x k) (sym i.1) (between_digit f S i.0 k h w)
-between_kind marks.Comma f S b k e i h n r s o w = subst (λ x. LineKindOf f S x k) (sym i) (between_comma f S k n r w)
-between_kind marks.Hash f S b k e i h n r s o w = absurd (o refl)
-between_kind marks.Blank f S b k e i h n r s o w = silent_kind f S b marks.Blank k e refl refl (λ x. h.bracket x.1) w
-between_kind (marks.Signs g) f S b k e i h n r s o w = silent_kind f S b (marks.Signs g) k e refl refl (λ x. h.bracket x.1) w
-between_kind marks.Slash f S b k e i h n r s o w = silent_kind f S b marks.Slash k e refl refl (λ x. h.bracket x.1) w
-between_kind marks.Open f S b k e i h n r s o w = silent_kind f S b marks.Open k e refl refl (λ x. h.bracket x.1) w
-between_kind marks.Close f S b k e i h n r s o w = silent_kind f S b marks.Close k e refl refl (λ x. h.bracket x.1) w
-between_kind marks.Other f S b k e i h n r s o w = silent_kind f S b marks.Other k e refl refl (λ x. h.bracket x.1) w
+pub between_kind : (nt : Notation) → (m : Mark) (f : LineSeen) (S : Axis → Bool) (b : ℕ) (k : TextKind) → mark nt b ≡ m → IsMark nt b m → Between f → is_end_of_part f.mark ≡ false → (Fresh f.mark f.commas → ⊥) → ((x : Axis) → S x ≡ uses x f.used) → (m ≡ marks.Hash → ⊥) → k ≡ kinds.UnknownSign → LineKindOf nt f S b k
+between_kind nt (marks.Letter a) f S b k e i h n r s o w = subst (λ x. LineKindOf nt f S x k) (sym i.1) (between_letter nt f S a i.0 k i.2 h s w)
+between_kind nt (marks.Digit d) f S b k e i h n r s o w = subst (λ x. LineKindOf nt f S x k) (sym i.1) (between_digit nt f S i.0 k h w)
+between_kind nt marks.Comma f S b k e i h n r s o w = subst (λ x. LineKindOf nt f S x k) (sym i) (between_comma nt f S k n r w)
+between_kind nt marks.Hash f S b k e i h n r s o w = absurd (o refl)
+between_kind nt marks.Blank f S b k e i h n r s o w = silent_kind nt f S b marks.Blank k e refl refl (λ x. h.bracket x.1) w
+between_kind nt (marks.Signs g) f S b k e i h n r s o w = silent_kind nt f S b (marks.Signs g) k e refl refl (λ x. h.bracket x.1) w
+between_kind nt marks.Slash f S b k e i h n r s o w = silent_kind nt f S b marks.Slash k e refl refl (λ x. h.bracket x.1) w
+between_kind nt marks.Open f S b k e i h n r s o w = silent_kind nt f S b marks.Open k e refl refl (λ x. h.bracket x.1) w
+between_kind nt marks.Close f S b k e i h n r s o w = silent_kind nt f S b marks.Close k e refl refl (λ x. h.bracket x.1) w
+between_kind nt marks.Other f S b k e i h n r s o w = silent_kind nt f S b marks.Other k e refl refl (λ x. h.bracket x.1) w
 
-pub not_fresh_41 : (m n : ℕ) → m ≡ 41 → n ≡ 2 → Fresh m n → ⊥
+pub not_fresh_41 : (m n : ℕ) → m ≡ 41 → 1 ≤ n → Fresh m n → ⊥
 not_fresh_41 m n e c (inl x) = omega (arith, e, x)
 not_fresh_41 m n e c (inr (inl x)) = omega (arith, e, x)
 not_fresh_41 m n e c (inr (inr x)) = omega (arith, c, x.1)
@@ -342,41 +372,41 @@ not_fresh_43 m n e (inl x) = omega (arith, e, x)
 not_fresh_43 m n e (inr (inl x)) = omega (arith, e, x)
 not_fresh_43 m n e (inr (inr x)) = omega (arith, e, x.0)
 
-pub shut_kind : (m : Mark) (v : List Part) (f : LineSeen) (S : Axis → Bool) (b : ℕ) (k : TextKind) → mark b ≡ m → IsMark b m → LineAgrees (places.Closed v) f → ((x : Axis) → S x ≡ uses x f.used) → closed_step m v ≡ place_stopped k → LineKindOf f S b k
-shut_kind m v f S b k e i h s w = by_mark m v f S b k e i h s w (ap is_end_of_part h.2) (not_fresh_41 f.mark f.commas h.2 h.1)
+pub shut_kind : (nt : Notation) → (m : Mark) (v : List Part) (f : LineSeen) (S : Axis → Bool) (b : ℕ) (k : TextKind) → mark nt b ≡ m → IsMark nt b m → LineAgrees (places.Closed v) f → ((x : Axis) → S x ≡ uses x f.used) → closed_step m v ≡ place_stopped k → LineKindOf nt f S b k
+shut_kind nt m v f S b k e i h s w = by_mark m v f S b k e i h s w (ap is_end_of_part h.2) (not_fresh_41 f.mark f.commas h.2 h.1)
   where
-    by_mark : (m : Mark) (v : List Part) (f : LineSeen) (S : Axis → Bool) (b : ℕ) (k : TextKind) → mark b ≡ m → IsMark b m → LineAgrees (places.Closed v) f → ((x : Axis) → S x ≡ uses x f.used) → closed_step m v ≡ place_stopped k → is_end_of_part f.mark ≡ false → (Fresh f.mark f.commas → ⊥) → LineKindOf f S b k
+    by_mark : (m : Mark) (v : List Part) (f : LineSeen) (S : Axis → Bool) (b : ℕ) (k : TextKind) → mark nt b ≡ m → IsMark nt b m → LineAgrees (places.Closed v) f → ((x : Axis) → S x ≡ uses x f.used) → closed_step m v ≡ place_stopped k → is_end_of_part f.mark ≡ false → (Fresh f.mark f.commas → ⊥) → LineKindOf nt f S b k
     by_mark marks.Blank v f S b k e i h s w n r = not_stopped _ k w
     by_mark (marks.Signs Plus) v f S b k e i h s w n r = not_stopped _ k w
-    by_mark (marks.Signs Minus) v f S b k e i h s w n r = between_kind (marks.Signs Minus) f S b k e i h.0 n r s (λ z. cc) (stop_is _ k w)
+    by_mark (marks.Signs Minus) v f S b k e i h s w n r = between_kind nt (marks.Signs Minus) f S b k e i h.0 n r s (λ z. cc) (stop_is _ k w)
     by_mark marks.Hash v f S b k e i h s w n r = inl (i, stop_is _ k w)
-    by_mark (marks.Letter a) v f S b k e i h s w n r = between_kind (marks.Letter a) f S b k e i h.0 n r s (λ z. cc) (stop_is _ k w)
-    by_mark (marks.Digit d) v f S b k e i h s w n r = between_kind (marks.Digit d) f S b k e i h.0 n r s (λ z. cc) (stop_is _ k w)
-    by_mark marks.Slash v f S b k e i h s w n r = between_kind marks.Slash f S b k e i h.0 n r s (λ z. cc) (stop_is _ k w)
-    by_mark marks.Comma v f S b k e i h s w n r = between_kind marks.Comma f S b k e i h.0 n r s (λ z. cc) (stop_is _ k w)
-    by_mark marks.Open v f S b k e i h s w n r = between_kind marks.Open f S b k e i h.0 n r s (λ z. cc) (stop_is _ k w)
-    by_mark marks.Close v f S b k e i h s w n r = between_kind marks.Close f S b k e i h.0 n r s (λ z. cc) (stop_is _ k w)
-    by_mark marks.Other v f S b k e i h s w n r = between_kind marks.Other f S b k e i h.0 n r s (λ z. cc) (stop_is _ k w)
+    by_mark (marks.Letter a) v f S b k e i h s w n r = between_kind nt (marks.Letter a) f S b k e i h.0 n r s (λ z. cc) (stop_is _ k w)
+    by_mark (marks.Digit d) v f S b k e i h s w n r = between_kind nt (marks.Digit d) f S b k e i h.0 n r s (λ z. cc) (stop_is _ k w)
+    by_mark marks.Slash v f S b k e i h s w n r = between_kind nt marks.Slash f S b k e i h.0 n r s (λ z. cc) (stop_is _ k w)
+    by_mark marks.Comma v f S b k e i h s w n r = between_kind nt marks.Comma f S b k e i h.0 n r s (λ z. cc) (stop_is _ k w)
+    by_mark marks.Open v f S b k e i h s w n r = between_kind nt marks.Open f S b k e i h.0 n r s (λ z. cc) (stop_is _ k w)
+    by_mark marks.Close v f S b k e i h s w n r = between_kind nt marks.Close f S b k e i h.0 n r s (λ z. cc) (stop_is _ k w)
+    by_mark marks.Other v f S b k e i h s w n r = between_kind nt marks.Other f S b k e i h.0 n r s (λ z. cc) (stop_is _ k w)
 
-pub row_kind : (m : Mark) (f : LineSeen) (S : Axis → Bool) (b : ℕ) (k : TextKind) → mark b ≡ m → IsMark b m → LineAgrees places.Behind f → ((x : Axis) → S x ≡ uses x f.used) → is_end_of_part f.mark ≡ false → (Fresh f.mark f.commas → ⊥) → behind_step m ≡ place_stopped k → LineKindOf f S b k
-row_kind marks.Blank f S b k e i h s n r w = not_stopped _ k w
-row_kind marks.Open f S b k e i h s n r w = not_stopped _ k w
-row_kind marks.Hash f S b k e i h s n r w = not_stopped _ k w
-row_kind (marks.Signs g) f S b k e i h s n r w = between_kind (marks.Signs g) f S b k e i h.0 n r s (λ z. cc) (stop_is _ k w)
-row_kind (marks.Letter a) f S b k e i h s n r w = between_kind (marks.Letter a) f S b k e i h.0 n r s (λ z. cc) (stop_is _ k w)
-row_kind (marks.Digit d) f S b k e i h s n r w = between_kind (marks.Digit d) f S b k e i h.0 n r s (λ z. cc) (stop_is _ k w)
-row_kind marks.Slash f S b k e i h s n r w = between_kind marks.Slash f S b k e i h.0 n r s (λ z. cc) (stop_is _ k w)
-row_kind marks.Comma f S b k e i h s n r w = between_kind marks.Comma f S b k e i h.0 n r s (λ z. cc) (stop_is _ k w)
-row_kind marks.Close f S b k e i h s n r w = between_kind marks.Close f S b k e i h.0 n r s (λ z. cc) (stop_is _ k w)
-row_kind marks.Other f S b k e i h s n r w = between_kind marks.Other f S b k e i h.0 n r s (λ z. cc) (stop_is _ k w)
+pub row_kind : (nt : Notation) → (m : Mark) (f : LineSeen) (S : Axis → Bool) (b : ℕ) (k : TextKind) → mark nt b ≡ m → IsMark nt b m → LineAgrees places.Behind f → ((x : Axis) → S x ≡ uses x f.used) → is_end_of_part f.mark ≡ false → (Fresh f.mark f.commas → ⊥) → behind_step m ≡ place_stopped k → LineKindOf nt f S b k
+row_kind nt marks.Blank f S b k e i h s n r w = not_stopped _ k w
+row_kind nt marks.Open f S b k e i h s n r w = not_stopped _ k w
+row_kind nt marks.Hash f S b k e i h s n r w = not_stopped _ k w
+row_kind nt (marks.Signs g) f S b k e i h s n r w = between_kind nt (marks.Signs g) f S b k e i h.0 n r s (λ z. cc) (stop_is _ k w)
+row_kind nt (marks.Letter a) f S b k e i h s n r w = between_kind nt (marks.Letter a) f S b k e i h.0 n r s (λ z. cc) (stop_is _ k w)
+row_kind nt (marks.Digit d) f S b k e i h s n r w = between_kind nt (marks.Digit d) f S b k e i h.0 n r s (λ z. cc) (stop_is _ k w)
+row_kind nt marks.Slash f S b k e i h s n r w = between_kind nt marks.Slash f S b k e i h.0 n r s (λ z. cc) (stop_is _ k w)
+row_kind nt marks.Comma f S b k e i h s n r w = between_kind nt marks.Comma f S b k e i h.0 n r s (λ z. cc) (stop_is _ k w)
+row_kind nt marks.Close f S b k e i h s n r w = between_kind nt marks.Close f S b k e i h.0 n r s (λ z. cc) (stop_is _ k w)
+row_kind nt marks.Other f S b k e i h s n r w = between_kind nt marks.Other f S b k e i h.0 n r s (λ z. cc) (stop_is _ k w)
 
-pub place_kind : (p : LinePlace) (f : LineSeen) (S : Axis → Bool) (b : ℕ) (k : TextKind) → LineAgrees p f → ((x : Axis) → S x ≡ uses x f.used) → place_step (mark b) p ≡ place_stopped k → LineKindOf f S b k
-place_kind places.Start f S b k h s w = start_kind (mark b) f S b k refl (mark_is b) h s w
-place_kind (places.Operation t) f S b k h s w = op_kind (mark b) t f S b k refl (mark_is b) h s w
-place_kind (places.Coordinates v) f S b k h s w = vec_kind (mark b) v f S b k refl (mark_is b) h s w
-place_kind (places.Closed v) f S b k h s w = shut_kind (mark b) v f S b k refl (mark_is b) h s w
-place_kind places.Behind f S b k h s w = row_kind (mark b) f S b k refl (mark_is b) h s (ap is_end_of_part h.1) (not_fresh_43 f.mark f.commas h.1) w
-place_kind (places.Comment o) f S b k h s w = not_stopped _ k w
+pub place_kind : (nt : Notation) → (p : LinePlace) (f : LineSeen) (S : Axis → Bool) (b : ℕ) (k : TextKind) → LineAgrees p f → ((x : Axis) → S x ≡ uses x f.used) → place_step nt (mark nt b) p ≡ place_stopped k → LineKindOf nt f S b k
+place_kind nt places.Start f S b k h s w = start_kind nt (mark nt b) f S b k refl (mark_is nt b) h s w
+place_kind nt (places.Operation t) f S b k h s w = op_kind nt (mark nt b) t f S b k refl (mark_is nt b) h s w
+place_kind nt (places.Coordinates v) f S b k h s w = vec_kind nt (mark nt b) v f S b k refl (mark_is nt b) h s w
+place_kind nt (places.Closed v) f S b k h s w = shut_kind nt (mark nt b) v f S b k refl (mark_is nt b) h s w
+place_kind nt places.Behind f S b k h s w = row_kind nt (mark nt b) f S b k refl (mark_is nt b) h s (ap is_end_of_part h.1) (not_fresh_43 f.mark f.commas h.1) w
+place_kind nt (places.Comment o) f S b k h s w = not_stopped _ k w
 
 pub at_place_err : (r : Result LinePlace TextKind) (vs : List Vector) (k : TextKind) → at_place r vs ≡ line_stopped k → r ≡ place_stopped k
 at_place_err (Ok p) vs k e = absurd cc
@@ -387,6 +417,6 @@ line_uses bs X = refl
 line_uses bs Y = refl
 line_uses bs Z = refl
 
-pub line_kind : (before : List ℕ) (b : ℕ) (s : LineState) (k : TextKind) → line_run (Ok line_start) before ≡ line_going s → line_step (mark b) s ≡ line_stopped k → HasLineKind before b k
-line_kind before b s k w e =
-    place_kind s.place (line_seen line_seen_start before) (λ a. line_stands a false before) b k (line_agrees before s w) (line_uses before) (at_place_err (place_step (mark b) s.place) (with_vector (completed (mark b) s.place) s.vectors) k e)
+pub line_kind : (nt : Notation) → (before : List ℕ) (b : ℕ) (s : LineState) (k : TextKind) → line_run nt (Ok line_start) before ≡ line_going s → line_step nt (mark nt b) s ≡ line_stopped k → HasLineKind nt before b k
+line_kind nt before b s k w e =
+    place_kind nt s.place (line_seen line_seen_start before) (λ a. line_stands a false before) b k (line_agrees nt before s w) (line_uses before) (at_place_err (place_step nt (mark nt b) s.place) (with_vector (completed (mark nt b) s.place) s.vectors) k e)

@@ -1,7 +1,9 @@
 -- What stands before a place in a line, as the reader knows it.
-use Rattle.std.proofs.Common.{◌≡◌, ◌≢◌, ℕ, ◌+◌, ◌*◌, ◌<◌, Bool, true, false, cond, List, [], ◌∷◌, Option, Some, None, Result, Ok, Err, ℤ, refl, sym, ◌∙◌, ap, subst, arith, inl, inr, ◌⊎◌}
+use Rattle.std.proofs.Common.{◌≡◌, ◌≢◌, ℕ, ◌+◌, ◌*◌, ◌<◌, ◌≤◌, Bool, true, false, cond, List, [], ◌∷◌, Option, Some, None, Result, Ok, Err, ℤ, refl, sym, ◌∙◌, ap, subst, arith, inl, inr, ◌⊎◌}
 use Rattle.std.specs.Prelude.{◌==◌, ◌&&◌, ◌||◌, if◌then◌else◌}
 use Rattle.std.proofs.lemmas.Bool.Decides.{nat_tests}
+use Rattle.triplets.specs.declared.notation.Notation.{Notation}
+use Rattle.triplets.specs.declared.notation.Notation.TheVariants.{Triplets, Pairs}
 use Rattle.triplets.specs.declared.marks.Axis.{Axis}
 use Rattle.triplets.specs.declared.marks.Axis.TheVariants.{X, Y, Z}
 use Rattle.motions.specs.declared.motion.Sign.{Sign}
@@ -149,17 +151,17 @@ in_a_part (marks.Digit n) = true
 in_a_part marks.Slash = true
 in_a_part _ = false
 
-pub follow_by : (m : Mark) (f : LineSeen) (g : Seen) (b : ℕ) → in_a_part m ≡ true → IsMark b m → Follows f g → Follows (line_seen_step f b) (seen_step g b)
-follow_by marks.Blank f g b p i h = subst (λ c. Follows (line_seen_step f c) (seen_step g c)) (sym i.1) (follow_blank f g i.0 h)
-follow_by (marks.Signs s) f g b p i h = subst (λ c. Follows (line_seen_step f c) (seen_step g c)) (sym i) (follow_sign f g s h)
-follow_by (marks.Letter a) f g b p i h = subst (λ c. Follows (line_seen_step f c) (seen_step g c)) (sym i.1) (follow_letter f g a i.0 h)
-follow_by (marks.Digit n) f g b p i h = subst (λ c. Follows (line_seen_step f c) (seen_step g c)) (sym i.1) (follow_digit f g i.0 h)
-follow_by marks.Slash f g b p i h = subst (λ c. Follows (line_seen_step f c) (seen_step g c)) (sym i) (follow_slash f g h)
-follow_by marks.Comma f g b p i h = absurd cc
-follow_by marks.Hash f g b p i h = absurd cc
-follow_by marks.Open f g b p i h = absurd cc
-follow_by marks.Close f g b p i h = absurd cc
-follow_by marks.Other f g b p i h = absurd cc
+pub follow_by : (nt : Notation) → (m : Mark) (f : LineSeen) (g : Seen) (b : ℕ) → in_a_part m ≡ true → IsMark nt b m → Follows f g → Follows (line_seen_step f b) (seen_step g b)
+follow_by nt marks.Blank f g b p i h = subst (λ c. Follows (line_seen_step f c) (seen_step g c)) (sym i.1) (follow_blank f g i.0 h)
+follow_by nt (marks.Signs s) f g b p i h = subst (λ c. Follows (line_seen_step f c) (seen_step g c)) (sym i) (follow_sign f g s h)
+follow_by nt (marks.Letter a) f g b p i h = subst (λ c. Follows (line_seen_step f c) (seen_step g c)) (sym i.1) (follow_letter f g a i.0 h)
+follow_by nt (marks.Digit n) f g b p i h = subst (λ c. Follows (line_seen_step f c) (seen_step g c)) (sym i.1) (follow_digit f g i.0 h)
+follow_by nt marks.Slash f g b p i h = subst (λ c. Follows (line_seen_step f c) (seen_step g c)) (sym i) (follow_slash f g h)
+follow_by nt marks.Comma f g b p i h = absurd cc
+follow_by nt marks.Hash f g b p i h = absurd cc
+follow_by nt marks.Open f g b p i h = absurd cc
+follow_by nt marks.Close f g b p i h = absurd cc
+follow_by nt marks.Other f g b p i h = absurd cc
 
 -- brackets and commas stay
 pub record Stays (f g : LineSeen) : Type 0 where
@@ -169,17 +171,17 @@ pub record Stays (f g : LineSeen) : Type 0 where
 pub stays_at : (f g : LineSeen) (b c : ℕ) → b ≡ c → line_seen_step f c ≡ g → Stays f g → Stays f (line_seen_step f b)
 stays_at f g b c e h s = subst (λ x. Stays f (line_seen_step f x)) (sym e) (subst (Stays f) (sym h) s)
 
-pub stays_by : (m : Mark) (f : LineSeen) (b : ℕ) → in_a_part m ≡ true → IsMark b m → Stays f (line_seen_step f b)
-stays_by marks.Blank f b p i = stays_at f _ b _ i.1 (l_blank f i.0) (record { bracket = refl; commas = refl })
-stays_by (marks.Signs s) f b p i = stays_at f _ b _ i (l_sign f s) (record { bracket = refl; commas = refl })
-stays_by (marks.Letter a) f b p i = stays_at f _ b _ i.1 (l_letter f a i.0) (record { bracket = refl; commas = refl })
-stays_by (marks.Digit n) f b p i = stays_at f _ b _ i.1 (l_digit f i.0) (record { bracket = refl; commas = refl })
-stays_by marks.Slash f b p i = stays_at f _ b _ i refl (record { bracket = refl; commas = refl })
-stays_by marks.Comma f b p i = absurd cc
-stays_by marks.Hash f b p i = absurd cc
-stays_by marks.Open f b p i = absurd cc
-stays_by marks.Close f b p i = absurd cc
-stays_by marks.Other f b p i = absurd cc
+pub stays_by : (nt : Notation) → (m : Mark) (f : LineSeen) (b : ℕ) → in_a_part m ≡ true → IsMark nt b m → Stays f (line_seen_step f b)
+stays_by nt marks.Blank f b p i = stays_at f _ b _ i.1 (l_blank f i.0) (record { bracket = refl; commas = refl })
+stays_by nt (marks.Signs s) f b p i = stays_at f _ b _ i (l_sign f s) (record { bracket = refl; commas = refl })
+stays_by nt (marks.Letter a) f b p i = stays_at f _ b _ i.1 (l_letter f a i.0) (record { bracket = refl; commas = refl })
+stays_by nt (marks.Digit n) f b p i = stays_at f _ b _ i.1 (l_digit f i.0) (record { bracket = refl; commas = refl })
+stays_by nt marks.Slash f b p i = stays_at f _ b _ i refl (record { bracket = refl; commas = refl })
+stays_by nt marks.Comma f b p i = absurd cc
+stays_by nt marks.Hash f b p i = absurd cc
+stays_by nt marks.Open f b p i = absurd cc
+stays_by nt marks.Close f b p i = absurd cc
+stays_by nt marks.Other f b p i = absurd cc
 
 -- ---- the last mark tells whether a part is whole
 
@@ -256,29 +258,29 @@ digit_end d = rw (digit_true d) refl
 pub mark_at : (f g : LineSeen) (b c : ℕ) (T : ℕ → Bool) (t : Bool) → b ≡ c → line_seen_step f c ≡ g → T g.mark ≡ t → T (line_seen_step f b).mark ≡ t
 mark_at f g b c T t e h s = subst (λ x. T (line_seen_step f x).mark ≡ t) (sym e) (subst (λ (x : LineSeen). T x.mark ≡ t) (sym h) s)
 
-pub ends_by : (m : Mark) (f : LineSeen) (p q : PartReader) (b : ℕ) → IsMark b m → is_end_of_part f.mark ≡ settles p.spot → part_step m p ≡ fine q → is_end_of_part (line_seen_step f b).mark ≡ settles q.spot
-ends_by marks.Blank f p q b i h w = mark_at f _ b _ is_end_of_part _ i.1 (l_blank f i.0) (h ∙ sym (settles_blank p.spot p.row p.used p.sign q w))
-ends_by (marks.Signs s) f p q b i h w = mark_at f _ b _ is_end_of_part _ i (l_sign f s) (sign_no_end s ∙ sym (settles_sign p.spot p.row p.used p.sign s q w))
-ends_by (marks.Letter a) f p q b i h w = mark_at f _ b _ is_end_of_part _ i.1 (l_letter f a i.0) (letter_end a i.0 ∙ sym (settles_letter p.spot p.row p.used p.sign a q (passed _ _ _ q w).1))
-ends_by (marks.Digit n) f p q b i h w = mark_at f _ b _ is_end_of_part _ i.1 (l_digit f i.0) (digit_end i.0 ∙ sym (settles_digit p.spot p.row p.used p.sign n q w))
-ends_by marks.Slash f p q b i h w = mark_at f (line_seen_step f 47) b 47 is_end_of_part _ i refl (sym (settles_slash p.spot p.row p.used p.sign q w))
-ends_by marks.Comma f p q b i h w = err_is _ q w
-ends_by marks.Hash f p q b i h w = err_is _ q w
-ends_by marks.Open f p q b i h w = err_is _ q w
-ends_by marks.Close f p q b i h w = err_is _ q w
-ends_by marks.Other f p q b i h w = err_is _ q w
+pub ends_by : (nt : Notation) → (m : Mark) (f : LineSeen) (p q : PartReader) (b : ℕ) → IsMark nt b m → is_end_of_part f.mark ≡ settles p.spot → part_step m p ≡ fine q → is_end_of_part (line_seen_step f b).mark ≡ settles q.spot
+ends_by nt marks.Blank f p q b i h w = mark_at f _ b _ is_end_of_part _ i.1 (l_blank f i.0) (h ∙ sym (settles_blank p.spot p.row p.used p.sign q w))
+ends_by nt (marks.Signs s) f p q b i h w = mark_at f _ b _ is_end_of_part _ i (l_sign f s) (sign_no_end s ∙ sym (settles_sign p.spot p.row p.used p.sign s q w))
+ends_by nt (marks.Letter a) f p q b i h w = mark_at f _ b _ is_end_of_part _ i.1 (l_letter f a i.0) (letter_end a i.0 ∙ sym (settles_letter p.spot p.row p.used p.sign a q (passed _ _ _ q w).1))
+ends_by nt (marks.Digit n) f p q b i h w = mark_at f _ b _ is_end_of_part _ i.1 (l_digit f i.0) (digit_end i.0 ∙ sym (settles_digit p.spot p.row p.used p.sign n q w))
+ends_by nt marks.Slash f p q b i h w = mark_at f (line_seen_step f 47) b 47 is_end_of_part _ i refl (sym (settles_slash p.spot p.row p.used p.sign q w))
+ends_by nt marks.Comma f p q b i h w = err_is _ q w
+ends_by nt marks.Hash f p q b i h w = err_is _ q w
+ends_by nt marks.Open f p q b i h w = err_is _ q w
+ends_by nt marks.Close f p q b i h w = err_is _ q w
+ends_by nt marks.Other f p q b i h w = err_is _ q w
 
-pub digits_by : (m : Mark) (f : LineSeen) (p q : PartReader) (b : ℕ) → IsMark b m → is_digit f.mark ≡ settles p.spot → ((a : Axis) → m ≡ marks.Letter a → ⊥) → part_step m p ≡ fine q → is_digit (line_seen_step f b).mark ≡ settles q.spot
-digits_by marks.Blank f p q b i h n w = mark_at f _ b _ is_digit _ i.1 (l_blank f i.0) (h ∙ sym (settles_blank p.spot p.row p.used p.sign q w))
-digits_by (marks.Signs s) f p q b i h n w = mark_at f _ b _ is_digit _ i (l_sign f s) (sign_no_digit s ∙ sym (settles_sign p.spot p.row p.used p.sign s q w))
-digits_by (marks.Letter a) f p q b i h n w = absurd (n a refl)
-digits_by (marks.Digit k) f p q b i h n w = mark_at f _ b _ is_digit _ i.1 (l_digit f i.0) (digit_true i.0 ∙ sym (settles_digit p.spot p.row p.used p.sign k q w))
-digits_by marks.Slash f p q b i h n w = mark_at f (line_seen_step f 47) b 47 is_digit _ i refl (sym (settles_slash p.spot p.row p.used p.sign q w))
-digits_by marks.Comma f p q b i h n w = err_is _ q w
-digits_by marks.Hash f p q b i h n w = err_is _ q w
-digits_by marks.Open f p q b i h n w = err_is _ q w
-digits_by marks.Close f p q b i h n w = err_is _ q w
-digits_by marks.Other f p q b i h n w = err_is _ q w
+pub digits_by : (nt : Notation) → (m : Mark) (f : LineSeen) (p q : PartReader) (b : ℕ) → IsMark nt b m → is_digit f.mark ≡ settles p.spot → ((a : Axis) → m ≡ marks.Letter a → ⊥) → part_step m p ≡ fine q → is_digit (line_seen_step f b).mark ≡ settles q.spot
+digits_by nt marks.Blank f p q b i h n w = mark_at f _ b _ is_digit _ i.1 (l_blank f i.0) (h ∙ sym (settles_blank p.spot p.row p.used p.sign q w))
+digits_by nt (marks.Signs s) f p q b i h n w = mark_at f _ b _ is_digit _ i (l_sign f s) (sign_no_digit s ∙ sym (settles_sign p.spot p.row p.used p.sign s q w))
+digits_by nt (marks.Letter a) f p q b i h n w = absurd (n a refl)
+digits_by nt (marks.Digit k) f p q b i h n w = mark_at f _ b _ is_digit _ i.1 (l_digit f i.0) (digit_true i.0 ∙ sym (settles_digit p.spot p.row p.used p.sign k q w))
+digits_by nt marks.Slash f p q b i h n w = mark_at f (line_seen_step f 47) b 47 is_digit _ i refl (sym (settles_slash p.spot p.row p.used p.sign q w))
+digits_by nt marks.Comma f p q b i h n w = err_is _ q w
+digits_by nt marks.Hash f p q b i h n w = err_is _ q w
+digits_by nt marks.Open f p q b i h n w = err_is _ q w
+digits_by nt marks.Close f p q b i h n w = err_is _ q w
+digits_by nt marks.Other f p q b i h n w = err_is _ q w
 
 -- ---- what the place of the reader says
 
@@ -294,13 +296,13 @@ pub record PartKnown (f : LineSeen) (p : PartReader) (n : Nth) : Type 0 where
   pub end : is_end_of_part f.mark ≡ settles p.spot
   pub commas : f.commas ≡ index n
 
-pub known_step : (m : Mark) (f : LineSeen) (p q : PartReader) (n : Nth) (b : ℕ) → in_a_part m ≡ true → IsMark b m → PartKnown f p n → part_step m p ≡ fine q → PartKnown (line_seen_step f b) q n
-known_step m f p q n b a i k w = record {
+pub known_step : (nt : Notation) → (m : Mark) (f : LineSeen) (p q : PartReader) (n : Nth) (b : ℕ) → in_a_part m ≡ true → IsMark nt b m → PartKnown f p n → part_step m p ≡ fine q → PartKnown (line_seen_step f b) q n
+known_step nt m f p q n b a i k w = record {
   core = seen_step k.core b;
-  follows = follow_by m f k.core b a i k.follows;
-  agrees = agrees_part m p k.core b q i k.agrees w;
-  end = ends_by m f p q b i k.end w;
-  commas = (stays_by m f b a i).commas ∙ k.commas;
+  follows = follow_by nt m f k.core b a i k.follows;
+  agrees = agrees_part nt m p k.core b q i k.agrees w;
+  end = ends_by nt m f p q b i k.end w;
+  commas = (stays_by nt m f b a i).commas ∙ k.commas;
 }
 
 pub known_comma : (f : LineSeen) (n : Nth) → f.commas + 1 ≡ index n → PartKnown (line_seen_step f 44) begin n
@@ -340,7 +342,7 @@ abbrev pub LineAgrees : LinePlace → LineSeen → Type 0
 LineAgrees places.Start f = PartKnown f begin First × (f.bracket ≢ 40)
 LineAgrees (places.Operation t) f = PartKnown f t.part t.nth × (f.bracket ≢ 40)
 LineAgrees (places.Coordinates v) f = PartKnown f v.part v.nth × (f.bracket ≡ 40) × (is_digit f.mark ≡ settles v.part.spot) × (f.used ≡ unused) × (v.label ≡ true → v.nth ≡ First)
-LineAgrees (places.Closed w) f = Between f × (f.commas ≡ 2) × (f.mark ≡ 41)
+LineAgrees (places.Closed w) f = Between f × (1 ≤ f.commas) × (f.mark ≡ 41)
 LineAgrees places.Behind f = Between f × (f.mark ≡ 43)
 LineAgrees (places.Comment o) f = Unit {0}
 
@@ -354,137 +356,141 @@ pub not_bracket : (f g : LineSeen) → g.bracket ≡ f.bracket → f.bracket ≢
 not_bracket f g e h z = h (sym e ∙ z)
 
 -- in an operation
-pub op_in_part : (m : Mark) (t : TripletReader) (f : LineSeen) (b : ℕ) (q : LinePlace) → in_a_part m ≡ true → IsMark b m → LineAgrees (places.Operation t) f → in_operation (in_part t (part_step m t.part)) ≡ placed q → LineAgrees q (line_seen_step f b)
-op_in_part m t f b q a i h e = op_by (part_step m t.part) m t f b q a i h refl e
+pub op_in_part : (nt : Notation) → (m : Mark) (t : TripletReader) (f : LineSeen) (b : ℕ) (q : LinePlace) → in_a_part m ≡ true → IsMark nt b m → LineAgrees (places.Operation t) f → in_operation (in_part t (part_step m t.part)) ≡ placed q → LineAgrees q (line_seen_step f b)
+op_in_part nt m t f b q a i h e = op_by (part_step m t.part) m t f b q a i h refl e
   where
-    op_by : (r : Result PartReader TextKind) (m : Mark) (t : TripletReader) (f : LineSeen) (b : ℕ) (q : LinePlace) → in_a_part m ≡ true → IsMark b m → LineAgrees (places.Operation t) f → part_step m t.part ≡ r → in_operation (in_part t r) ≡ placed q → LineAgrees q (line_seen_step f b)
-    op_by (Ok p) m t f b q a i h w e = to_place _ q (line_seen_step f b) e (known_step m f t.part p t.nth b a i h.0 w, not_bracket f (line_seen_step f b) (stays_by m f b a i).bracket h.1)
+    op_by : (r : Result PartReader TextKind) (m : Mark) (t : TripletReader) (f : LineSeen) (b : ℕ) (q : LinePlace) → in_a_part m ≡ true → IsMark nt b m → LineAgrees (places.Operation t) f → part_step m t.part ≡ r → in_operation (in_part t r) ≡ placed q → LineAgrees q (line_seen_step f b)
+    op_by (Ok p) m t f b q a i h w e = to_place _ q (line_seen_step f b) e (known_step nt m f t.part p t.nth b a i h.0 w, not_bracket f (line_seen_step f b) (stays_by nt m f b a i).bracket h.1)
     op_by (Err k) m t f b q a i h w e = no_place _ q e
 
-pub op_comma : (o : Option PartReader) (n : Nth) (t : TripletReader) (f : LineSeen) (q : LinePlace) → t.nth ≡ n → LineAgrees (places.Operation t) f → in_operation (comma_at o t) ≡ placed q → LineAgrees q (line_seen_step f 44)
-op_comma None n t f q i h e = no_place _ q e
-op_comma (Some p) n t f q i h e = op_next n t p.row f q (h.0.commas ∙ ap index i) h.1 (ap (λ m. in_operation (next_part m t p.row)) (sym i) ∙ e)
+pub op_comma : (nt : Notation) → (o : Option PartReader) (n : Nth) (t : TripletReader) (f : LineSeen) (q : LinePlace) → t.nth ≡ n → LineAgrees (places.Operation t) f → in_operation (comma_at nt o t) ≡ placed q → LineAgrees q (line_seen_step f 44)
+op_comma nt None n t f q i h e = no_place _ q e
+op_comma nt (Some p) n t f q i h e = op_next nt n t p.row f q (h.0.commas ∙ ap index i) h.1 (ap (λ m. in_operation (next_part nt m t p.row)) (sym i) ∙ e)
   where
-    op_next : (n : Nth) (t : TripletReader) (r : rows.Row) (f : LineSeen) (q : LinePlace) → f.commas ≡ index n → f.bracket ≢ 40 → in_operation (next_part n t r) ≡ placed q → LineAgrees q (line_seen_step f 44)
-    op_next First t r f q c h e = to_place _ q (line_seen_step f 44) e (known_comma f Second (omega (arith, c)), h)
-    op_next Second t r f q c h e = to_place _ q (line_seen_step f 44) e (known_comma f Third (omega (arith, c)), h)
-    op_next Third t r f q c h e = no_place _ q e
+    op_next : (nt : Notation) (n : Nth) (t : TripletReader) (r : rows.Row) (f : LineSeen) (q : LinePlace) → f.commas ≡ index n → f.bracket ≢ 40 → in_operation (next_part nt n t r) ≡ placed q → LineAgrees q (line_seen_step f 44)
+    op_next nt First t r f q c h e = to_place _ q (line_seen_step f 44) e (known_comma f Second (omega (arith, c)), h)
+    op_next Pairs Second t r f q c h e = no_place _ q e
+    op_next Triplets Second t r f q c h e = to_place _ q (line_seen_step f 44) e (known_comma f Third (omega (arith, c)), h)
+    op_next nt Third t r f q c h e = no_place _ q e
 
-pub op_step : (m : Mark) (t : TripletReader) (f : LineSeen) (b : ℕ) (q : LinePlace) → IsMark b m → LineAgrees (places.Operation t) f → in_operation (step m t) ≡ placed q → LineAgrees q (line_seen_step f b)
-op_step marks.Blank t f b q i h e = op_in_part marks.Blank t f b q refl i h e
-op_step (marks.Signs s) t f b q i h e = op_in_part (marks.Signs s) t f b q refl i h e
-op_step (marks.Letter a) t f b q i h e = op_in_part (marks.Letter a) t f b q refl i h e
-op_step (marks.Digit n) t f b q i h e = op_in_part (marks.Digit n) t f b q refl i h e
-op_step marks.Slash t f b q i h e = op_in_part marks.Slash t f b q refl i h e
-op_step marks.Comma t f b q i h e = subst (λ x. LineAgrees q (line_seen_step f x)) (sym i) (op_comma (settled t.part) t.nth t f q refl h e)
-op_step marks.Hash t f b q i h e = no_place _ q e
-op_step marks.Open t f b q i h e = no_place _ q e
-op_step marks.Close t f b q i h e = no_place _ q e
-op_step marks.Other t f b q i h e = no_place _ q e
+pub op_step : (nt : Notation) → (m : Mark) (t : TripletReader) (f : LineSeen) (b : ℕ) (q : LinePlace) → IsMark nt b m → LineAgrees (places.Operation t) f → in_operation (step nt m t) ≡ placed q → LineAgrees q (line_seen_step f b)
+op_step nt marks.Blank t f b q i h e = op_in_part nt marks.Blank t f b q refl i h e
+op_step nt (marks.Signs s) t f b q i h e = op_in_part nt (marks.Signs s) t f b q refl i h e
+op_step nt (marks.Letter a) t f b q i h e = op_in_part nt (marks.Letter a) t f b q refl i h e
+op_step nt (marks.Digit n) t f b q i h e = op_in_part nt (marks.Digit n) t f b q refl i h e
+op_step nt marks.Slash t f b q i h e = op_in_part nt marks.Slash t f b q refl i h e
+op_step nt marks.Comma t f b q i h e = subst (λ x. LineAgrees q (line_seen_step f x)) (sym i) (op_comma nt (settled t.part) t.nth t f q refl h e)
+op_step nt marks.Hash t f b q i h e = no_place _ q e
+op_step nt marks.Open t f b q i h e = no_place _ q e
+op_step nt marks.Close t f b q i h e = no_place _ q e
+op_step nt marks.Other t f b q i h e = no_place _ q e
 
-pub from_start_step : (m : Mark) (f : LineSeen) (b : ℕ) (q : LinePlace) → IsMark b m → LineAgrees places.Start f → start_step m ≡ placed q → LineAgrees q (line_seen_step f b)
-from_start_step marks.Blank f b q i h e = to_place places.Start q (line_seen_step f b) e (known_step marks.Blank f begin begin First b refl i h.0 refl, not_bracket f (line_seen_step f b) (stays_by marks.Blank f b refl i).bracket h.1)
-from_start_step marks.Open f b q i h e = subst (λ x. LineAgrees q (line_seen_step f x)) (sym i) (to_place _ q (line_seen_step f 40) e (known_open f, refl, refl, refl, λ z. refl))
-from_start_step marks.Hash f b q i h e = to_place (places.Comment None) q (line_seen_step f b) e tt
-from_start_step (marks.Signs s) f b q i h e = op_step (marks.Signs s) start f b q i h e
-from_start_step (marks.Letter a) f b q i h e = op_step (marks.Letter a) start f b q i h e
-from_start_step (marks.Digit n) f b q i h e = op_step (marks.Digit n) start f b q i h e
-from_start_step marks.Slash f b q i h e = op_step marks.Slash start f b q i h e
-from_start_step marks.Comma f b q i h e = op_step marks.Comma start f b q i h e
-from_start_step marks.Close f b q i h e = op_step marks.Close start f b q i h e
-from_start_step marks.Other f b q i h e = op_step marks.Other start f b q i h e
+pub from_start_step : (nt : Notation) → (m : Mark) (f : LineSeen) (b : ℕ) (q : LinePlace) → IsMark nt b m → LineAgrees places.Start f → start_step nt m ≡ placed q → LineAgrees q (line_seen_step f b)
+from_start_step nt marks.Blank f b q i h e = to_place places.Start q (line_seen_step f b) e (known_step nt marks.Blank f begin begin First b refl i h.0 refl, not_bracket f (line_seen_step f b) (stays_by nt marks.Blank f b refl i).bracket h.1)
+from_start_step nt marks.Open f b q i h e = subst (λ x. LineAgrees q (line_seen_step f x)) (sym i) (to_place _ q (line_seen_step f 40) e (known_open f, refl, refl, refl, λ z. refl))
+from_start_step nt marks.Hash f b q i h e = to_place (places.Comment None) q (line_seen_step f b) e tt
+from_start_step nt (marks.Signs s) f b q i h e = op_step nt (marks.Signs s) start f b q i h e
+from_start_step nt (marks.Letter a) f b q i h e = op_step nt (marks.Letter a) start f b q i h e
+from_start_step nt (marks.Digit n) f b q i h e = op_step nt (marks.Digit n) start f b q i h e
+from_start_step nt marks.Slash f b q i h e = op_step nt marks.Slash start f b q i h e
+from_start_step nt marks.Comma f b q i h e = op_step nt marks.Comma start f b q i h e
+from_start_step nt marks.Close f b q i h e = op_step nt marks.Close start f b q i h e
+from_start_step nt marks.Other f b q i h e = op_step nt marks.Other start f b q i h e
 
-pub in_op_step : (m : Mark) (t : TripletReader) (f : LineSeen) (b : ℕ) (q : LinePlace) → IsMark b m → LineAgrees (places.Operation t) f → operation_step m t ≡ placed q → LineAgrees q (line_seen_step f b)
-in_op_step marks.Hash t f b q i h e = hash_by (value t) f b q e
+pub in_op_step : (nt : Notation) → (m : Mark) (t : TripletReader) (f : LineSeen) (b : ℕ) (q : LinePlace) → IsMark nt b m → LineAgrees (places.Operation t) f → operation_step nt m t ≡ placed q → LineAgrees q (line_seen_step f b)
+in_op_step nt marks.Hash t f b q i h e = hash_by (value nt t) f b q e
   where
     hash_by : (v : Option Motion3) (f : LineSeen) (b : ℕ) (q : LinePlace) → comment_behind v ≡ placed q → LineAgrees q (line_seen_step f b)
     hash_by None f b q e = no_place _ q e
     hash_by (Some t) f b q e = to_place (places.Comment (Some t)) q (line_seen_step f b) e tt
-in_op_step marks.Blank t f b q i h e = op_step marks.Blank t f b q i h e
-in_op_step (marks.Signs s) t f b q i h e = op_step (marks.Signs s) t f b q i h e
-in_op_step (marks.Letter a) t f b q i h e = op_step (marks.Letter a) t f b q i h e
-in_op_step (marks.Digit n) t f b q i h e = op_step (marks.Digit n) t f b q i h e
-in_op_step marks.Slash t f b q i h e = op_step marks.Slash t f b q i h e
-in_op_step marks.Comma t f b q i h e = op_step marks.Comma t f b q i h e
-in_op_step marks.Open t f b q i h e = op_step marks.Open t f b q i h e
-in_op_step marks.Close t f b q i h e = op_step marks.Close t f b q i h e
-in_op_step marks.Other t f b q i h e = op_step marks.Other t f b q i h e
+in_op_step nt marks.Blank t f b q i h e = op_step nt marks.Blank t f b q i h e
+in_op_step nt (marks.Signs s) t f b q i h e = op_step nt (marks.Signs s) t f b q i h e
+in_op_step nt (marks.Letter a) t f b q i h e = op_step nt (marks.Letter a) t f b q i h e
+in_op_step nt (marks.Digit n) t f b q i h e = op_step nt (marks.Digit n) t f b q i h e
+in_op_step nt marks.Slash t f b q i h e = op_step nt marks.Slash t f b q i h e
+in_op_step nt marks.Comma t f b q i h e = op_step nt marks.Comma t f b q i h e
+in_op_step nt marks.Open t f b q i h e = op_step nt marks.Open t f b q i h e
+in_op_step nt marks.Close t f b q i h e = op_step nt marks.Close t f b q i h e
+in_op_step nt marks.Other t f b q i h e = op_step nt marks.Other t f b q i h e
 
 -- in a vector
 
 pub used_at : (f g : LineSeen) (b c : ℕ) → b ≡ c → line_seen_step f c ≡ g → g.used ≡ unused → (line_seen_step f b).used ≡ unused
 used_at f g b c e h s = subst (λ x. (line_seen_step f x).used ≡ unused) (sym e) (subst (λ (x : LineSeen). x.used ≡ unused) (sym h) s)
 
-pub used_by : (m : Mark) (f : LineSeen) (b : ℕ) → in_a_part m ≡ true → ((a : Axis) → m ≡ marks.Letter a → ⊥) → IsMark b m → f.used ≡ unused → (line_seen_step f b).used ≡ unused
-used_by marks.Blank f b p n i h = used_at f _ b _ i.1 (l_blank f i.0) h
-used_by (marks.Signs s) f b p n i h = used_at f _ b _ i (l_sign f s) h
-used_by (marks.Letter a) f b p n i h = absurd (n a refl)
-used_by (marks.Digit k) f b p n i h = used_at f _ b _ i.1 (l_digit f i.0) h
-used_by marks.Slash f b p n i h = used_at f (line_seen_step f 47) b 47 i refl h
-used_by marks.Comma f b p n i h = absurd cc
-used_by marks.Hash f b p n i h = absurd cc
-used_by marks.Open f b p n i h = absurd cc
-used_by marks.Close f b p n i h = absurd cc
-used_by marks.Other f b p n i h = absurd cc
+pub used_by : (nt : Notation) → (m : Mark) (f : LineSeen) (b : ℕ) → in_a_part m ≡ true → ((a : Axis) → m ≡ marks.Letter a → ⊥) → IsMark nt b m → f.used ≡ unused → (line_seen_step f b).used ≡ unused
+used_by nt marks.Blank f b p n i h = used_at f _ b _ i.1 (l_blank f i.0) h
+used_by nt (marks.Signs s) f b p n i h = used_at f _ b _ i (l_sign f s) h
+used_by nt (marks.Letter a) f b p n i h = absurd (n a refl)
+used_by nt (marks.Digit k) f b p n i h = used_at f _ b _ i.1 (l_digit f i.0) h
+used_by nt marks.Slash f b p n i h = used_at f (line_seen_step f 47) b 47 i refl h
+used_by nt marks.Comma f b p n i h = absurd cc
+used_by nt marks.Hash f b p n i h = absurd cc
+used_by nt marks.Open f b p n i h = absurd cc
+used_by nt marks.Close f b p n i h = absurd cc
+used_by nt marks.Other f b p n i h = absurd cc
 
-pub vec_moved : (m : Mark) (v : VectorReader) (f : LineSeen) (b : ℕ) (p : PartReader) (l : Bool) → in_a_part m ≡ true → ((a : Axis) → m ≡ marks.Letter a → ⊥) → (l ≡ true → v.nth ≡ First) → IsMark b m → LineAgrees (places.Coordinates v) f → part_step m v.part ≡ fine p →
+pub vec_moved : (nt : Notation) → (m : Mark) (v : VectorReader) (f : LineSeen) (b : ℕ) (p : PartReader) (l : Bool) → in_a_part m ≡ true → ((a : Axis) → m ≡ marks.Letter a → ⊥) → (l ≡ true → v.nth ≡ First) → IsMark nt b m → LineAgrees (places.Coordinates v) f → part_step m v.part ≡ fine p →
     LineAgrees (places.Coordinates (record v { part = p; label = l })) (line_seen_step f b)
-vec_moved m v f b p l a n c i h w =
-    (known_step m f v.part p v.nth b a i h.0 w, (stays_by m f b a i).bracket ∙ h.1, digits_by m f v.part p b i h.2 n w, used_by m f b a n i h.3, c)
+vec_moved nt m v f b p l a n c i h w =
+    (known_step nt m f v.part p v.nth b a i h.0 w, (stays_by nt m f b a i).bracket ∙ h.1, digits_by nt m f v.part p b i h.2 n w, used_by nt m f b a n i h.3, c)
 
-pub vec_by : (r : Result PartReader TextKind) (m : Mark) (v : VectorReader) (f : LineSeen) (b : ℕ) (l : Bool) (q : LinePlace) → in_a_part m ≡ true → ((a : Axis) → m ≡ marks.Letter a → ⊥) → (l ≡ true → v.nth ≡ First) → IsMark b m → LineAgrees (places.Coordinates v) f →
+pub vec_by : (nt : Notation) → (r : Result PartReader TextKind) (m : Mark) (v : VectorReader) (f : LineSeen) (b : ℕ) (l : Bool) (q : LinePlace) → in_a_part m ≡ true → ((a : Axis) → m ≡ marks.Letter a → ⊥) → (l ≡ true → v.nth ≡ First) → IsMark nt b m → LineAgrees (places.Coordinates v) f →
     part_step m v.part ≡ r → in_coordinate l v r ≡ placed q → LineAgrees q (line_seen_step f b)
-vec_by (Ok p) m v f b l q a n c i h w e = to_place _ q (line_seen_step f b) e (vec_moved m v f b p l a n c i h w)
-vec_by (Err k) m v f b l q a n c i h w e = no_place _ q e
+vec_by nt (Ok p) m v f b l q a n c i h w e = to_place _ q (line_seen_step f b) e (vec_moved nt m v f b p l a n c i h w)
+vec_by nt (Err k) m v f b l q a n c i h w e = no_place _ q e
 
 pub unlabel : (n : Nth) → false ≡ true → n ≡ First
 unlabel n e = absurd cc
 
-pub vec_sign : (spot : Spot) (s : Sign) (v : VectorReader) (f : LineSeen) (b : ℕ) (q : LinePlace) → v.part.spot ≡ spot → IsMark b (marks.Signs s) → LineAgrees (places.Coordinates v) f → coordinate_sign s spot v ≡ placed q → LineAgrees q (line_seen_step f b)
-vec_sign Begin s v f b q g i h e =
-    to_place _ q (line_seen_step f b) e (vec_moved (marks.Signs s) v f b (with_sign s v.part) false refl (λ a z. cc) (unlabel v.nth) i h (ap (λ x. on_sign_at s x v.part) g))
-vec_sign Signed s v f b q g i h e = no_place _ q e
-vec_sign (Digits n w) s v f b q g i h e = no_place _ q e
-vec_sign (Divided w) s v f b q g i h e = no_place _ q e
-vec_sign (Below w d) s v f b q g i h e = no_place _ q e
-vec_sign Behind s v f b q g i h e = no_place _ q e
+pub vec_sign : (nt : Notation) → (spot : Spot) (s : Sign) (v : VectorReader) (f : LineSeen) (b : ℕ) (q : LinePlace) → v.part.spot ≡ spot → IsMark nt b (marks.Signs s) → LineAgrees (places.Coordinates v) f → coordinate_sign s spot v ≡ placed q → LineAgrees q (line_seen_step f b)
+vec_sign nt Begin s v f b q g i h e =
+    to_place _ q (line_seen_step f b) e (vec_moved nt (marks.Signs s) v f b (with_sign s v.part) false refl (λ a z. cc) (unlabel v.nth) i h (ap (λ x. on_sign_at s x v.part) g))
+vec_sign nt Signed s v f b q g i h e = no_place _ q e
+vec_sign nt (Digits n w) s v f b q g i h e = no_place _ q e
+vec_sign nt (Divided w) s v f b q g i h e = no_place _ q e
+vec_sign nt (Below w d) s v f b q g i h e = no_place _ q e
+vec_sign nt Behind s v f b q g i h e = no_place _ q e
 
-pub vec_comma : (o : Option PartReader) (n : Nth) (v : VectorReader) (f : LineSeen) (q : LinePlace) → v.nth ≡ n → LineAgrees (places.Coordinates v) f → coordinate_comma o v ≡ placed q → LineAgrees q (line_seen_step f 44)
-vec_comma None n v f q i h e = no_place _ q e
-vec_comma (Some p) n v f q i h e = vec_next n v p.row.shift f q (h.0.commas ∙ ap index i) h.1 (ap (λ m. next_coordinate m v p.row.shift) (sym i) ∙ e)
+pub vec_comma : (nt : Notation) → (o : Option PartReader) (n : Nth) (v : VectorReader) (f : LineSeen) (q : LinePlace) → v.nth ≡ n → LineAgrees (places.Coordinates v) f → coordinate_comma nt o v ≡ placed q → LineAgrees q (line_seen_step f 44)
+vec_comma nt None n v f q i h e = no_place _ q e
+vec_comma nt (Some p) n v f q i h e = vec_next nt n v p.row.shift f q (h.0.commas ∙ ap index i) h.1 (ap (λ m. next_coordinate nt m v p.row.shift) (sym i) ∙ e)
   where
-    vec_next : (n : Nth) (v : VectorReader) (x : ℤ) (f : LineSeen) (q : LinePlace) → f.commas ≡ index n → f.bracket ≡ 40 → next_coordinate n v x ≡ placed q → LineAgrees q (line_seen_step f 44)
-    vec_next First v x f q c h e = to_place _ q (line_seen_step f 44) e (known_comma f Second (omega (arith, c)), h, refl, refl, λ z. absurd cc)
-    vec_next Second v x f q c h e = to_place _ q (line_seen_step f 44) e (known_comma f Third (omega (arith, c)), h, refl, refl, λ z. absurd cc)
-    vec_next Third v x f q c h e = no_place _ q e
+    vec_next : (nt : Notation) (n : Nth) (v : VectorReader) (x : ℤ) (f : LineSeen) (q : LinePlace) → f.commas ≡ index n → f.bracket ≡ 40 → next_coordinate nt n v x ≡ placed q → LineAgrees q (line_seen_step f 44)
+    vec_next nt First v x f q c h e = to_place _ q (line_seen_step f 44) e (known_comma f Second (omega (arith, c)), h, refl, refl, λ z. absurd cc)
+    vec_next Pairs Second v x f q c h e = no_place _ q e
+    vec_next Triplets Second v x f q c h e = to_place _ q (line_seen_step f 44) e (known_comma f Third (omega (arith, c)), h, refl, refl, λ z. absurd cc)
+    vec_next nt Third v x f q c h e = no_place _ q e
 
 pub between_close : (f : LineSeen) → Between (line_seen_step f 41)
 between_close f = record { count = refl; other = λ e. omega arith; bracket = λ e. omega arith; used = refl }
 
-pub vec_closed : (n : Nth) (o : Option PartReader) (v : VectorReader) (f : LineSeen) (q : LinePlace) → f.commas ≡ index n → closed_at n o v ≡ placed q → LineAgrees q (line_seen_step f 41)
-vec_closed First None v f q c e = no_place _ q e
-vec_closed Second None v f q c e = no_place _ q e
-vec_closed Third None v f q c e = no_place _ q e
-vec_closed First (Some p) v f q c e = no_place _ q e
-vec_closed Second (Some p) v f q c e = no_place _ q e
-vec_closed Third (Some p) v f q c e = to_place _ q (line_seen_step f 41) e (between_close f, c, refl)
+pub vec_closed : (nt : Notation) → (n : Nth) (o : Option PartReader) (v : VectorReader) (f : LineSeen) (q : LinePlace) → f.commas ≡ index n → closed_at nt n o v ≡ placed q → LineAgrees q (line_seen_step f 41)
+vec_closed nt First None v f q c e = no_place _ q e
+vec_closed nt Second None v f q c e = no_place _ q e
+vec_closed nt Third None v f q c e = no_place _ q e
+vec_closed nt First (Some p) v f q c e = no_place _ q e
+vec_closed Triplets Second (Some p) v f q c e = no_place _ q e
+vec_closed Pairs Second (Some p) v f q c e = to_place _ q (line_seen_step f 41) e (between_close f, omega (arith, c), refl)
+vec_closed Triplets Third (Some p) v f q c e = to_place _ q (line_seen_step f 41) e (between_close f, omega (arith, c), refl)
+vec_closed Pairs Third (Some p) v f q c e = no_place _ q e
 
-pub vec_close : (l d : Bool) (v : VectorReader) (f : LineSeen) (q : LinePlace) → v.label ≡ l → LineAgrees (places.Coordinates v) f → cond (l && d) (placed (places.Operation start)) (closed_at v.nth (settled v.part) v) ≡ placed q → LineAgrees q (line_seen_step f 41)
-vec_close true true v f q i h e = to_place (places.Operation start) q (line_seen_step f 41) e (known_label f (h.0.commas ∙ ap index (h.4 i)), λ z. omega arith)
-vec_close true false v f q i h e = vec_closed v.nth (settled v.part) v f q h.0.commas e
-vec_close false d v f q i h e = vec_closed v.nth (settled v.part) v f q h.0.commas e
+pub vec_close : (nt : Notation) → (l d : Bool) (v : VectorReader) (f : LineSeen) (q : LinePlace) → v.label ≡ l → LineAgrees (places.Coordinates v) f → cond (l && d) (placed (places.Operation start)) (closed_at nt v.nth (settled v.part) v) ≡ placed q → LineAgrees q (line_seen_step f 41)
+vec_close nt true true v f q i h e = to_place (places.Operation start) q (line_seen_step f 41) e (known_label f (h.0.commas ∙ ap index (h.4 i)), λ z. omega arith)
+vec_close nt true false v f q i h e = vec_closed nt v.nth (settled v.part) v f q h.0.commas e
+vec_close nt false d v f q i h e = vec_closed nt v.nth (settled v.part) v f q h.0.commas e
 
-pub vec_step : (m : Mark) (v : VectorReader) (f : LineSeen) (b : ℕ) (q : LinePlace) → IsMark b m → LineAgrees (places.Coordinates v) f → vector_step m v ≡ placed q → LineAgrees q (line_seen_step f b)
-vec_step (marks.Letter a) v f b q i h e = no_place _ q e
-vec_step (marks.Signs s) v f b q i h e = vec_sign v.part.spot s v f b q refl i h e
-vec_step marks.Comma v f b q i h e = subst (λ x. LineAgrees q (line_seen_step f x)) (sym i) (vec_comma (settled v.part) v.nth v f q refl h e)
-vec_step marks.Close v f b q i h e = subst (λ x. LineAgrees q (line_seen_step f x)) (sym i) (vec_close v.label (is_digits v.part.spot) v f q refl h e)
-vec_step (marks.Digit n) v f b q i h e = vec_by (part_step (marks.Digit n) v.part) (marks.Digit n) v f b v.label q refl (λ a z. cc) h.4 i h refl e
-vec_step marks.Blank v f b q i h e = vec_by (part_step marks.Blank v.part) marks.Blank v f b false q refl (λ a z. cc) (unlabel v.nth) i h refl e
-vec_step marks.Slash v f b q i h e = vec_by (part_step marks.Slash v.part) marks.Slash v f b false q refl (λ a z. cc) (unlabel v.nth) i h refl e
-vec_step marks.Hash v f b q i h e = no_place _ q e
-vec_step marks.Open v f b q i h e = no_place _ q e
-vec_step marks.Other v f b q i h e = no_place _ q e
+pub vec_step : (nt : Notation) → (m : Mark) (v : VectorReader) (f : LineSeen) (b : ℕ) (q : LinePlace) → IsMark nt b m → LineAgrees (places.Coordinates v) f → vector_step nt m v ≡ placed q → LineAgrees q (line_seen_step f b)
+vec_step nt (marks.Letter a) v f b q i h e = no_place _ q e
+vec_step nt (marks.Signs s) v f b q i h e = vec_sign nt v.part.spot s v f b q refl i h e
+vec_step nt marks.Comma v f b q i h e = subst (λ x. LineAgrees q (line_seen_step f x)) (sym i) (vec_comma nt (settled v.part) v.nth v f q refl h e)
+vec_step nt marks.Close v f b q i h e = subst (λ x. LineAgrees q (line_seen_step f x)) (sym i) (vec_close nt v.label (is_digits v.part.spot) v f q refl h e)
+vec_step nt (marks.Digit n) v f b q i h e = vec_by nt (part_step (marks.Digit n) v.part) (marks.Digit n) v f b v.label q refl (λ a z. cc) h.4 i h refl e
+vec_step nt marks.Blank v f b q i h e = vec_by nt (part_step marks.Blank v.part) marks.Blank v f b false q refl (λ a z. cc) (unlabel v.nth) i h refl e
+vec_step nt marks.Slash v f b q i h e = vec_by nt (part_step marks.Slash v.part) marks.Slash v f b false q refl (λ a z. cc) (unlabel v.nth) i h refl e
+vec_step nt marks.Hash v f b q i h e = no_place _ q e
+vec_step nt marks.Open v f b q i h e = no_place _ q e
+vec_step nt marks.Other v f b q i h e = no_place _ q e
 
 pub between_blank : (f : LineSeen) (k : Blank) → Between f → Between (line_seen_step f (blank_byte k))
 between_blank f space h = record { count = refl; other = λ e. omega arith; bracket = h.bracket; used = h.used }
@@ -496,52 +502,52 @@ blank_keeps f space = (refl, refl)
 blank_keeps f tab = (refl, refl)
 blank_keeps f carriage_return = (refl, refl)
 
-pub shut_step : (m : Mark) (w : List Part) (f : LineSeen) (b : ℕ) (q : LinePlace) → IsMark b m → LineAgrees (places.Closed w) f → closed_step m w ≡ placed q → LineAgrees q (line_seen_step f b)
-shut_step marks.Blank w f b q i h e = subst (λ x. LineAgrees q (line_seen_step f x)) (sym i.1) (to_place (places.Closed w) q (line_seen_step f (blank_byte i.0)) e (between_blank f i.0 h.0, (blank_keeps f i.0).1 ∙ h.1, (blank_keeps f i.0).0 ∙ h.2))
-shut_step (marks.Signs Plus) w f b q i h e = subst (λ x. LineAgrees q (line_seen_step f x)) (sym i) (to_place places.Behind q (line_seen_step f 43) e (record { count = refl; other = λ e. omega arith; bracket = h.0.bracket; used = h.0.used }, refl))
-shut_step (marks.Signs Minus) w f b q i h e = no_place _ q e
-shut_step (marks.Letter a) w f b q i h e = no_place _ q e
-shut_step (marks.Digit n) w f b q i h e = no_place _ q e
-shut_step marks.Slash w f b q i h e = no_place _ q e
-shut_step marks.Comma w f b q i h e = no_place _ q e
-shut_step marks.Hash w f b q i h e = no_place _ q e
-shut_step marks.Open w f b q i h e = no_place _ q e
-shut_step marks.Close w f b q i h e = no_place _ q e
-shut_step marks.Other w f b q i h e = no_place _ q e
+pub shut_step : (nt : Notation) → (m : Mark) (w : List Part) (f : LineSeen) (b : ℕ) (q : LinePlace) → IsMark nt b m → LineAgrees (places.Closed w) f → closed_step m w ≡ placed q → LineAgrees q (line_seen_step f b)
+shut_step nt marks.Blank w f b q i h e = subst (λ x. LineAgrees q (line_seen_step f x)) (sym i.1) (to_place (places.Closed w) q (line_seen_step f (blank_byte i.0)) e (between_blank f i.0 h.0, omega (arith, (blank_keeps f i.0).1, h.1), (blank_keeps f i.0).0 ∙ h.2))
+shut_step nt (marks.Signs Plus) w f b q i h e = subst (λ x. LineAgrees q (line_seen_step f x)) (sym i) (to_place places.Behind q (line_seen_step f 43) e (record { count = refl; other = λ e. omega arith; bracket = h.0.bracket; used = h.0.used }, refl))
+shut_step nt (marks.Signs Minus) w f b q i h e = no_place _ q e
+shut_step nt (marks.Letter a) w f b q i h e = no_place _ q e
+shut_step nt (marks.Digit n) w f b q i h e = no_place _ q e
+shut_step nt marks.Slash w f b q i h e = no_place _ q e
+shut_step nt marks.Comma w f b q i h e = no_place _ q e
+shut_step nt marks.Hash w f b q i h e = no_place _ q e
+shut_step nt marks.Open w f b q i h e = no_place _ q e
+shut_step nt marks.Close w f b q i h e = no_place _ q e
+shut_step nt marks.Other w f b q i h e = no_place _ q e
 
-pub row_step : (m : Mark) (f : LineSeen) (b : ℕ) (q : LinePlace) → IsMark b m → LineAgrees places.Behind f → behind_step m ≡ placed q → LineAgrees q (line_seen_step f b)
-row_step marks.Blank f b q i h e = subst (λ x. LineAgrees q (line_seen_step f x)) (sym i.1) (to_place places.Behind q (line_seen_step f (blank_byte i.0)) e (between_blank f i.0 h.0, (blank_keeps f i.0).0 ∙ h.1))
-row_step marks.Open f b q i h e = subst (λ x. LineAgrees q (line_seen_step f x)) (sym i) (to_place (places.Coordinates (opened false)) q (line_seen_step f 40) e (known_open f, refl, refl, refl, λ z. refl))
-row_step marks.Hash f b q i h e = to_place (places.Comment None) q (line_seen_step f b) e tt
-row_step (marks.Signs s) f b q i h e = no_place _ q e
-row_step (marks.Letter a) f b q i h e = no_place _ q e
-row_step (marks.Digit n) f b q i h e = no_place _ q e
-row_step marks.Slash f b q i h e = no_place _ q e
-row_step marks.Comma f b q i h e = no_place _ q e
-row_step marks.Close f b q i h e = no_place _ q e
-row_step marks.Other f b q i h e = no_place _ q e
+pub row_step : (nt : Notation) → (m : Mark) (f : LineSeen) (b : ℕ) (q : LinePlace) → IsMark nt b m → LineAgrees places.Behind f → behind_step m ≡ placed q → LineAgrees q (line_seen_step f b)
+row_step nt marks.Blank f b q i h e = subst (λ x. LineAgrees q (line_seen_step f x)) (sym i.1) (to_place places.Behind q (line_seen_step f (blank_byte i.0)) e (between_blank f i.0 h.0, (blank_keeps f i.0).0 ∙ h.1))
+row_step nt marks.Open f b q i h e = subst (λ x. LineAgrees q (line_seen_step f x)) (sym i) (to_place (places.Coordinates (opened false)) q (line_seen_step f 40) e (known_open f, refl, refl, refl, λ z. refl))
+row_step nt marks.Hash f b q i h e = to_place (places.Comment None) q (line_seen_step f b) e tt
+row_step nt (marks.Signs s) f b q i h e = no_place _ q e
+row_step nt (marks.Letter a) f b q i h e = no_place _ q e
+row_step nt (marks.Digit n) f b q i h e = no_place _ q e
+row_step nt marks.Slash f b q i h e = no_place _ q e
+row_step nt marks.Comma f b q i h e = no_place _ q e
+row_step nt marks.Close f b q i h e = no_place _ q e
+row_step nt marks.Other f b q i h e = no_place _ q e
 
-pub place_agrees : (p : LinePlace) (f : LineSeen) (b : ℕ) (q : LinePlace) → LineAgrees p f → place_step (mark b) p ≡ placed q → LineAgrees q (line_seen_step f b)
-place_agrees places.Start f b q h e = from_start_step (mark b) f b q (mark_is b) h e
-place_agrees (places.Operation t) f b q h e = in_op_step (mark b) t f b q (mark_is b) h e
-place_agrees (places.Coordinates v) f b q h e = vec_step (mark b) v f b q (mark_is b) h e
-place_agrees (places.Closed w) f b q h e = shut_step (mark b) w f b q (mark_is b) h e
-place_agrees places.Behind f b q h e = row_step (mark b) f b q (mark_is b) h e
-place_agrees (places.Comment o) f b q h e = to_place (places.Comment o) q (line_seen_step f b) e tt
+pub place_agrees : (nt : Notation) → (p : LinePlace) (f : LineSeen) (b : ℕ) (q : LinePlace) → LineAgrees p f → place_step nt (mark nt b) p ≡ placed q → LineAgrees q (line_seen_step f b)
+place_agrees nt places.Start f b q h e = from_start_step nt (mark nt b) f b q (mark_is nt b) h e
+place_agrees nt (places.Operation t) f b q h e = in_op_step nt (mark nt b) t f b q (mark_is nt b) h e
+place_agrees nt (places.Coordinates v) f b q h e = vec_step nt (mark nt b) v f b q (mark_is nt b) h e
+place_agrees nt (places.Closed w) f b q h e = shut_step nt (mark nt b) w f b q (mark_is nt b) h e
+place_agrees nt places.Behind f b q h e = row_step nt (mark nt b) f b q (mark_is nt b) h e
+place_agrees nt (places.Comment o) f b q h e = to_place (places.Comment o) q (line_seen_step f b) e tt
 
-pub run_by : (r : Result LineState TextKind) (b : ℕ) (bs : List ℕ) (s t : LineState) (f : LineSeen) → ((u : LineState) (g : LineSeen) → LineAgrees u.place g → line_run (Ok u) bs ≡ line_going t → LineAgrees t.place (line_seen g bs)) →
-    LineAgrees s.place f → line_step (mark b) s ≡ r → line_run r bs ≡ line_going t → LineAgrees t.place (line_seen (line_seen_step f b) bs)
-run_by (Ok u) b bs s t f then_on h w e =
-    let p = placed_by (place_step (mark b) s.place) (with_vector (completed (mark b) s.place) s.vectors) u w in
-    then_on u (line_seen_step f b) (subst (λ (x : LineState). LineAgrees x.place (line_seen_step f b)) (sym p.state) (place_agrees s.place f b p.place h p.place_is)) e
-run_by (Err k) b bs s t f then_on h w e = absurd (let z = run_line_stopped k bs in cc)
+pub run_by : (nt : Notation) → (r : Result LineState TextKind) (b : ℕ) (bs : List ℕ) (s t : LineState) (f : LineSeen) → ((u : LineState) (g : LineSeen) → LineAgrees u.place g → line_run nt (Ok u) bs ≡ line_going t → LineAgrees t.place (line_seen g bs)) →
+    LineAgrees s.place f → line_step nt (mark nt b) s ≡ r → line_run nt r bs ≡ line_going t → LineAgrees t.place (line_seen (line_seen_step f b) bs)
+run_by nt (Ok u) b bs s t f then_on h w e =
+    let p = placed_by (place_step nt (mark nt b) s.place) (with_vector (completed (mark nt b) s.place) s.vectors) u w in
+    then_on u (line_seen_step f b) (subst (λ (x : LineState). LineAgrees x.place (line_seen_step f b)) (sym p.state) (place_agrees nt s.place f b p.place h p.place_is)) e
+run_by nt (Err k) b bs s t f then_on h w e = absurd (let z = run_line_stopped nt k bs in cc)
 
-pub run_agrees : (bs : List ℕ) (s t : LineState) (f : LineSeen) → LineAgrees s.place f → line_run (Ok s) bs ≡ line_going t → LineAgrees t.place (line_seen f bs)
-run_agrees [] s t f h e = subst (λ (x : LineState). LineAgrees x.place f) (sym (going_line_is _ t e)) h
-run_agrees (b ∷ bs) s t f h e = run_by (line_step (mark b) s) b bs s t f (λ u g. run_agrees bs u t g) h refl e
+pub run_agrees : (nt : Notation) → (bs : List ℕ) (s t : LineState) (f : LineSeen) → LineAgrees s.place f → line_run nt (Ok s) bs ≡ line_going t → LineAgrees t.place (line_seen f bs)
+run_agrees nt [] s t f h e = subst (λ (x : LineState). LineAgrees x.place f) (sym (going_line_is _ t e)) h
+run_agrees nt (b ∷ bs) s t f h e = run_by nt (line_step nt (mark nt b) s) b bs s t f (λ u g. run_agrees nt bs u t g) h refl e
 
-pub line_agrees : (bs : List ℕ) (t : LineState) → line_run (Ok line_start) bs ≡ line_going t → LineAgrees t.place (line_seen line_seen_start bs)
-line_agrees bs t e = run_agrees bs line_start t line_seen_start (
+pub line_agrees : (nt : Notation) → (bs : List ℕ) (t : LineState) → line_run nt (Ok line_start) bs ≡ line_going t → LineAgrees t.place (line_seen line_seen_start bs)
+line_agrees nt bs t e = run_agrees nt bs line_start t line_seen_start (
   record {
     core = nothing_seen;
     follows = record { other = refl; count = refl; used = refl; mark = inl (refl, (λ e. omega arith), (λ e. omega arith)) };

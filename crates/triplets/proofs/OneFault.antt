@@ -3,6 +3,7 @@ use Rattle.std.proofs.Common.{◌≡◌, ℕ, zero, suc, ◌+◌, ◌<◌, Bool,
 use Rattle.std.specs.Prelude.{slice_get}
 use Rattle.std.proofs.lemmas.List.{take-take}
 use Rattle.symmetry.specs.Groups.{Listing}
+use Rattle.triplets.specs.declared.notation.Notation.{Notation}
 use Rattle.triplets.specs.declared.fault.TextKind.{TextKind}
 use Rattle.triplets.specs.Faults.{TableRow}
 use Rattle.triplets.specs.Places.{IsPrefixIn, IsPlaceIn}
@@ -16,14 +17,14 @@ use Rattle.triplets.proofs.Answered.{only_group, bad_text_lines}
 said_one : (a a' : Said) → (let x : Result Said Fault = Ok a in x) ≡ Ok a' → a ≡ a'
 said_one a a' e = cc
 
-one_said : (text : List ℕ) (b b' : Bool) (g g' : Listing) → IsGroupText text b g → IsGroupText text b' g' → make_said b g ≡ make_said b' g'
-one_said text b b' g g' h h' = said_one (make_said b g) (make_said b' g') (sym (only_group text b g h) ∙ only_group text b' g' h')
+one_said : (nt : Notation) → (text : List ℕ) (b b' : Bool) (g g' : Listing) → IsGroupText nt text b g → IsGroupText nt text b' g' → make_said b g ≡ make_said b' g'
+one_said nt text b b' g g' h h' = said_one (make_said b g) (make_said b' g') (sym (only_group nt text b g h) ∙ only_group nt text b' g' h')
 
-pub one_flag : (text : List ℕ) (b b' : Bool) (g g' : Listing) → IsGroupText text b g → IsGroupText text b' g' → b ≡ b'
-one_flag text b b' g g' h h' = ap (λ (x : Said). x.generated) (one_said text b b' g g' h h')
+pub one_flag : (nt : Notation) → (text : List ℕ) (b b' : Bool) (g g' : Listing) → IsGroupText nt text b g → IsGroupText nt text b' g' → b ≡ b'
+one_flag nt text b b' g g' h h' = ap (λ (x : Said). x.generated) (one_said nt text b b' g g' h h')
 
-pub one_listing : (text : List ℕ) (b b' : Bool) (g g' : Listing) → IsGroupText text b g → IsGroupText text b' g' → g ≡ g'
-one_listing text b b' g g' h h' = ap (λ (x : Said). x.listing) (one_said text b b' g g' h h')
+pub one_listing : (nt : Notation) → (text : List ℕ) (b b' : Bool) (g g' : Listing) → IsGroupText nt text b g → IsGroupText nt text b' g' → g ≡ g'
+one_listing nt text b b' g g' h h' = ap (λ (x : Said). x.listing) (one_said nt text b b' g g' h h')
 
 -- ---- the place
 
@@ -47,38 +48,38 @@ row_one below (inl h) (inr h') = absurd (h'.0 h.0)
 row_one below (inr h) (inl h') = absurd (h.0 h'.0)
 row_one below (inr h) (inr h') = below h.1 h'.1
 
-pub one_line_kind : (before : List ℕ) (b : ℕ) (k k' : TextKind) → HasLineKind before b k → HasLineKind before b k' → k ≡ k'
-one_line_kind before b k k' = row_one (row_one (row_one (row_one (row_one (row_one (row_one (row_one (λ e e'. e ∙ sym e'))))))))
+pub one_line_kind : (nt : Notation) → (before : List ℕ) (b : ℕ) (k k' : TextKind) → HasLineKind nt before b k → HasLineKind nt before b k' → k ≡ k'
+one_line_kind nt before b k k' = row_one (row_one (row_one (row_one (row_one (row_one (row_one (row_one (λ e e'. e ∙ sym e'))))))))
 
-one_kind_at : (before : List ℕ) (at : Option ℕ) (k k' : TextKind) → HasLineKindAt before at k → HasLineKindAt before at k' → k ≡ k'
-one_kind_at before None k k' e e' = e ∙ sym e'
-one_kind_at before (Some b) k k' h h' = one_line_kind before b k k' h h'
+one_kind_at : (nt : Notation) → (before : List ℕ) (at : Option ℕ) (k k' : TextKind) → HasLineKindAt nt before at k → HasLineKindAt nt before at k' → k ≡ k'
+one_kind_at nt before None k k' e e' = e ∙ sym e'
+one_kind_at nt before (Some b) k k' h h' = one_line_kind nt before b k k' h h'
 
 -- ---- the first bad line
 
-one_line_fault : (Good : List ℕ → Type 0) (l : List ℕ) (m n : ℕ) (k k' : TextKind) → IsFaultIn Good l m k → IsFaultIn Good l n k' → (m ≡ n) × (k ≡ k')
-one_line_fault Good l m n k k' h h' =
+one_line_fault : (nt : Notation) → (Good : List ℕ → Type 0) (l : List ℕ) (m n : ℕ) (k k' : TextKind) → IsFaultIn nt Good l m k → IsFaultIn nt Good l n k' → (m ≡ n) × (k ≡ k')
+one_line_fault nt Good l m n k k' h h' =
     let e = one_place Good l m n h.place h'.place in
-    (e, one_kind_at (take m l) (slice_get l m) k k' h.kind_is (subst (λ i. HasLineKindAt (take i l) (slice_get l i) k') (sym e) h'.kind_is))
+    (e, one_kind_at nt (take m l) (slice_get l m) k k' h.kind_is (subst (λ i. HasLineKindAt nt (take i l) (slice_get l i) k') (sym e) h'.kind_is))
 
-one_bad : (Good : List ℕ → Type 0) (ls : List (List ℕ)) (i j m n : ℕ) (k k' : TextKind) → IsFirstBad Good ls i m k → IsFirstBad Good ls j n k' → (i ≡ j) × ((m ≡ n) × (k ≡ k'))
-one_bad Good [] i j m n k k' h h' = absurd h
-one_bad Good (l ∷ ls) zero zero m n k k' h h' = (refl, one_line_fault Good l m n k k' h h')
-one_bad Good (l ∷ ls) zero (suc j) m n k k' h h' = absurd (h.place.good h'.0)
-one_bad Good (l ∷ ls) (suc i) zero m n k k' h h' = absurd (h'.place.good h.0)
-one_bad Good (l ∷ ls) (suc i) (suc j) m n k k' h h' = let e = one_bad IsGoodLine ls i j m n k k' h.1 h'.1 in (ap suc e.0, e.1)
+one_bad : (nt : Notation) → (Good : List ℕ → Type 0) (ls : List (List ℕ)) (i j m n : ℕ) (k k' : TextKind) → IsFirstBad nt Good ls i m k → IsFirstBad nt Good ls j n k' → (i ≡ j) × ((m ≡ n) × (k ≡ k'))
+one_bad nt Good [] i j m n k k' h h' = absurd h
+one_bad nt Good (l ∷ ls) zero zero m n k k' h h' = (refl, one_line_fault nt Good l m n k k' h h')
+one_bad nt Good (l ∷ ls) zero (suc j) m n k k' h h' = absurd (h.place.good h'.0)
+one_bad nt Good (l ∷ ls) (suc i) zero m n k k' h h' = absurd (h'.place.good h.0)
+one_bad nt Good (l ∷ ls) (suc i) (suc j) m n k k' h h' = let e = one_bad nt (IsGoodLine nt) ls i j m n k k' h.1 h'.1 in (ap suc e.0, e.1)
 
 abbrev fault_with : ℕ → ℕ → TextKind → Fault
 fault_with line column kind = record { line = line; column = column; kind = kind }
 
-pub one_fault : (text : List ℕ) (f f' : Fault) → IsTextFault text f → IsTextFault text f' → f ≡ f'
-one_fault text f f' h h' =
-    let e = one_bad IsGoodFirstLine (lines_of text) h.0 h'.0 h.1 h'.1 f.kind f'.kind h.4 h'.4 in
+pub one_fault : (nt : Notation) → (text : List ℕ) (f f' : Fault) → IsTextFault nt text f → IsTextFault nt text f' → f ≡ f'
+one_fault nt text f f' h h' =
+    let e = one_bad nt (IsGoodFirstLine nt) (lines_of text) h.0 h'.0 h.1 h'.1 f.kind f'.kind h.4 h'.4 in
     let line : f.line ≡ f'.line = cc in
     let column : f.column ≡ f'.column = cc in
     let kind : f.kind ≡ f'.kind = e.1.1 in
     let same : fault_with f.line f.column f.kind ≡ fault_with f'.line f'.column f'.kind = cc in
     same
 
-pub no_listing_and_fault : (text : List ℕ) (b : Bool) (g : Listing) (f : Fault) → IsTextFault text f → IsGroupText text b g → ⊥
-no_listing_and_fault text b g f h h' = bad_text_lines b (lines_of text) h.0 h.1 f.kind g h.4 h'
+pub no_listing_and_fault : (nt : Notation) → (text : List ℕ) (b : Bool) (g : Listing) (f : Fault) → IsTextFault nt text f → IsGroupText nt text b g → ⊥
+no_listing_and_fault nt text b g f h h' = bad_text_lines nt b (lines_of text) h.0 h.1 f.kind g h.4 h'

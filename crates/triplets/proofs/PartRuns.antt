@@ -1,5 +1,6 @@
 -- The run of the reader of a part over several bytes, and its states.
 use Rattle.std.proofs.Common.{◌≡◌, ℕ, ◌+◌, List, [], ◌∷◌, ◌++◌, length, Result, Ok, Err, refl, ◌∙◌, ap}
+use Rattle.triplets.specs.declared.notation.Notation.{Notation}
 use Rattle.triplets.specs.declared.fault.TextKind.{TextKind}
 use Rattle.triplets.specs.declared.part.PartReader.{PartReader}
 use Rattle.triplets.specs.declared.part.Spot.{Spot}
@@ -8,21 +9,21 @@ use Rattle.triplets.specs.Marks.{mark}
 use Rattle.triplets.specs.PartReading.{part_step}
 use Rattle.triplets.specs.Grammar.{Blank, Term, letter, multiple, whole, fraction, Lead, bare, sign, more, lead_row, lead_sign, lead_letters, with_term, with_letters, numerator_value}
 
-abbrev pub part_advance : Result PartReader TextKind → ℕ → Result PartReader TextKind
-part_advance (Ok p) b = part_step (mark b) p
-part_advance (Err k) b = Err k
+abbrev pub part_advance : (nt : Notation) → Result PartReader TextKind → ℕ → Result PartReader TextKind
+part_advance nt (Ok p) b = part_step (mark nt b) p
+part_advance nt (Err k) b = Err k
 
-abbrev pub run_part : Result PartReader TextKind → List ℕ → Result PartReader TextKind
-run_part r [] = r
-run_part r (b ∷ bs) = run_part (part_advance r b) bs
+abbrev pub run_part : (nt : Notation) → Result PartReader TextKind → List ℕ → Result PartReader TextKind
+run_part nt r [] = r
+run_part nt r (b ∷ bs) = run_part nt (part_advance nt r b) bs
 
-pub run_part-append : (r : Result PartReader TextKind) (xs ys : List ℕ) → run_part r (xs ++ ys) ≡ run_part (run_part r xs) ys
-run_part-append r [] ys = refl
-run_part-append r (x ∷ xs) ys = run_part-append (part_advance r x) xs ys
+pub run_part-append : (nt : Notation) → (r : Result PartReader TextKind) (xs ys : List ℕ) → run_part nt r (xs ++ ys) ≡ run_part nt (run_part nt r xs) ys
+run_part-append nt r [] ys = refl
+run_part-append nt r (x ∷ xs) ys = run_part-append nt (part_advance nt r x) xs ys
 
 -- one run behind another
-pub run_then : (r s t : Result PartReader TextKind) (xs ys : List ℕ) → run_part r xs ≡ s → run_part s ys ≡ t → run_part r (xs ++ ys) ≡ t
-run_then r s t xs ys p q = run_part-append r xs ys ∙ (ap (λ (u : Result PartReader TextKind). run_part u ys) p ∙ q)
+pub run_then : (nt : Notation) → (r s t : Result PartReader TextKind) (xs ys : List ℕ) → run_part nt r xs ≡ s → run_part nt s ys ≡ t → run_part nt r (xs ++ ys) ≡ t
+run_then nt r s t xs ys p q = run_part-append nt r xs ys ∙ (ap (λ (u : Result PartReader TextKind). run_part nt u ys) p ∙ q)
 
 -- where the reader stands behind what is written
 

@@ -8,6 +8,7 @@ use Rattle.fractions.specs.declared.part.TheConstants.{UNIT}
 use Rattle.fractions.specs.LowestTerms.{lowest_terms}
 use Rattle.symmetry.specs.Vectors.{Vector}
 use Rattle.symmetry.specs.Sizes.{IsVectorWithin}
+use Rattle.triplets.specs.declared.notation.Notation.TheVariants.{Triplets, Pairs}
 use Rattle.triplets.specs.declared.marks.Axis.{Axis}
 use Rattle.triplets.specs.declared.marks.Axis.TheVariants.{X, Y, Z}
 use Rattle.motions.specs.declared.motion.Sign.{Sign}
@@ -29,10 +30,10 @@ record IsNone (text : List ℕ) (row : Row) (letters : Used) : Type 0 where
 
 -- signed terms that are a part of the grammar, with this value and these letters, where no plus stands first
 record IsSome (text : List ℕ) (row : Row) (letters : Used) : Type 0 where
-  tree : Written
+  tree : Written Triplets
   shows : 0 < length (without_leading_plus text)
-  text_is : without_leading_plus text ≡ part_text tree
-  row_is : part_row tree ≡ row
+  text_is : without_leading_plus text ≡ part_text Triplets tree
+  row_is : part_row Triplets tree ≡ row
   letters_are : with_letters tree.last (lead_letters tree.lead) ≡ letters
 
 AreTerms : List ℕ → Row → Used → Type 0
@@ -56,7 +57,7 @@ term_shows (multiple d h a c) = omega arith
 term_shows (whole n) = omega arith
 term_shows (fraction n d) = omega arith
 
-first_term : (s : Sign) (t : Term) (text : List ℕ) → IsNew t unused → text ≡ sign_byte s ∷ term_text t
+first_term : (s : Sign) (t : Term) (text : List ℕ) → IsNew Triplets t unused → text ≡ sign_byte s ∷ term_text t
     → IsSome text (with_term s t zero_row) (with_letters t unused)
 first_term Plus t text new e = record {
   tree = record { lead = bare []; last = t; after = []; good = tt; new = new };
@@ -77,7 +78,7 @@ behind : (lead last after : List ℕ) (s : ℕ) (term : List ℕ)
     → (lead ++ (last ++ after)) ++ s ∷ term ≡ (lead ++ (last ++ (after ++ s ∷ []))) ++ (term ++ [])
 behind lead last after s term = simp (append_assoc, append-nil)
 
-further_term : (s : Sign) (t : Term) (text new_text : List ℕ) (row : Row) (letters : Used) → IsSome text row letters → IsNew t letters
+further_term : (s : Sign) (t : Term) (text new_text : List ℕ) (row : Row) (letters : Used) → IsSome text row letters → IsNew Triplets t letters
     → new_text ≡ sign_byte s ∷ term_text t → IsSome (text ++ new_text) (with_term s t row) (with_letters t letters)
 further_term s t text new_text row letters h new e =
     let w = h.tree in
@@ -88,7 +89,7 @@ further_term s t text new_text row letters h new e =
         last = t;
         after = [];
         good = (w.good, w.new);
-        new = subst (λ (u : Used). IsNew t u) (sym h.letters_are) new;
+        new = subst (λ (u : Used). IsNew Triplets t u) (sym h.letters_are) new;
       };
       shows = omega (arith, ap length longer, length-append (without_leading_plus text) new_text, h.shows);
       text_is = longer ∙ (λ i. h.text_is i ++ e i) ∙ behind (lead_text w.lead) (term_text w.last) (blanks_text w.after) (sign_byte s) (term_text t);
@@ -163,16 +164,16 @@ number_step (negsuc n) text row letters short none terms =
 
 -- a part of the grammar that is written so, with this value
 record WritesTerms (text : List ℕ) (row : Row) : Type 0 where
-  tree : Written
-  text_is : or_zero (without_leading_plus text) ≡ part_text tree
-  row_is : part_row tree ≡ row
+  tree : Written Triplets
+  text_is : or_zero (without_leading_plus text) ≡ part_text Triplets tree
+  row_is : part_row Triplets tree ≡ row
 
 or_zero-shows : (bs : List ℕ) → 0 < length bs → or_zero bs ≡ bs
 or_zero-shows [] h = absurd (omega arith)
 or_zero-shows (b ∷ bs) h = refl
 
 -- the part `0`
-zero_part : Written
+zero_part : Written Triplets
 zero_part = record {
   lead = bare [];
   last = whole (record { first = digit 0 (omega arith); others = []; short = omega arith });
@@ -211,9 +212,9 @@ z_free c (negsuc n) u = z_free_of_x c u
 
 -- a part of the grammar that is written as a row and a number are, and says them
 pub record WritesRow (r : Vector) (t : ℤ) : Type 0 where
-  pub tree : Written
-  pub text_is : row_text r t ≡ part_text tree
-  pub row_is : part_row tree ≡ record { x = r.x; y = r.y; z = r.z; shift = t }
+  pub tree : Written Triplets
+  pub text_is : row_text r t ≡ part_text Triplets tree
+  pub row_is : part_row Triplets tree ≡ record { x = r.x; y = r.y; z = r.z; shift = t }
 
 no_terms : AreTerms [] zero_row unused
 unfolding AreTerms

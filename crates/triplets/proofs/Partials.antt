@@ -3,6 +3,7 @@ use Rattle.std.proofs.Common.{◌≡◌, ℕ, suc, ◌+◌, ◌*◌, ◌≤◌, 
 use Rattle.std.specs.Prelude.{nat_le, nat_lt, ◌==◌, ◌&&◌}
 use Rattle.std.proofs.lemmas.Bool.Decides.{nat_tests}
 use Rattle.std.proofs.lemmas.List.{map-append, append-nil}
+use Rattle.triplets.specs.declared.notation.Notation.{Notation}
 use Rattle.triplets.specs.declared.marks.Axis.{Axis}
 use Rattle.motions.specs.declared.motion.Sign.{Sign}
 use Rattle.triplets.specs.declared.fault.TextKind.{TextKind}
@@ -11,7 +12,7 @@ use Rattle.triplets.specs.declared.marks.Mark.{Mark}
 use Rattle.triplets.specs.declared.marks.Mark.TheVariants as marks
 use Rattle.triplets.specs.declared.part.PartReader.{PartReader}
 use Rattle.triplets.specs.declared.part.Spot.TheVariants.{Digits, Divided, Below}
-use Rattle.triplets.specs.Marks.{mark}
+use Rattle.triplets.specs.Marks.{has_axis, mark}
 use Rattle.triplets.specs.Rows.{uses}
 use Rattle.triplets.specs.Denominators.{Denominator, denominator_text}
 use Rattle.triplets.specs.PartReading.{part_step, settled, on_blank, on_sign, on_letter, on_digit, on_digit_at, on_slash, on_new_letter_at, below_or, with_letter, with_spot}
@@ -22,34 +23,34 @@ use Rattle.triplets.proofs.Divisors.{at_least_one, further_tells, first_text, fu
 use Rattle.triplets.proofs.PartRuns.{state, lead_state, behind_state, lead_spot}
 
 -- the beginning of a part
-pub data Partial : Type 0 where
-  lead : (l : Lead) → IsLead l → Partial
-  digits : (l : Lead) → IsLead l → (d : Digit) → (ds : List Digit) → length ds ≤ 2 → Partial
-  divided : (l : Lead) → IsLead l → Numerator → Partial
-  below : (l : Lead) → IsLead l → Numerator → Denominator → Partial
-  behind : Written → Partial
+pub data Partial (nt : Notation) : Type 0 where
+  lead : (l : Lead) → IsLead nt l → Partial nt
+  digits : (l : Lead) → IsLead nt l → (d : Digit) → (ds : List Digit) → length ds ≤ 2 → Partial nt
+  divided : (l : Lead) → IsLead nt l → Numerator → Partial nt
+  below : (l : Lead) → IsLead nt l → Numerator → Denominator → Partial nt
+  behind : Written nt → Partial nt
 
-abbrev pub partial_text : Partial → List ℕ
-partial_text (lead l good) = lead_text l
-partial_text (digits l good d ds short) = lead_text l ++ d.byte ∷ digits_text ds
-partial_text (divided l good n) = lead_text l ++ (numerator_text n ++ 47 ∷ [])
-partial_text (below l good n u) = lead_text l ++ (numerator_text n ++ 47 ∷ denominator_text u)
-partial_text (behind w) = part_text w
+abbrev pub partial_text : (nt : Notation) → Partial nt → List ℕ
+partial_text nt (lead l good) = lead_text l
+partial_text nt (digits l good d ds short) = lead_text l ++ d.byte ∷ digits_text ds
+partial_text nt (divided l good n) = lead_text l ++ (numerator_text n ++ 47 ∷ [])
+partial_text nt (below l good n u) = lead_text l ++ (numerator_text n ++ 47 ∷ denominator_text u)
+partial_text nt (behind w) = part_text nt w
 
-abbrev pub partial_state : Partial → PartReader
-partial_state (lead l good) = lead_state l
-partial_state (digits l good d ds short) = state l (Digits (1 + length ds) (decimal (digit_value d) ds))
-partial_state (divided l good n) = state l (Divided (numerator_value n))
-partial_state (below l good n u) = state l (Below (numerator_value n) u.number)
-partial_state (behind w) = behind_state w.lead w.last
+abbrev pub partial_state : (nt : Notation) → Partial nt → PartReader
+partial_state nt (lead l good) = lead_state l
+partial_state nt (digits l good d ds short) = state l (Digits (1 + length ds) (decimal (digit_value d) ds))
+partial_state nt (divided l good n) = state l (Divided (numerator_value n))
+partial_state nt (below l good n u) = state l (Below (numerator_value n) u.number)
+partial_state nt (behind w) = behind_state w.lead w.last
 
 -- the beginning of a coordinate
-abbrev pub IsLike : Partial → Type 0
-IsLike (lead l good) = IsFirst l
-IsLike (digits l good d ds short) = IsFirst l
-IsLike (divided l good n) = IsFirst l
-IsLike (below l good n u) = IsFirst l
-IsLike (behind w) = IsFirst w.lead × IsNumber w.last
+abbrev pub IsLike : (nt : Notation) → Partial nt → Type 0
+IsLike nt (lead l good) = IsFirst l
+IsLike nt (digits l good d ds short) = IsFirst l
+IsLike nt (divided l good n) = IsFirst l
+IsLike nt (below l good n u) = IsFirst l
+IsLike nt (behind w) = IsFirst w.lead × IsNumber w.last
 
 -- the marks that a coordinate has anywhere
 abbrev pub is_plain : Mark → Bool
@@ -59,11 +60,11 @@ is_plain marks.Slash = true
 is_plain _ = false
 
 -- one more byte
-pub record Grows (q : Partial) (b : ℕ) (p : PartReader) (plain : Bool) : Type 0 where
-  pub to : Partial
-  pub like : plain ≡ true → IsLike q → IsLike to
-  pub text : partial_text q ++ b ∷ [] ≡ partial_text to
-  pub state : p ≡ partial_state to
+pub record Grows (nt : Notation) (q : Partial nt) (b : ℕ) (p : PartReader) (plain : Bool) : Type 0 where
+  pub to : Partial nt
+  pub like : plain ≡ true → IsLike nt q → IsLike nt to
+  pub text : partial_text nt q ++ b ∷ [] ≡ partial_text nt to
+  pub state : p ≡ partial_state nt to
 
 abbrev pub fine : PartReader → Result PartReader TextKind
 fine p = Ok p
@@ -94,34 +95,34 @@ met true k r p e = (refl, e)
 pub blanks_more : (bs : List Blank) (k : Blank) → blanks_text bs ++ blank_byte k ∷ [] ≡ blanks_text (bs ++ k ∷ [])
 blanks_more bs k = sym (map-append blank_byte bs (k ∷ []))
 
-on_blank_grows : (q : Partial) (k : Blank) (p : PartReader) → on_blank (partial_state q) ≡ fine p → Grows q (blank_byte k) p true
-on_blank_grows (lead (bare bs) good) k p e = record { to = lead (bare (bs ++ k ∷ [])) tt; like = λ z h. h; text = blanks_more bs k; state = ok_is _ p e }
-on_blank_grows (lead (sign bs s cs) good) k p e = record {
+on_blank_grows : (nt : Notation) → (q : Partial nt) (k : Blank) (p : PartReader) → on_blank (partial_state nt q) ≡ fine p → Grows nt q (blank_byte k) p true
+on_blank_grows nt (lead (bare bs) good) k p e = record { to = lead (bare (bs ++ k ∷ [])) tt; like = λ z h. h; text = blanks_more bs k; state = ok_is _ p e }
+on_blank_grows nt (lead (sign bs s cs) good) k p e = record {
   to = lead (sign bs s (cs ++ k ∷ [])) tt;
   like = λ z h. h;
   text = simp append_assoc (ap (λ (x : List ℕ). blanks_text bs ++ sign_byte s ∷ x) (blanks_more cs k));
   state = ok_is _ p e;
 }
-on_blank_grows (lead (more l t bs s cs) good) k p e = record {
+on_blank_grows nt (lead (more l t bs s cs) good) k p e = record {
   to = lead (more l t bs s (cs ++ k ∷ [])) good;
   like = λ z h. h;
   text = simp append_assoc (ap (λ (x : List ℕ). lead_text l ++ (term_text t ++ (blanks_text bs ++ sign_byte s ∷ x))) (blanks_more cs k));
   state = ok_is _ p e;
 }
-on_blank_grows (digits l good d ds short) k p e = record {
+on_blank_grows nt (digits l good d ds short) k p e = record {
   to = behind (record { lead = l; last = whole (record { first = d; others = ds; short = short }); after = k ∷ []; good = good; new = tt });
   like = λ z h. (h, tt);
   text = simp append_assoc;
   state = ok_is _ p e;
 }
-on_blank_grows (divided l good n) k p e = err_is _ p e
-on_blank_grows (below l good n u) k p e = record {
+on_blank_grows nt (divided l good n) k p e = err_is _ p e
+on_blank_grows nt (below l good n u) k p e = record {
   to = behind (record { lead = l; last = fraction n u; after = k ∷ []; good = good; new = tt });
   like = λ z h. (h, tt);
   text = simp append_assoc;
   state = ok_is _ p e;
 }
-on_blank_grows (behind w) k p e = record {
+on_blank_grows nt (behind w) k p e = record {
   to = behind (record w { after = w.after ++ k ∷ [] });
   like = λ z h. h;
   text = simp append_assoc (ap (λ (x : List ℕ). lead_text w.lead ++ (term_text w.last ++ x)) (blanks_more w.after k));
@@ -130,24 +131,24 @@ on_blank_grows (behind w) k p e = record {
 
 -- ---- a sign
 
-on_sign_grows : (q : Partial) (s : Sign) (p : PartReader) → on_sign s (partial_state q) ≡ fine p → Grows q (sign_byte s) p false
-on_sign_grows (lead (bare bs) good) s p e = record { to = lead (sign bs s []) tt; like = λ z h. absurd cc; text = refl; state = ok_is _ p e }
-on_sign_grows (lead (sign bs r cs) good) s p e = err_is _ p e
-on_sign_grows (lead (more l t bs r cs) good) s p e = err_is _ p e
-on_sign_grows (digits l good d ds short) s p e = record {
+on_sign_grows : (nt : Notation) → (q : Partial nt) (s : Sign) (p : PartReader) → on_sign s (partial_state nt q) ≡ fine p → Grows nt q (sign_byte s) p false
+on_sign_grows nt (lead (bare bs) good) s p e = record { to = lead (sign bs s []) tt; like = λ z h. absurd cc; text = refl; state = ok_is _ p e }
+on_sign_grows nt (lead (sign bs r cs) good) s p e = err_is _ p e
+on_sign_grows nt (lead (more l t bs r cs) good) s p e = err_is _ p e
+on_sign_grows nt (digits l good d ds short) s p e = record {
   to = lead (more l (whole (record { first = d; others = ds; short = short })) [] s []) (good, tt);
   like = λ z h. absurd cc;
   text = simp append_assoc;
   state = ok_is _ p e;
 }
-on_sign_grows (divided l good n) s p e = err_is _ p e
-on_sign_grows (below l good n u) s p e = record {
+on_sign_grows nt (divided l good n) s p e = err_is _ p e
+on_sign_grows nt (below l good n u) s p e = record {
   to = lead (more l (fraction n u) [] s []) (good, tt);
   like = λ z h. absurd cc;
   text = simp append_assoc;
   state = ok_is _ p e;
 }
-on_sign_grows (behind w) s p e = record {
+on_sign_grows nt (behind w) s p e = record {
   to = lead (more w.lead w.last w.after s []) (w.good, w.new);
   like = λ z h. absurd cc;
   text = simp append_assoc;
@@ -156,10 +157,10 @@ on_sign_grows (behind w) s p e = record {
 
 -- ---- a letter
 
-letter_lead : (l : Lead) (good : IsLead l) (a : Axis) (c : Bool) (p : PartReader) → uses a (lead_letters l) ≡ false → on_new_letter_at a (lead_spot l) (lead_state l) ≡ fine p → Grows (lead l good) (letter_byte a c) p false
-letter_lead (bare bs) good a c p new e = record { to = behind (record { lead = bare bs; last = letter a c; after = []; good = good; new = new }); like = λ z h. absurd cc; text = refl; state = ok_is _ p e }
-letter_lead (sign bs s cs) good a c p new e = record { to = behind (record { lead = sign bs s cs; last = letter a c; after = []; good = good; new = new }); like = λ z h. absurd cc; text = refl; state = ok_is _ p e }
-letter_lead (more l t bs s cs) good a c p new e = record { to = behind (record { lead = more l t bs s cs; last = letter a c; after = []; good = good; new = new }); like = λ z h. absurd cc; text = refl; state = ok_is _ p e }
+letter_lead : (nt : Notation) → (l : Lead) (good : IsLead nt l) (a : Axis) (c : Bool) (p : PartReader) → has_axis nt a ≡ true → uses a (lead_letters l) ≡ false → on_new_letter_at a (lead_spot l) (lead_state l) ≡ fine p → Grows nt (lead l good) (letter_byte a c) p false
+letter_lead nt (bare bs) good a c p axis new e = record { to = behind (record { lead = bare bs; last = letter a c; after = []; good = good; new = (axis, new) }); like = λ z h. absurd cc; text = refl; state = ok_is _ p e }
+letter_lead nt (sign bs s cs) good a c p axis new e = record { to = behind (record { lead = sign bs s cs; last = letter a c; after = []; good = good; new = (axis, new) }); like = λ z h. absurd cc; text = refl; state = ok_is _ p e }
+letter_lead nt (more l t bs s cs) good a c p axis new e = record { to = behind (record { lead = more l t bs s cs; last = letter a c; after = []; good = good; new = (axis, new) }); like = λ z h. absurd cc; text = refl; state = ok_is _ p e }
 
 positive : (d : Digit) → nat_lt 0 (digit_value d) ≡ true → 49 ≤ d.byte
 positive d h = grind (arith, nat_tests)
@@ -167,25 +168,25 @@ positive d h = grind (arith, nat_tests)
 not_one : (n : ℕ) (b : Bool) → (((1 + suc n) == 1) && b) ≡ true → ⊥
 not_one n b h = grind (arith, nat_tests)
 
-letter_digits : (l : Lead) (good : IsLead l) (d : Digit) (ds : List Digit) (short : length ds ≤ 2) (a : Axis) (c : Bool) (p : PartReader) → uses a (lead_letters l) ≡ false →
-    on_new_letter_at a (Digits (1 + length ds) (decimal (digit_value d) ds)) (partial_state (digits l good d ds short)) ≡ fine p → Grows (digits l good d ds short) (letter_byte a c) p false
-letter_digits l good d [] short a c p new e =
-    let h = met (nat_lt 0 (digit_value d)) kinds.Coefficient (Ok (with_letter a (digit_value d) (partial_state (digits l good d [] short)))) p e in
+letter_digits : (nt : Notation) → (l : Lead) (good : IsLead nt l) (d : Digit) (ds : List Digit) (short : length ds ≤ 2) (a : Axis) (c : Bool) (p : PartReader) → has_axis nt a ≡ true → uses a (lead_letters l) ≡ false →
+    on_new_letter_at a (Digits (1 + length ds) (decimal (digit_value d) ds)) (partial_state nt (digits l good d ds short)) ≡ fine p → Grows nt (digits l good d ds short) (letter_byte a c) p false
+letter_digits nt l good d [] short a c p axis new e =
+    let h = met (nat_lt 0 (digit_value d)) kinds.Coefficient (Ok (with_letter a (digit_value d) (partial_state nt (digits l good d [] short)))) p e in
     record {
-      to = behind (record { lead = l; last = multiple d (positive d h.0) a c; after = []; good = good; new = new });
+      to = behind (record { lead = l; last = multiple d (positive d h.0) a c; after = []; good = good; new = (axis, new) });
       like = λ z h. absurd cc;
       text = simp append_assoc;
       state = ok_is _ p h.1;
     }
-letter_digits l good d (f ∷ ds) short a c p new e =
+letter_digits nt l good d (f ∷ ds) short a c p axis new e =
     absurd (not_one (length ds) _ (met _ kinds.Coefficient _ p e).0)
 
-on_letter_grows : (q : Partial) (a : Axis) (c : Bool) (p : PartReader) → on_letter a (partial_state q) ≡ fine p → Grows q (letter_byte a c) p false
-on_letter_grows (lead l good) a c p e = let h = passed _ _ _ p e in letter_lead l good a c p h.0 h.1
-on_letter_grows (digits l good d ds short) a c p e = let h = passed _ _ _ p e in letter_digits l good d ds short a c p h.0 h.1
-on_letter_grows (divided l good n) a c p e = err_is _ p (passed _ _ _ p e).1
-on_letter_grows (below l good n u) a c p e = err_is _ p (passed _ _ _ p e).1
-on_letter_grows (behind w) a c p e = err_is _ p (passed _ _ _ p e).1
+on_letter_grows : (nt : Notation) → (q : Partial nt) (a : Axis) (c : Bool) (p : PartReader) → has_axis nt a ≡ true → on_letter a (partial_state nt q) ≡ fine p → Grows nt q (letter_byte a c) p false
+on_letter_grows nt (lead l good) a c p axis e = let h = passed _ _ _ p e in letter_lead nt l good a c p axis h.0 h.1
+on_letter_grows nt (digits l good d ds short) a c p axis e = let h = passed _ _ _ p e in letter_digits nt l good d ds short a c p axis h.0 h.1
+on_letter_grows nt (divided l good n) a c p axis e = err_is _ p (passed _ _ _ p e).1
+on_letter_grows nt (below l good n u) a c p axis e = err_is _ p (passed _ _ _ p e).1
+on_letter_grows nt (behind w) a c p axis e = err_is _ p (passed _ _ _ p e).1
 
 -- ---- a digit
 
@@ -199,10 +200,10 @@ digits_more ds d = sym (map-append (λ (x : Digit). x.byte) ds (d ∷ []))
 length_more : (ds : List Digit) (d : Digit) → length (ds ++ d ∷ []) ≡ length ds + 1
 length_more ds d = length-append ds (d ∷ [])
 
-digit_lead : (l : Lead) (good : IsLead l) (d : Digit) (p : PartReader) → on_digit_at (digit_value d) (lead_spot l) (lead_state l) ≡ fine p → Grows (lead l good) d.byte p true
-digit_lead (bare bs) good d p e = record { to = digits (bare bs) good d [] (omega arith); like = λ z h. h; text = refl; state = ok_is _ p e }
-digit_lead (sign bs s cs) good d p e = record { to = digits (sign bs s cs) good d [] (omega arith); like = λ z h. h; text = refl; state = ok_is _ p e }
-digit_lead (more l t bs s cs) good d p e = record { to = digits (more l t bs s cs) good d [] (omega arith); like = λ z h. h; text = refl; state = ok_is _ p e }
+digit_lead : (nt : Notation) → (l : Lead) (good : IsLead nt l) (d : Digit) (p : PartReader) → on_digit_at (digit_value d) (lead_spot l) (lead_state l) ≡ fine p → Grows nt (lead l good) d.byte p true
+digit_lead nt (bare bs) good d p e = record { to = digits (bare bs) good d [] (omega arith); like = λ z h. h; text = refl; state = ok_is _ p e }
+digit_lead nt (sign bs s cs) good d p e = record { to = digits (sign bs s cs) good d [] (omega arith); like = λ z h. h; text = refl; state = ok_is _ p e }
+digit_lead nt (more l t bs s cs) good d p e = record { to = digits (more l t bs s cs) good d [] (omega arith); like = λ z h. h; text = refl; state = ok_is _ p e }
 
 not_three : (n : ℕ) → nat_le 3 (1 + n) ≡ false → n + 1 ≤ 2
 not_three n h = grind (arith, nat_tests)
@@ -210,8 +211,8 @@ not_three n h = grind (arith, nat_tests)
 digits_state : (l : Lead) (n v m w : ℕ) → n ≡ m → v ≡ w → state l (Digits n v) ≡ state l (Digits m w)
 digits_state l n v m w e f = cc
 
-digit_digits : (l : Lead) (good : IsLead l) (d : Digit) (ds : List Digit) (short : length ds ≤ 2) (f : Digit) (p : PartReader) → on_digit (digit_value f) (partial_state (digits l good d ds short)) ≡ fine p → Grows (digits l good d ds short) f.byte p true
-digit_digits l good d ds short f p e =
+digit_digits : (nt : Notation) → (l : Lead) (good : IsLead nt l) (d : Digit) (ds : List Digit) (short : length ds ≤ 2) (f : Digit) (p : PartReader) → on_digit (digit_value f) (partial_state nt (digits l good d ds short)) ≡ fine p → Grows nt (digits l good d ds short) f.byte p true
+digit_digits nt l good d ds short f p e =
     let h = passed _ _ _ p e in
     let room = not_three (length ds) h.0 in
     record {
@@ -225,10 +226,10 @@ pub below_is : (v : ℕ) (o : Option ℕ) (q p : PartReader) → below_or v o q 
 below_is v None q p e = err_is _ p e
 below_is v (Some u) q p e = (u, refl, ok_is _ p e)
 
-on_digit_grows : (q : Partial) (d : Digit) (p : PartReader) → on_digit (digit_value d) (partial_state q) ≡ fine p → Grows q d.byte p true
-on_digit_grows (lead l good) d p e = digit_lead l good d p e
-on_digit_grows (digits l good f ds short) d p e = digit_digits l good f ds short d p e
-on_digit_grows (divided l good n) d p e =
+on_digit_grows : (nt : Notation) → (q : Partial nt) (d : Digit) (p : PartReader) → on_digit (digit_value d) (partial_state nt q) ≡ fine p → Grows nt q d.byte p true
+on_digit_grows nt (lead l good) d p e = digit_lead nt l good d p e
+on_digit_grows nt (digits l good f ds short) d p e = digit_digits nt l good f ds short d p e
+on_digit_grows nt (divided l good n) d p e =
     let h = below_is _ _ _ p e in
     let t = further_tells 0 (digit_value d) h.0 h.1 in
     record {
@@ -237,7 +238,7 @@ on_digit_grows (divided l good n) d p e =
       text = simp append_assoc (ap (λ (x : List ℕ). lead_text l ++ (numerator_text n ++ 47 ∷ x)) (first_text d h.0 t.0));
       state = h.2;
     }
-on_digit_grows (below l good n u) d p e =
+on_digit_grows nt (below l good n u) d p e =
     let h = below_is _ _ _ p e in
     let t = further_tells u.number (digit_value d) h.0 h.1 in
     record {
@@ -246,90 +247,90 @@ on_digit_grows (below l good n u) d p e =
       text = simp append_assoc (ap (λ (x : List ℕ). lead_text l ++ (numerator_text n ++ 47 ∷ x)) (further_text u.number d h.0 (at_least_one u.number u.divides) t.0 t.1));
       state = h.2;
     }
-on_digit_grows (behind w) d p e = err_is _ p e
+on_digit_grows nt (behind w) d p e = err_is _ p e
 
 -- ---- a slash
 
-on_slash_grows : (q : Partial) (p : PartReader) → on_slash (partial_state q) ≡ fine p → Grows q 47 p true
-on_slash_grows (lead (bare bs) good) p e = err_is _ p e
-on_slash_grows (lead (sign bs s cs) good) p e = err_is _ p e
-on_slash_grows (lead (more l t bs s cs) good) p e = err_is _ p e
-on_slash_grows (digits l good d ds short) p e = record {
+on_slash_grows : (nt : Notation) → (q : Partial nt) (p : PartReader) → on_slash (partial_state nt q) ≡ fine p → Grows nt q 47 p true
+on_slash_grows nt (lead (bare bs) good) p e = err_is _ p e
+on_slash_grows nt (lead (sign bs s cs) good) p e = err_is _ p e
+on_slash_grows nt (lead (more l t bs s cs) good) p e = err_is _ p e
+on_slash_grows nt (digits l good d ds short) p e = record {
   to = divided l good (record { first = d; others = ds; short = short });
   like = λ z h. h;
   text = simp append_assoc;
   state = ok_is _ p e;
 }
-on_slash_grows (divided l good n) p e = err_is _ p e
-on_slash_grows (below l good n u) p e = err_is _ p e
-on_slash_grows (behind w) p e = err_is _ p e
+on_slash_grows nt (divided l good n) p e = err_is _ p e
+on_slash_grows nt (below l good n u) p e = err_is _ p e
+on_slash_grows nt (behind w) p e = err_is _ p e
 
-pub grows_by : (m : Mark) (q : Partial) (b : ℕ) (p : PartReader) → IsMark b m → part_step m (partial_state q) ≡ fine p → Grows q b p (is_plain m)
-grows_by marks.Blank q b p h e = subst (λ c. Grows q c p true) (sym h.1) (on_blank_grows q h.0 p e)
-grows_by (marks.Signs s) q b p h e = subst (λ c. Grows q c p false) (sym h) (on_sign_grows q s p e)
-grows_by (marks.Letter a) q b p h e = subst (λ c. Grows q c p false) (sym h.1) (on_letter_grows q a h.0 p e)
-grows_by (marks.Digit n) q b p h e = subst (λ c. Grows q c p true) (sym h.1) (on_digit_grows q h.0 p (subst (λ k. on_digit k (partial_state q) ≡ fine p) h.2 e))
-grows_by marks.Slash q b p h e = subst (λ c. Grows q c p true) (sym h) (on_slash_grows q p e)
-grows_by marks.Comma q b p h e = err_is _ p e
-grows_by marks.Hash q b p h e = err_is _ p e
-grows_by marks.Open q b p h e = err_is _ p e
-grows_by marks.Close q b p h e = err_is _ p e
-grows_by marks.Other q b p h e = err_is _ p e
+pub grows_by : (nt : Notation) → (m : Mark) (q : Partial nt) (b : ℕ) (p : PartReader) → IsMark nt b m → part_step m (partial_state nt q) ≡ fine p → Grows nt q b p (is_plain m)
+grows_by nt marks.Blank q b p h e = subst (λ c. Grows nt q c p true) (sym h.1) (on_blank_grows nt q h.0 p e)
+grows_by nt (marks.Signs s) q b p h e = subst (λ c. Grows nt q c p false) (sym h) (on_sign_grows nt q s p e)
+grows_by nt (marks.Letter a) q b p h e = subst (λ c. Grows nt q c p false) (sym h.1) (on_letter_grows nt q a h.0 p h.2 e)
+grows_by nt (marks.Digit n) q b p h e = subst (λ c. Grows nt q c p true) (sym h.1) (on_digit_grows nt q h.0 p (subst (λ k. on_digit k (partial_state nt q) ≡ fine p) h.2 e))
+grows_by nt marks.Slash q b p h e = subst (λ c. Grows nt q c p true) (sym h) (on_slash_grows nt q p e)
+grows_by nt marks.Comma q b p h e = err_is _ p e
+grows_by nt marks.Hash q b p h e = err_is _ p e
+grows_by nt marks.Open q b p h e = err_is _ p e
+grows_by nt marks.Close q b p h e = err_is _ p e
+grows_by nt marks.Other q b p h e = err_is _ p e
 
-pub grows : (q : Partial) (b : ℕ) (p : PartReader) → part_step (mark b) (partial_state q) ≡ fine p → Grows q b p (is_plain (mark b))
-grows q b p e = grows_by (mark b) q b p (mark_is b) e
+pub grows : (nt : Notation) → (q : Partial nt) (b : ℕ) (p : PartReader) → part_step (mark nt b) (partial_state nt q) ≡ fine p → Grows nt q b p (is_plain (mark nt b))
+grows nt q b p e = grows_by nt (mark nt b) q b p (mark_is nt b) e
 
 -- what is written up to a whole part
-pub whole_part : (q : Partial) (p : PartReader) → settled (partial_state q) ≡ some_part p → (w : Written) × (partial_text q ≡ part_text w) × (p.row ≡ part_row w)
-whole_part (lead (bare bs) good) p e = absurd cc
-whole_part (lead (sign bs s cs) good) p e = absurd cc
-whole_part (lead (more l t bs s cs) good) p e = absurd cc
-whole_part (digits l good d ds short) p e = (
+pub whole_part : (nt : Notation) → (q : Partial nt) (p : PartReader) → settled (partial_state nt q) ≡ some_part p → (w : Written nt) × (partial_text nt q ≡ part_text nt w) × (p.row ≡ part_row nt w)
+whole_part nt (lead (bare bs) good) p e = absurd cc
+whole_part nt (lead (sign bs s cs) good) p e = absurd cc
+whole_part nt (lead (more l t bs s cs) good) p e = absurd cc
+whole_part nt (digits l good d ds short) p e = (
   record { lead = l; last = whole (record { first = d; others = ds; short = short }); after = []; good = good; new = tt },
   ap (λ (x : List ℕ). lead_text l ++ x) (sym (append-nil (d.byte ∷ digits_text ds))),
   ap (λ (x : PartReader). x.row) (some_is _ p e),
 )
-whole_part (divided l good n) p e = absurd cc
-whole_part (below l good n u) p e = (
+whole_part nt (divided l good n) p e = absurd cc
+whole_part nt (below l good n u) p e = (
   record { lead = l; last = fraction n u; after = []; good = good; new = tt },
   ap (λ (x : List ℕ). lead_text l ++ x) (sym (append-nil (term_text (fraction n u)))),
   ap (λ (x : PartReader). x.row) (some_is _ p e),
 )
-whole_part (behind w) p e = (w, refl, ap (λ (x : PartReader). x.row) (some_is _ p e))
+whole_part nt (behind w) p e = (w, refl, ap (λ (x : PartReader). x.row) (some_is _ p e))
 
 -- a whole coordinate
-pub record WholeCoordinate (q : Partial) (p : PartReader) : Type 0 where
-  pub coordinate : Coordinate
-  pub text : partial_text q ≡ coordinate_text coordinate
-  pub value : p.row.shift ≡ coordinate_value coordinate
+pub record WholeCoordinate (nt : Notation) (q : Partial nt) (p : PartReader) : Type 0 where
+  pub coordinate : Coordinate nt
+  pub text : partial_text nt q ≡ coordinate_text nt coordinate
+  pub value : p.row.shift ≡ coordinate_value nt coordinate
 
 shift_is : (p q : PartReader) → some_part p ≡ some_part q → q.row.shift ≡ p.row.shift
 shift_is p q e = ap (λ (x : PartReader). x.row.shift) (some_is p q e)
 
-pub whole_coordinate : (q : Partial) (p : PartReader) → IsLike q → settled (partial_state q) ≡ some_part p → WholeCoordinate q p
-whole_coordinate (lead (bare bs) good) p h e = absurd cc
-whole_coordinate (lead (sign bs s cs) good) p h e = absurd cc
-whole_coordinate (lead (more l t bs s cs) good) p h e = absurd cc
-whole_coordinate (digits l good d ds short) p h e = record {
+pub whole_coordinate : (nt : Notation) → (q : Partial nt) (p : PartReader) → IsLike nt q → settled (partial_state nt q) ≡ some_part p → WholeCoordinate nt q p
+whole_coordinate nt (lead (bare bs) good) p h e = absurd cc
+whole_coordinate nt (lead (sign bs s cs) good) p h e = absurd cc
+whole_coordinate nt (lead (more l t bs s cs) good) p h e = absurd cc
+whole_coordinate nt (digits l good d ds short) p h e = record {
   coordinate = record { part = record { lead = l; last = whole (record { first = d; others = ds; short = short }); after = []; good = good; new = tt }; first = h; number = tt };
   text = ap (λ (x : List ℕ). lead_text l ++ x) (sym (append-nil (d.byte ∷ digits_text ds)));
   value = shift_is _ p e;
 }
-whole_coordinate (divided l good n) p h e = absurd cc
-whole_coordinate (below l good n u) p h e = record {
+whole_coordinate nt (divided l good n) p h e = absurd cc
+whole_coordinate nt (below l good n u) p h e = record {
   coordinate = record { part = record { lead = l; last = fraction n u; after = []; good = good; new = tt }; first = h; number = tt };
   text = ap (λ (x : List ℕ). lead_text l ++ x) (sym (append-nil (term_text (fraction n u))));
   value = shift_is _ p e;
 }
-whole_coordinate (behind w) p h e = record { coordinate = record { part = w; first = h.0; number = h.1 }; text = refl; value = shift_is _ p e }
+whole_coordinate nt (behind w) p h e = record { coordinate = record { part = w; first = h.0; number = h.1 }; text = refl; value = shift_is _ p e }
 
 -- one digit more
 pub record DigitMore (l : Lead) (d : Digit) (ds : List Digit) (f : Digit) (p : PartReader) : Type 0 where
   pub short : length (ds ++ f ∷ []) ≤ 2
   pub state : p ≡ state l (Digits (1 + length (ds ++ f ∷ [])) (decimal (digit_value d) (ds ++ f ∷ [])))
 
-pub digit_more : (l : Lead) (good : IsLead l) (d : Digit) (ds : List Digit) (short : length ds ≤ 2) (f : Digit) (p : PartReader) → on_digit (digit_value f) (partial_state (digits l good d ds short)) ≡ fine p → DigitMore l d ds f p
-digit_more l good d ds short f p e =
+pub digit_more : (nt : Notation) → (l : Lead) (good : IsLead nt l) (d : Digit) (ds : List Digit) (short : length ds ≤ 2) (f : Digit) (p : PartReader) → on_digit (digit_value f) (partial_state nt (digits l good d ds short)) ≡ fine p → DigitMore l d ds f p
+digit_more nt l good d ds short f p e =
     let h = passed _ _ _ p e in
     let room = not_three (length ds) h.0 in
     record {

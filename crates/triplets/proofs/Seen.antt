@@ -2,6 +2,8 @@
 use Rattle.std.proofs.Common.{◌≡◌, ◌≢◌, ℕ, ◌+◌, ◌*◌, ◌≤◌, Bool, true, false, List, [], ◌∷◌, Option, Some, None, Result, Ok, Err, refl, sym, ap, subst, arith}
 use Rattle.std.specs.Prelude.{◌==◌, if◌then◌else◌}
 use Rattle.std.proofs.lemmas.Bool.Decides.{nat_tests}
+use Rattle.triplets.specs.declared.notation.Notation.{Notation}
+use Rattle.triplets.specs.declared.notation.Notation.TheVariants.{Triplets, Pairs}
 use Rattle.triplets.specs.declared.marks.Axis.{Axis}
 use Rattle.triplets.specs.declared.marks.Axis.TheVariants.{X, Y, Z}
 use Rattle.motions.specs.declared.motion.Sign.{Sign}
@@ -178,58 +180,59 @@ agrees_slash Behind r u g f q e h w = err_is _ q w
 pub along : (b c : ℕ) (q : PartReader) (f g : Seen) → b ≡ c → seen_step f c ≡ g → Agrees q g → Agrees q (seen_step f b)
 along b c q f g e h a = subst (λ x. Agrees q (seen_step f x)) (sym e) (subst (λ x. Agrees q x) (sym h) a)
 
-pub agrees_part : (m : Mark) (p : PartReader) (f : Seen) (b : ℕ) (q : PartReader) → IsMark b m → Agrees p f → part_step m p ≡ fine q → Agrees q (seen_step f b)
-agrees_part marks.Blank p f b q i h w = along b _ q f _ i.1 (seen_blank f i.0) (agrees_blank p.spot p.row p.used p.sign f i.0 q h.used h.spot w)
-agrees_part (marks.Signs s) p f b q i h w = along b _ q f _ i (seen_sign f s) (agrees_sign p.spot p.row p.used p.sign f s q h.used h.spot w)
-agrees_part (marks.Letter a) p f b q i h w = along b _ q f _ i.1 (seen_letter f a i.0) (agrees_letter p.spot p.row p.used p.sign f a i.0 q h.used (passed _ _ _ q w).1)
-agrees_part (marks.Digit n) p f b q i h w = along b _ q f _ i.1 (seen_digit f i.0) (agrees_digit p.spot p.row p.used p.sign f i.0 q h.used h.spot (subst (λ k. on_digit k p ≡ fine q) i.2 w))
-agrees_part marks.Slash p f b q i h w = along b _ q f _ i refl (agrees_slash p.spot p.row p.used p.sign f q h.used h.spot w)
-agrees_part marks.Comma p f b q i h w = err_is _ q w
-agrees_part marks.Hash p f b q i h w = err_is _ q w
-agrees_part marks.Open p f b q i h w = err_is _ q w
-agrees_part marks.Close p f b q i h w = err_is _ q w
-agrees_part marks.Other p f b q i h w = err_is _ q w
+pub agrees_part : (nt : Notation) → (m : Mark) (p : PartReader) (f : Seen) (b : ℕ) (q : PartReader) → IsMark nt b m → Agrees p f → part_step m p ≡ fine q → Agrees q (seen_step f b)
+agrees_part nt marks.Blank p f b q i h w = along b _ q f _ i.1 (seen_blank f i.0) (agrees_blank p.spot p.row p.used p.sign f i.0 q h.used h.spot w)
+agrees_part nt (marks.Signs s) p f b q i h w = along b _ q f _ i (seen_sign f s) (agrees_sign p.spot p.row p.used p.sign f s q h.used h.spot w)
+agrees_part nt (marks.Letter a) p f b q i h w = along b _ q f _ i.1 (seen_letter f a i.0) (agrees_letter p.spot p.row p.used p.sign f a i.0 q h.used (passed _ _ _ q w).1)
+agrees_part nt (marks.Digit n) p f b q i h w = along b _ q f _ i.1 (seen_digit f i.0) (agrees_digit p.spot p.row p.used p.sign f i.0 q h.used h.spot (subst (λ k. on_digit k p ≡ fine q) i.2 w))
+agrees_part nt marks.Slash p f b q i h w = along b _ q f _ i refl (agrees_slash p.spot p.row p.used p.sign f q h.used h.spot w)
+agrees_part nt marks.Comma p f b q i h w = err_is _ q w
+agrees_part nt marks.Hash p f b q i h w = err_is _ q w
+agrees_part nt marks.Open p f b q i h w = err_is _ q w
+agrees_part nt marks.Close p f b q i h w = err_is _ q w
+agrees_part nt marks.Other p f b q i h w = err_is _ q w
 
 pub agrees_begin : Agrees begin (record { mark = 44; other = 44; count = 0; used = unused })
 agrees_begin = record { used = refl; spot = (refl, refl, λ e. omega arith) }
 
-pub agrees_comma : (o : Option PartReader) (s t : TripletReader) (f : Seen) → comma_at o s ≡ going t → Agrees t.part (seen_step f 44)
-agrees_comma None s t f w = absurd cc
-agrees_comma (Some p) s t f w = agrees_next s.nth s t p.row f w
+pub agrees_comma : (nt : Notation) → (o : Option PartReader) (s t : TripletReader) (f : Seen) → comma_at nt o s ≡ going t → Agrees t.part (seen_step f 44)
+agrees_comma nt None s t f w = absurd cc
+agrees_comma nt (Some p) s t f w = agrees_next nt s.nth s t p.row f w
   where
-    agrees_next : (n : Nth) (s t : TripletReader) (r : rows.Row) (f : Seen) → next_part n s r ≡ going t → Agrees t.part (seen_step f 44)
-    agrees_next First s t r f w = subst (λ (x : TripletReader). Agrees x.part (seen_step f 44)) (sym (going_is _ t w)) agrees_begin
-    agrees_next Second s t r f w = subst (λ (x : TripletReader). Agrees x.part (seen_step f 44)) (sym (going_is _ t w)) agrees_begin
-    agrees_next Third s t r f w = absurd cc
+    agrees_next : (nt : Notation) (n : Nth) (s t : TripletReader) (r : rows.Row) (f : Seen) → next_part nt n s r ≡ going t → Agrees t.part (seen_step f 44)
+    agrees_next nt First s t r f w = subst (λ (x : TripletReader). Agrees x.part (seen_step f 44)) (sym (going_is _ t w)) agrees_begin
+    agrees_next Pairs Second s t r f w = absurd cc
+    agrees_next Triplets Second s t r f w = subst (λ (x : TripletReader). Agrees x.part (seen_step f 44)) (sym (going_is _ t w)) agrees_begin
+    agrees_next nt Third s t r f w = absurd cc
 
-pub agrees_in_part : (m : Mark) (s t : TripletReader) (f : Seen) (b : ℕ) → IsMark b m → Agrees s.part f → in_part s (part_step m s.part) ≡ going t → Agrees t.part (seen_step f b)
-agrees_in_part m s t f b i h w =
+pub agrees_in_part : (nt : Notation) → (m : Mark) (s t : TripletReader) (f : Seen) (b : ℕ) → IsMark nt b m → Agrees s.part f → in_part s (part_step m s.part) ≡ going t → Agrees t.part (seen_step f b)
+agrees_in_part nt m s t f b i h w =
     let p = part_step_is (part_step m s.part) s t w in
-    subst (λ (x : TripletReader). Agrees x.part (seen_step f b)) (sym p.state) (agrees_part m s.part f b p.part i h p.part_is)
+    subst (λ (x : TripletReader). Agrees x.part (seen_step f b)) (sym p.state) (agrees_part nt m s.part f b p.part i h p.part_is)
 
-pub agrees_by : (m : Mark) (s t : TripletReader) (f : Seen) (b : ℕ) → IsMark b m → Agrees s.part f → step m s ≡ going t → Agrees t.part (seen_step f b)
-agrees_by marks.Blank s t f b i h w = agrees_in_part marks.Blank s t f b i h w
-agrees_by (marks.Signs g) s t f b i h w = agrees_in_part (marks.Signs g) s t f b i h w
-agrees_by (marks.Letter a) s t f b i h w = agrees_in_part (marks.Letter a) s t f b i h w
-agrees_by (marks.Digit n) s t f b i h w = agrees_in_part (marks.Digit n) s t f b i h w
-agrees_by marks.Slash s t f b i h w = agrees_in_part marks.Slash s t f b i h w
-agrees_by marks.Comma s t f b i h w = subst (λ x. Agrees t.part (seen_step f x)) (sym i) (agrees_comma (settled s.part) s t f w)
-agrees_by marks.Hash s t f b i h w = absurd cc
-agrees_by marks.Open s t f b i h w = agrees_in_part marks.Open s t f b i h w
-agrees_by marks.Close s t f b i h w = agrees_in_part marks.Close s t f b i h w
-agrees_by marks.Other s t f b i h w = agrees_in_part marks.Other s t f b i h w
+pub agrees_by : (nt : Notation) → (m : Mark) (s t : TripletReader) (f : Seen) (b : ℕ) → IsMark nt b m → Agrees s.part f → step nt m s ≡ going t → Agrees t.part (seen_step f b)
+agrees_by nt marks.Blank s t f b i h w = agrees_in_part nt marks.Blank s t f b i h w
+agrees_by nt (marks.Signs g) s t f b i h w = agrees_in_part nt (marks.Signs g) s t f b i h w
+agrees_by nt (marks.Letter a) s t f b i h w = agrees_in_part nt (marks.Letter a) s t f b i h w
+agrees_by nt (marks.Digit n) s t f b i h w = agrees_in_part nt (marks.Digit n) s t f b i h w
+agrees_by nt marks.Slash s t f b i h w = agrees_in_part nt marks.Slash s t f b i h w
+agrees_by nt marks.Comma s t f b i h w = subst (λ x. Agrees t.part (seen_step f x)) (sym i) (agrees_comma nt (settled s.part) s t f w)
+agrees_by nt marks.Hash s t f b i h w = absurd cc
+agrees_by nt marks.Open s t f b i h w = agrees_in_part nt marks.Open s t f b i h w
+agrees_by nt marks.Close s t f b i h w = agrees_in_part nt marks.Close s t f b i h w
+agrees_by nt marks.Other s t f b i h w = agrees_in_part nt marks.Other s t f b i h w
 
-pub stopped_runs : (k : TextKind) (bs : List ℕ) (t : TripletReader) → run (stopped k) bs ≡ going t → ⊥
-stopped_runs k bs t e = let h = run_stopped k bs in cc
+pub stopped_runs : (nt : Notation) → (k : TextKind) (bs : List ℕ) (t : TripletReader) → run nt (stopped k) bs ≡ going t → ⊥
+stopped_runs nt k bs t e = let h = run_stopped nt k bs in cc
 
-pub agrees_on : (r : Result TripletReader TextKind) (b : ℕ) (bs : List ℕ) (s t : TripletReader) (f : Seen) → ((u : TripletReader) (g : Seen) → Agrees u.part g → run (Ok u) bs ≡ going t → Agrees t.part (seen g bs)) →
-    Agrees s.part f → step (mark b) s ≡ r → run r bs ≡ going t → Agrees t.part (seen (seen_step f b) bs)
-agrees_on (Ok u) b bs s t f further h e w = further u (seen_step f b) (agrees_by (mark b) s u f b (mark_is b) h e) w
-agrees_on (Err k) b bs s t f further h e w = absurd (stopped_runs k bs t w)
+pub agrees_on : (nt : Notation) → (r : Result TripletReader TextKind) (b : ℕ) (bs : List ℕ) (s t : TripletReader) (f : Seen) → ((u : TripletReader) (g : Seen) → Agrees u.part g → run nt (Ok u) bs ≡ going t → Agrees t.part (seen g bs)) →
+    Agrees s.part f → step nt (mark nt b) s ≡ r → run nt r bs ≡ going t → Agrees t.part (seen (seen_step f b) bs)
+agrees_on nt (Ok u) b bs s t f further h e w = further u (seen_step f b) (agrees_by nt (mark nt b) s u f b (mark_is nt b) h e) w
+agrees_on nt (Err k) b bs s t f further h e w = absurd (stopped_runs nt k bs t w)
 
-pub agrees_run : (bs : List ℕ) (s t : TripletReader) (f : Seen) → Agrees s.part f → run (Ok s) bs ≡ going t → Agrees t.part (seen f bs)
-agrees_run [] s t f h w = subst (λ (x : TripletReader). Agrees x.part f) (sym (going_is _ t w)) h
-agrees_run (b ∷ bs) s t f h w = agrees_on (step (mark b) s) b bs s t f (λ u g. agrees_run bs u t g) h refl w
+pub agrees_run : (nt : Notation) → (bs : List ℕ) (s t : TripletReader) (f : Seen) → Agrees s.part f → run nt (Ok s) bs ≡ going t → Agrees t.part (seen f bs)
+agrees_run nt [] s t f h w = subst (λ (x : TripletReader). Agrees x.part f) (sym (going_is _ t w)) h
+agrees_run nt (b ∷ bs) s t f h w = agrees_on nt (step nt (mark nt b) s) b bs s t f (λ u g. agrees_run nt bs u t g) h refl w
 
-pub agrees : (bs : List ℕ) (t : TripletReader) → run (Ok start) bs ≡ going t → Agrees t.part (seen nothing_seen bs)
-agrees bs t w = agrees_run bs start t nothing_seen (record { used = refl; spot = (refl, refl, λ e. omega arith) }) w
+pub agrees : (nt : Notation) → (bs : List ℕ) (t : TripletReader) → run nt (Ok start) bs ≡ going t → Agrees t.part (seen nothing_seen bs)
+agrees nt bs t w = agrees_run nt bs start t nothing_seen (record { used = refl; spot = (refl, refl, λ e. omega arith) }) w

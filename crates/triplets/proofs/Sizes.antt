@@ -9,14 +9,17 @@ use Rattle.symmetry.specs.Groups.{Listing}
 use Rattle.symmetry.specs.Sizes.{IsVectorWithin}
 use Rattle.motions.specs.declared.motion.Sign.{Sign}
 use Rattle.motions.specs.declared.motion.Sign.TheVariants.{Plus, Minus}
+use Rattle.triplets.specs.declared.notation.Notation.{Notation}
+use Rattle.triplets.specs.declared.notation.Notation.TheVariants.{Triplets, Pairs}
 use Rattle.triplets.specs.declared.marks.Axis.{Axis}
 use Rattle.triplets.specs.declared.marks.Axis.TheVariants.{X, Y, Z}
 use Rattle.triplets.specs.declared.part.Row.{Row}
 use Rattle.triplets.specs.Rows.{signed, with_entry, with_shift, zero_row, matrix_row, motion_with}
 use Rattle.triplets.specs.Denominators.{unit, parts as parts_over}
-use Rattle.triplets.specs.Grammar.{Digit, digit_value, Numerator, decimal, numerator_value, Term, letter, multiple, whole, fraction, term_text, with_term, Lead, bare, sign, more, lead_text, lead_row, lead_sign, sign_byte, blanks_text, Written, part_text, part_row, IsTriplet}
-use Rattle.triplets.specs.Lines.{coordinate_text, Centring, centring_text, centring_value, Centrings, one, further, centrings_text, centrings_value, Form, empty, operation, row, form_text, form_value, label_text, comment_text, IsLine}
+use Rattle.triplets.specs.Grammar.{Digit, digit_value, Numerator, decimal, numerator_value, Term, letter, multiple, whole, fraction, term_text, with_term, Lead, bare, sign, more, lead_text, lead_row, lead_sign, sign_byte, blanks_text, Written, ThirdPart, part_text, part_row, third_text, third_row, IsOperation}
+use Rattle.triplets.specs.Lines.{coordinate_text, third_coordinate_text, third_coordinate_value, ThirdCoordinate, Centring, centring_text, centring_value, Centrings, one, further, centrings_text, centrings_value, Form, empty, operation, row, form_text, form_value, label_text, comment_text, IsLine}
 use Rattle.triplets.specs.Texts.{lines_of, with_front, listed_then, nothing_listed, AreLines, AreTextLines, IsGroupText}
+use Rattle.integers.specs.Size.{IsWithin}
 use Rattle.motions.specs.ListedSizes.{IsSmallWithin, IsListedSmall}
 use Rattle.motions.specs.declared.listed.Listed.{Listed}
 use Rattle.motions.specs.Views.{motion_of, parts, listing_of}
@@ -75,8 +78,8 @@ lead_small (more l t bs s cs) =
     more_bytes (length (lead_text l) + length (term_text t)) _ _ (omega (arith, length-append (lead_text l) (term_text t ++ tail), length-append (term_text t) tail))
     (term_small t (lead_sign l) (length (lead_text l)) (lead_row l) (lead_small l))
 
-part_small : (w : Written) (n : ℕ) → length (part_text w) ≤ n → IsRowSmall n (part_row w)
-part_small w n h =
+part_small : (nt : Notation) → (w : Written nt) (n : ℕ) → length (part_text nt w) ≤ n → IsRowSmall n (part_row nt w)
+part_small nt w n h =
     more_bytes (length (lead_text w.lead) + length (term_text w.last)) n _
     (omega (arith, length-append (lead_text w.lead) (term_text w.last ++ blanks_text w.after), length-append (term_text w.last) (blanks_text w.after)))
     (term_small w.last (lead_sign w.lead) (length (lead_text w.lead)) (lead_row w.lead) (lead_small w.lead))
@@ -95,44 +98,52 @@ row_within n q r s h a b c = record {
   matrix = record { first = row_size 9 (omega arith) n q a; second = row_size 9 (omega arith) n r b; third = row_size 9 (omega arith) n s c };
 }
 
-parts_within : (v w x : Written) (n : ℕ) → n ≤ 16777216 → length (part_text v ++ (44 ∷ (part_text w ++ (44 ∷ part_text x)))) ≤ n → IsSmallWithin 9 (motion_with (part_row v) (part_row w) (part_row x))
-parts_within v w x n h i =
-    let a = length-append (part_text v) (44 ∷ (part_text w ++ (44 ∷ part_text x))) in
-    let b = length-append (part_text w) (44 ∷ part_text x) in
-    row_within n (part_row v) (part_row w) (part_row x) h (part_small v n (omega arith)) (part_small w n (omega arith)) (part_small x n (omega arith))
+third_small : (nt : Notation) (x : ThirdPart nt) (n : ℕ) → length (third_text nt x) ≤ n → IsRowSmall n (third_row nt x)
+third_small Triplets x n h = part_small Triplets x n (omega arith)
+third_small Pairs x n h = record { x = omega arith; y = omega arith; z = omega arith; shift = omega arith }
 
-pub triplet_small : (bytes : List ℕ) (m : Motion) → length bytes ≤ 16777216 → IsTriplet bytes m → IsSmallWithin 9 m
-triplet_small bytes m h t =
-    subst (IsSmallWithin 9) (sym t.rows) (parts_within t.one t.two t.three (length bytes) h (let e = ap length t.text in omega arith))
+parts_within : (nt : Notation) → (v w : Written nt) (x : ThirdPart nt) (n : ℕ) → n ≤ 16777216 → length (part_text nt v ++ (44 ∷ (part_text nt w ++ third_text nt x))) ≤ n → IsSmallWithin 9 (motion_with (part_row nt v) (part_row nt w) (third_row nt x))
+parts_within nt v w x n h i =
+    let a = length-append (part_text nt v) (44 ∷ (part_text nt w ++ third_text nt x)) in
+    let b = length-append (part_text nt w) (third_text nt x) in
+    row_within n (part_row nt v) (part_row nt w) (third_row nt x) h (part_small nt v n (omega arith)) (part_small nt w n (omega arith)) (third_small nt x n (omega arith))
+
+pub triplet_small : (nt : Notation) → (bytes : List ℕ) (m : Motion) → length bytes ≤ 16777216 → IsOperation nt bytes m → IsSmallWithin 9 m
+triplet_small nt bytes m h t =
+    subst (IsSmallWithin 9) (sym t.rows) (parts_within nt t.one t.two t.three (length bytes) h (let e = ap length t.text in omega arith))
 
 -- ---- a line
 
-centring_small : (v : Centring) (n : ℕ) → n ≤ 16777216 → length (centring_text v) ≤ n → IsVectorWithin (2 ^ 40) (centring_value v)
-centring_small v n h i =
+third_coordinate_small : (nt : Notation) (c : ThirdCoordinate nt) (n : ℕ) → n ≤ 16777216 → length (third_coordinate_text nt c) ≤ n → IsWithin (2 ^ 40) (third_coordinate_value nt c)
+third_coordinate_small Triplets c n h i = record { most = let s = (part_small Triplets c.part n (omega arith)).shift in omega arith }
+third_coordinate_small Pairs c n h i = record { most = omega arith }
+
+centring_small : (nt : Notation) → (v : Centring nt) (n : ℕ) → n ≤ 16777216 → length (centring_text nt v) ≤ n → IsVectorWithin (2 ^ 40) (centring_value nt v)
+centring_small nt v n h i =
     let tail5 : List ℕ = blanks_text v.between ++ 43 ∷ [] in
-    let tail3 : List ℕ = coordinate_text v.three ++ (41 ∷ tail5) in
-    let tail2 : List ℕ = coordinate_text v.two ++ (44 ∷ tail3) in
-    let tail1 : List ℕ = coordinate_text v.one ++ (44 ∷ tail2) in
+    let tail3 : List ℕ = third_coordinate_text nt v.three ++ (41 ∷ tail5) in
+    let tail2 : List ℕ = coordinate_text nt v.two ++ tail3 in
+    let tail1 : List ℕ = coordinate_text nt v.one ++ (44 ∷ tail2) in
     let a = length-append (blanks_text v.before) (40 ∷ tail1) in
-    let b = length-append (coordinate_text v.one) (44 ∷ tail2) in
-    let c = length-append (coordinate_text v.two) (44 ∷ tail3) in
-    let d = length-append (coordinate_text v.three) (41 ∷ tail5) in
+    let b = length-append (coordinate_text nt v.one) (44 ∷ tail2) in
+    let c = length-append (coordinate_text nt v.two) tail3 in
+    let d = length-append (third_coordinate_text nt v.three) (41 ∷ tail5) in
     record {
-      x = record { most = let s = (part_small v.one.part n (omega arith)).shift in omega arith };
-      y = record { most = let s = (part_small v.two.part n (omega arith)).shift in omega arith };
-      z = record { most = let s = (part_small v.three.part n (omega arith)).shift in omega arith };
+      x = record { most = let s = (part_small nt v.one.part n (omega arith)).shift in omega arith };
+      y = record { most = let s = (part_small nt v.two.part n (omega arith)).shift in omega arith };
+      z = third_coordinate_small nt v.three n h (omega arith);
     }
 
 single : {A : Type 0} (P : A → Type 0) (x : A) → P x → All P (x ∷ [])
 single P x p zero d h = p
 single P x p (suc k) d h = absurd (omega arith)
 
-centrings_small : (r : Centrings) (n : ℕ) → n ≤ 16777216 → length (centrings_text r) ≤ n → All (IsVectorWithin (2 ^ 40)) (centrings_value r)
-centrings_small (one v) n h i = single (IsVectorWithin (2 ^ 40)) (centring_value v) (centring_small v n h i)
-centrings_small (further r v) n h i =
-    let a = length-append (centrings_text r) (centring_text v) in
-    All-append (IsVectorWithin (2 ^ 40)) (centrings_value r) (centring_value v ∷ []) (centrings_small r n h (omega arith))
-    (single (IsVectorWithin (2 ^ 40)) (centring_value v) (centring_small v n h (omega arith)))
+centrings_small : (nt : Notation) → (r : Centrings nt) (n : ℕ) → n ≤ 16777216 → length (centrings_text nt r) ≤ n → All (IsVectorWithin (2 ^ 40)) (centrings_value nt r)
+centrings_small nt (one v) n h i = single (IsVectorWithin (2 ^ 40)) (centring_value nt v) (centring_small nt v n h i)
+centrings_small nt (further r v) n h i =
+    let a = length-append (centrings_text nt r) (centring_text nt v) in
+    All-append (IsVectorWithin (2 ^ 40)) (centrings_value nt r) (centring_value nt v ∷ []) (centrings_small nt r n h (omega arith))
+    (single (IsVectorWithin (2 ^ 40)) (centring_value nt v) (centring_small nt v n h (omega arith)))
 
 -- the operations and the vectors that are listed are small
 pub record IsListingSmall (g : Listing) : Type 0 where
@@ -142,19 +153,19 @@ pub record IsListingSmall (g : Listing) : Type 0 where
 nothing_small : IsListingSmall nothing_listed
 nothing_small = record { ops = All-nil (IsSmallWithin 9); centrings = All-nil (IsVectorWithin (2 ^ 40)) }
 
-form_small : (f : Form) (n : ℕ) → n ≤ 16777216 → length (form_text f) ≤ n → IsListingSmall (form_value f)
-form_small (empty bs) n h i = nothing_small
-form_small (operation l v w x) n h i =
-    let a = length-append (label_text l) (part_text v ++ (44 ∷ (part_text w ++ (44 ∷ part_text x)))) in
-    record { ops = single (IsSmallWithin 9) (motion_with (part_row v) (part_row w) (part_row x)) (parts_within v w x n h (omega arith)); centrings = All-nil (IsVectorWithin (2 ^ 40)) }
-form_small (row r bs) n h i =
-    let a = length-append (centrings_text r) (blanks_text bs) in
-    record { ops = All-nil (IsSmallWithin 9); centrings = centrings_small r n h (omega arith) }
+form_small : (nt : Notation) → (f : Form nt) (n : ℕ) → n ≤ 16777216 → length (form_text nt f) ≤ n → IsListingSmall (form_value nt f)
+form_small nt (empty bs) n h i = nothing_small
+form_small nt (operation l v w x) n h i =
+    let a = length-append (label_text l) (part_text nt v ++ (44 ∷ (part_text nt w ++ third_text nt x))) in
+    record { ops = single (IsSmallWithin 9) (motion_with (part_row nt v) (part_row nt w) (third_row nt x)) (parts_within nt v w x n h (omega arith)); centrings = All-nil (IsVectorWithin (2 ^ 40)) }
+form_small nt (row r bs) n h i =
+    let a = length-append (centrings_text nt r) (blanks_text bs) in
+    record { ops = All-nil (IsSmallWithin 9); centrings = centrings_small nt r n h (omega arith) }
 
-line_small : (bytes : List ℕ) (a : Listing) (n : ℕ) → n ≤ 16777216 → length bytes ≤ n → IsLine bytes a → IsListingSmall a
-line_small bytes a n h i l =
-    let e = ap length l.text ∙ length-append (form_text l.form) (comment_text l.comment) in
-    subst IsListingSmall (sym l.value) (form_small l.form n h (omega arith))
+line_small : (nt : Notation) → (bytes : List ℕ) (a : Listing) (n : ℕ) → n ≤ 16777216 → length bytes ≤ n → IsLine nt bytes a → IsListingSmall a
+line_small nt bytes a n h i l =
+    let e = ap length l.text ∙ length-append (form_text nt l.form) (comment_text l.comment) in
+    subst IsListingSmall (sym l.value) (form_small nt l.form n h (omega arith))
 
 -- ---- a text
 
@@ -189,10 +200,10 @@ unfolding AreShort
 lines_short [] = (omega arith, tt)
 lines_short (b ∷ bs) = short_by (b == 10) b (length bs) (lines_of bs) (lines_short bs)
 
-lines_small : (ls : List (List ℕ)) (g : Listing) (n : ℕ) → n ≤ 16777216 → AreShort n ls → AreLines ls g → IsListingSmall g
+lines_small : (nt : Notation) → (ls : List (List ℕ)) (g : Listing) (n : ℕ) → n ≤ 16777216 → AreShort n ls → AreLines nt ls g → IsListingSmall g
 unfolding AreShort
-lines_small [] g n h i e = subst IsListingSmall (sym e) nothing_small
-lines_small (l ∷ ls) g n h i e = subst IsListingSmall (sym e.4) (then_small e.0 e.1 (line_small l e.0 n h i.0 e.2) (lines_small ls e.1 n h i.1 e.3))
+lines_small nt [] g n h i e = subst IsListingSmall (sym e) nothing_small
+lines_small nt (l ∷ ls) g n h i e = subst IsListingSmall (sym e.4) (then_small e.0 e.1 (line_small nt l e.0 n h i.0 e.2) (lines_small nt ls e.1 n h i.1 e.3))
 
 all_of_map : {A B : Type 0} (P : B → Type 0) (f : A → B) (xs : List A) → All P (map f xs) → All (λ x. P (f x)) xs
 all_of_map P f xs h k d i = subst P (get_or-map f xs k d) (h k (f d) (omega (arith, length-map xs f)))
@@ -204,11 +215,11 @@ listed_small l h = record {
   centrings = all_of_map (IsVectorWithin (2 ^ 40)) (λ v. parts v) l.centrings.items h.centrings;
 }
 
-text_lines_small : (b : Bool) (ls : List (List ℕ)) (g : Listing) (n : ℕ) → n ≤ 16777216 → AreShort n ls → AreTextLines b ls g → IsListingSmall g
+text_lines_small : (nt : Notation) → (b : Bool) (ls : List (List ℕ)) (g : Listing) (n : ℕ) → n ≤ 16777216 → AreShort n ls → AreTextLines nt b ls g → IsListingSmall g
 unfolding AreShort
-text_lines_small true [] g n h i e = absurd e
-text_lines_small true (l ∷ ls) g n h i e = lines_small ls g n h i.1 e.1
-text_lines_small false ls g n h i e = lines_small ls g n h i e
+text_lines_small nt true [] g n h i e = absurd e
+text_lines_small nt true (l ∷ ls) g n h i e = lines_small nt ls g n h i.1 e.1
+text_lines_small nt false ls g n h i e = lines_small nt ls g n h i e
 
-pub text_small : (bytes : List ℕ) (b : Bool) (g : Listing) → length bytes ≤ 16777216 → IsGroupText bytes b g → IsListingSmall g
-text_small bytes b g h t = text_lines_small b (lines_of bytes) g (length bytes) h (lines_short bytes) t
+pub text_small : (nt : Notation) → (bytes : List ℕ) (b : Bool) (g : Listing) → length bytes ≤ 16777216 → IsGroupText nt bytes b g → IsListingSmall g
+text_small nt bytes b g h t = text_lines_small nt b (lines_of bytes) g (length bytes) h (lines_short bytes) t

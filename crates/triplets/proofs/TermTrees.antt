@@ -1,5 +1,5 @@
 -- The trees of the grammar that write the terms of a part.
-use Rattle.std.proofs.Common.{Bool, cond, inl, inr, lt-ltb, le-ltb, le_antisymm, ◌≡◌, ℕ, zero, suc, ◌*◌, ◌/◌, ◌<◌, ◌≤◌, false, List, [], ◌∷◌, ◌++◌, ℤ, pos, negsuc, ◌+ℤ◌, neg_ℤ, nat_abs, refl, sym, ap, subst, ◌∙◌, arith}
+use Rattle.std.proofs.Common.{Bool, true, refl, cond, inl, inr, lt-ltb, le-ltb, le_antisymm, ◌≡◌, ℕ, zero, suc, ◌*◌, ◌/◌, ◌<◌, ◌≤◌, false, List, [], ◌∷◌, ◌++◌, ℤ, pos, negsuc, ◌+ℤ◌, neg_ℤ, nat_abs, refl, sym, ap, subst, ◌∙◌, arith}
 use Rattle.std.specs.Int.{◌∣◌}
 use Rattle.std.specs.Fmt.{decimal as decimal_text, signed_decimal}
 use Rattle.std.proofs.lemmas.Bool.{cases_lt}
@@ -11,6 +11,9 @@ use Rattle.fractions.specs.declared.part.TheConstants.{UNIT}
 use Rattle.fractions.specs.LowestTerms.{gcd, signed_gcd, lowest_terms}
 use Rattle.fractions.specs.RatioText.{denominator_text as below_text}
 use Rattle.fractions.proofs.Gcd.{IsGcd-gcd}
+use Rattle.triplets.specs.declared.notation.Notation.TheVariants.{Triplets}
+use Rattle.triplets.specs.declared.marks.Axis.TheVariants.{X, Y, Z}
+use Rattle.triplets.specs.Marks.{has_axis}
 use Rattle.triplets.specs.declared.marks.Axis.{Axis}
 use Rattle.motions.specs.declared.motion.Sign.{Sign}
 use Rattle.motions.specs.declared.motion.Sign.TheVariants.{Plus, Minus}
@@ -31,7 +34,7 @@ pub record IsTerm (text : List ℕ) (add : Row → Row) (use_letter : Used → U
   pub text_is : text ≡ sign_byte sign ∷ term_text term
   pub row_is : (r : Row) → with_term sign term r ≡ add r
   pub letters_are : (u : Used) → with_letters term u ≡ use_letter u
-  pub new : (u : Used) → IsFree u → IsNew term u
+  pub new : (u : Used) → IsFree u → IsNew Triplets term u
 
 -- ---- letters
 
@@ -39,6 +42,12 @@ abbrev pub IsLetter : Axis → ℤ → Type 0
 IsLetter a c = IsTerm (letter_term c (letter_byte a false ∷ [])) (with_entry a c) (with_used a) (λ u. uses a u ≡ false)
 
 -- a letter with its sign alone
+-- triplets have all letters
+all_axes : (a : Axis) → has_axis Triplets a ≡ true
+all_axes X = refl
+all_axes Y = refl
+all_axes Z = refl
+
 single : (s : Sign) (a : Axis) (c : ℤ) → signed s 1 ≡ c → letter_term c (letter_byte a false ∷ []) ≡ sign_byte s ∷ letter_byte a false ∷ []
     → IsLetter a c
 single s a c value text = record {
@@ -47,7 +56,7 @@ single s a c value text = record {
   text_is = text;
   row_is = λ r. ap (λ v. with_entry a v r) value;
   letters_are = λ u. refl;
-  new = λ u free. free;
+  new = λ u free. (all_axes a, free);
 }
 
 -- a letter with a digit from 2 on
@@ -59,7 +68,7 @@ multiplied s a c n below value text = record {
   text_is = text ∙ ap (λ ds. sign_byte s ∷ (ds ++ letter_byte a false ∷ [])) (decimal_digit (suc (suc n)) below);
   row_is = λ r. ap (λ v. with_entry a v r) (ap (signed s) (digit-value (suc (suc n)) below) ∙ value);
   letters_are = λ u. refl;
-  new = λ u free. free;
+  new = λ u free. (all_axes a, free);
 }
 
 pub letter_tree : (a : Axis) (c : ℤ) → IsWithin 9 c → ¬ (c ≡ pos 0) → IsLetter a c
@@ -94,7 +103,7 @@ record IsOver (n g : ℕ) : Type 0 where
   text : term_text term ≡ decimal_text (n / g) ++ below_text (pos (unit / g))
   row_is : (s : Sign) (r : Row) → with_term s term r ≡ with_shift s n r
   letters_are : (u : Used) → with_letters term u ≡ u
-  new : (u : Used) → IsNew term u
+  new : (u : Used) → IsNew Triplets term u
 
 over_tree : (n g : ℕ) → 0 < n → g ∣ n → g ∣ unit → n / g ≤ 999 → IsOver n g
 over_tree n g above in_n in_unit short =

@@ -1,6 +1,7 @@
 -- What is kept of a line stays within its bounds, also in the heading.
 use Rattle.std.proofs.Common.{◌≡◌, ℕ, ◌+◌, ◌≤◌, Bool, true, false, cond, Result, Ok, Err, refl, sym, subst}
 use Rattle.std.specs.Prelude.{◌==◌}
+use Rattle.triplets.specs.declared.notation.Notation.{Notation}
 use Rattle.triplets.specs.declared.fault.TextKind.{TextKind}
 use Rattle.triplets.specs.declared.marks.Mark.{Mark}
 use Rattle.triplets.specs.declared.marks.Mark.TheVariants as marks
@@ -30,13 +31,13 @@ heading_within : (n : ℕ) (r : Result HeadingPlace TextKind) (q : TextPlace) �
 heading_within n (Ok p) q e = same_place n (texts.Heading p) q e tt
 heading_within n (Err k) q e = absurd cc
 
-first_within : (m : Mark) (b n : ℕ) (q : TextPlace) → mark b ≡ m → begin_line m ≡ stands_at q → IsTextPlaceWithin (n + 1) q
-first_within m b n q i e = by m i e
+first_within : (nt : Notation) → (m : Mark) (b n : ℕ) (q : TextPlace) → mark nt b ≡ m → begin_line nt m ≡ stands_at q → IsTextPlaceWithin (n + 1) q
+first_within nt m b n q i e = by m i e
   where
-    begun : (m : Mark) → mark b ≡ m → in_line (start_step m) ≡ stands_at q → IsTextPlaceWithin (n + 1) q
-    begun m i e = line_within (n + 1) (start_step m) q (λ p w. place_within b n places.Start p tt (subst (λ x. start_step x ≡ placed p) (sym i) w)) e
+    begun : (m : Mark) → mark nt b ≡ m → in_line (start_step nt m) ≡ stands_at q → IsTextPlaceWithin (n + 1) q
+    begun m i e = line_within (n + 1) (start_step nt m) q (λ p w. place_within nt b n places.Start p tt (subst (λ x. start_step nt x ≡ placed p) (sym i) w)) e
 
-    by : (m : Mark) → mark b ≡ m → begin_line m ≡ stands_at q → IsTextPlaceWithin (n + 1) q
+    by : (m : Mark) → mark nt b ≡ m → begin_line nt m ≡ stands_at q → IsTextPlaceWithin (n + 1) q
     by marks.Blank i e = same_place (n + 1) texts.Beginning q e tt
     by (marks.Signs s) i e = begun (marks.Signs s) i e
     by (marks.Letter a) i e = begun (marks.Letter a) i e
@@ -48,15 +49,15 @@ first_within m b n q i e = by m i e
     by marks.Close i e = begun marks.Close i e
     by marks.Other i e = begun marks.Other i e
 
-beginning_within : (t : Bool) (b n : ℕ) (q : TextPlace) → cond t (stands_at (texts.Heading words.G)) (begin_line (mark b)) ≡ stands_at q → IsTextPlaceWithin (n + 1) q
-beginning_within true b n q e = same_place (n + 1) (texts.Heading words.G) q e tt
-beginning_within false b n q e = first_within (mark b) b n q refl e
+beginning_within : (nt : Notation) → (t : Bool) (b n : ℕ) (q : TextPlace) → cond t (stands_at (texts.Heading words.G)) (begin_line nt (mark nt b)) ≡ stands_at q → IsTextPlaceWithin (n + 1) q
+beginning_within nt true b n q e = same_place (n + 1) (texts.Heading words.G) q e tt
+beginning_within nt false b n q e = first_within nt (mark nt b) b n q refl e
 
 -- the place stays within what the column allows
-pub text_place_within : (b n : ℕ) (p q : TextPlace) → IsTextPlaceWithin n p → text_step b p ≡ stands_at q → IsTextPlaceWithin (n + 1) q
-text_place_within b n texts.Beginning q h e = beginning_within (b == 103) b n q e
-text_place_within b n (texts.Heading p) q h e = heading_within (n + 1) (heading_step b p) q e
-text_place_within b n (texts.Line p) q h e = line_within (n + 1) (place_step (mark b) p) q (λ r w. place_within b n p r h w) e
+pub text_place_within : (nt : Notation) → (b n : ℕ) (p q : TextPlace) → IsTextPlaceWithin n p → text_step nt b p ≡ stands_at q → IsTextPlaceWithin (n + 1) q
+text_place_within nt b n texts.Beginning q h e = beginning_within nt (b == 103) b n q e
+text_place_within nt b n (texts.Heading p) q h e = heading_within (n + 1) (heading_step nt b p) q e
+text_place_within nt b n (texts.Line p) q h e = line_within (n + 1) (place_step nt (mark nt b) p) q (λ r w. place_within nt b n p r h w) e
 
 pub text_place_small : (p : TextPlace) (n : ℕ) → n ≤ 16777216 → IsTextPlaceWithin n p → IsTextPlaceSmall p
 text_place_small texts.Beginning n b h = tt

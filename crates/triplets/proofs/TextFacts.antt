@@ -2,6 +2,7 @@
 use Rattle.std.proofs.Common.{◌≡◌, ◌≢◌, ℕ, ◌+◌, ◌<◌, List, [], ◌∷◌, ◌++◌, length, get_or, take, drop, Option, Some, None, Result, Ok, Err, refl, sym, ◌∙◌, ap, inl, inr, ◌⊎◌, add-one, append_assoc, length-append}
 use Rattle.std.proofs.Math.Seq.{take-suc, take-length}
 use Rattle.std.proofs.lemmas.List.{take-append-drop, append-nil}
+use Rattle.triplets.specs.declared.notation.Notation.{Notation}
 use Rattle.triplets.specs.declared.fault.TextFault.{TextFault}
 use Rattle.triplets.specs.declared.fault.TextFault.TheVariants as faults
 use Rattle.triplets.specs.declared.text.LineReader.{LineReader}
@@ -10,39 +11,39 @@ use Rattle.triplets.specs.TextReading.{Kept, kept_start, kept, byte_step, text_a
 use Rattle.triplets.proofs.TextRuns.{keeping, faulty, run_faulty, text_run-append}
 
 -- one more byte
-pub text_more : (text piece : List ℕ) (i : ℕ) (k : Kept) (r : Result Kept Fault) → i < length piece → text_run (Ok kept_start) (text ++ take i piece) ≡ keeping k → byte_step (get_or piece i 0) k ≡ r →
-    text_run (Ok kept_start) (text ++ take (i + 1) piece) ≡ r
-text_more text piece i k r h w e =
-    ap (λ (x : List ℕ). text_run (Ok kept_start) (text ++ x)) (let z : take (i + 1) piece ≡ take i piece ++ (get_or piece i 0 ∷ []) = rw add-one (take-suc piece i 0 h) in z)
-    ∙ (ap (text_run (Ok kept_start)) (sym (append_assoc text (take i piece) (get_or piece i 0 ∷ [])))
-    ∙ (text_run-append (Ok kept_start) (text ++ take i piece) (get_or piece i 0 ∷ [])
-    ∙ (ap (λ (x : Result Kept Fault). text_advance x (get_or piece i 0)) w ∙ e)))
+pub text_more : (nt : Notation) → (text piece : List ℕ) (i : ℕ) (k : Kept) (r : Result Kept Fault) → i < length piece → text_run nt (Ok kept_start) (text ++ take i piece) ≡ keeping k → byte_step nt (get_or piece i 0) k ≡ r →
+    text_run nt (Ok kept_start) (text ++ take (i + 1) piece) ≡ r
+text_more nt text piece i k r h w e =
+    ap (λ (x : List ℕ). text_run nt (Ok kept_start) (text ++ x)) (let z : take (i + 1) piece ≡ take i piece ++ (get_or piece i 0 ∷ []) = rw add-one (take-suc piece i 0 h) in z)
+    ∙ (ap (text_run nt (Ok kept_start)) (sym (append_assoc text (take i piece) (get_or piece i 0 ∷ [])))
+    ∙ (text_run-append nt (Ok kept_start) (text ++ take i piece) (get_or piece i 0 ∷ [])
+    ∙ (ap (λ (x : Result Kept Fault). text_advance nt x (get_or piece i 0)) w ∙ e)))
 
-pub text_all : (text piece : List ℕ) (i : ℕ) (f : Fault) → text_run (Ok kept_start) (text ++ take i piece) ≡ faulty f → text_run (Ok kept_start) (text ++ piece) ≡ faulty f
-text_all text piece i f w =
-    ap (λ (x : List ℕ). text_run (Ok kept_start) (text ++ x)) (sym (take-append-drop i piece))
-    ∙ (ap (text_run (Ok kept_start)) (sym (append_assoc text (take i piece) (drop i piece)))
-    ∙ (text_run-append (Ok kept_start) (text ++ take i piece) (drop i piece)
-    ∙ (ap (λ (x : Result Kept Fault). text_run x (drop i piece)) w ∙ run_faulty f (drop i piece))))
+pub text_all : (nt : Notation) → (text piece : List ℕ) (i : ℕ) (f : Fault) → text_run nt (Ok kept_start) (text ++ take i piece) ≡ faulty f → text_run nt (Ok kept_start) (text ++ piece) ≡ faulty f
+text_all nt text piece i f w =
+    ap (λ (x : List ℕ). text_run nt (Ok kept_start) (text ++ x)) (sym (take-append-drop i piece))
+    ∙ (ap (text_run nt (Ok kept_start)) (sym (append_assoc text (take i piece) (drop i piece)))
+    ∙ (text_run-append nt (Ok kept_start) (text ++ take i piece) (drop i piece)
+    ∙ (ap (λ (x : Result Kept Fault). text_run nt x (drop i piece)) w ∙ run_faulty nt f (drop i piece))))
 
-pub text_fault : (text piece : List ℕ) (i : ℕ) (k : Kept) (f : Fault) → i < length piece → text_run (Ok kept_start) (text ++ take i piece) ≡ keeping k → byte_step (get_or piece i 0) k ≡ faulty f →
-    text_run (Ok kept_start) (text ++ piece) ≡ faulty f
-text_fault text piece i k f h w e = text_all text piece (i + 1) f (text_more text piece i k (faulty f) h w e)
+pub text_fault : (nt : Notation) → (text piece : List ℕ) (i : ℕ) (k : Kept) (f : Fault) → i < length piece → text_run nt (Ok kept_start) (text ++ take i piece) ≡ keeping k → byte_step nt (get_or piece i 0) k ≡ faulty f →
+    text_run nt (Ok kept_start) (text ++ piece) ≡ faulty f
+text_fault nt text piece i k f h w e = text_all nt text piece (i + 1) f (text_more nt text piece i k (faulty f) h w e)
 
 abbrev pub a_fault : TextFault → Option TextFault
 a_fault e = Some e
 
 -- before a fault
-pub stands_kept : (r : LineReader) (text : List ℕ) → Stands r text → r.fault ≡ None → text_run (Ok kept_start) text ≡ keeping (kept r)
-stands_kept r text h e = h.run_is ∙ ap (λ (o : Option TextFault). kept_or o (kept r)) e
+pub stands_kept : (nt : Notation) → (r : LineReader) (text : List ℕ) → Stands nt r text → r.fault ≡ None → text_run nt (Ok kept_start) text ≡ keeping (kept r)
+stands_kept nt r text h e = h.run_is ∙ ap (λ (o : Option TextFault). kept_or o (kept r)) e
 
-pub stands_nothing : (r : LineReader) (text piece : List ℕ) → Stands r text → r.fault ≡ None → text_run (Ok kept_start) (text ++ take 0 piece) ≡ keeping (kept r)
-stands_nothing r text piece h e = ap (text_run (Ok kept_start)) (append-nil text) ∙ stands_kept r text h e
+pub stands_nothing : (nt : Notation) → (r : LineReader) (text piece : List ℕ) → Stands nt r text → r.fault ≡ None → text_run nt (Ok kept_start) (text ++ take 0 piece) ≡ keeping (kept r)
+stands_nothing nt r text piece h e = ap (text_run nt (Ok kept_start)) (append-nil text) ∙ stands_kept nt r text h e
 
 -- a fault that was answered is that of the text
-pub stands_refuses : (r : LineReader) (e : TextFault) (text : List ℕ) → r.fault ≡ a_fault e → Stands r text → Refuses e (text_run (Ok kept_start) text)
-stands_refuses r faults.NoMemory text h s = tt
-stands_refuses r (faults.At l c k) text h s = s.run_is ∙ ap (λ (o : Option TextFault). kept_or o (kept r)) h
+pub stands_refuses : (nt : Notation) → (r : LineReader) (e : TextFault) (text : List ℕ) → r.fault ≡ a_fault e → Stands nt r text → Refuses e (text_run nt (Ok kept_start) text)
+stands_refuses nt r faults.NoMemory text h s = tt
+stands_refuses nt r (faults.At l c k) text h s = s.run_is ∙ ap (λ (o : Option TextFault). kept_or o (kept r)) h
 
 -- what a call answered
 
@@ -57,55 +58,58 @@ abbrev no_fault : Option TextFault
 no_fault = None
 
 -- a fault is kept
-pub stands_fault : (r : LineReader) (e : TextFault) (b : Result Kept Fault) (text : List ℕ) → r.fault ≡ Some e → r.fed ≡ length text → Refuses e b → ((f : Fault) → b ≡ Err f → text_run (Ok kept_start) text ≡ Err f) →
-    (e ≡ faults.NoMemory) ⊎ Stands r text
-stands_fault r faults.NoMemory b text h n g f = inl refl
-stands_fault r (faults.At l c k) b text h n g f = inr (record {
+pub stands_fault : (nt : Notation) → (r : LineReader) (e : TextFault) (b : Result Kept Fault) (text : List ℕ) → r.notation ≡ nt → r.fault ≡ Some e → r.fed ≡ length text → Refuses e b → ((f : Fault) → b ≡ Err f → text_run nt (Ok kept_start) text ≡ Err f) →
+    (e ≡ faults.NoMemory) ⊎ Stands nt r text
+stands_fault nt r faults.NoMemory b text i h n g f = inl refl
+stands_fault nt r (faults.At l c k) b text i h n g f = inr (record {
   run_is = f (record { line = l; column = c; kind = k }) g ∙ sym (ap (λ (o : Option TextFault). kept_or o (kept r)) h);
   fed = n;
   memory = λ z. let y : some_fault (faults.At l c k) ≡ some_fault faults.NoMemory = sym h ∙ z in cc;
+  notation = i;
 })
 
 memory_or : (e : TextFault) → (e ≡ faults.NoMemory) ⊎ (e ≢ faults.NoMemory)
 memory_or faults.NoMemory = inl refl
 memory_or (faults.At l c k) = inr (λ z. cc)
 
-pub err_stands : (r q : LineReader) (e : TextFault) (b : Result Kept Fault) (piece : List ℕ) → q.fault ≡ Some e → q.fed ≡ r.fed + length piece → Refuses e b →
-    ((text : List ℕ) (f : Fault) → Stands r text → b ≡ Err f → text_run (Ok kept_start) (text ++ piece) ≡ Err f) →
-    ((let z : Result (Unit {0}) TextFault = Err e in z) ≡ Err faults.NoMemory) ⊎ ((text : List ℕ) → Stands r text → Stands q (text ++ piece))
-err_stands r q e b piece h n g f =
+pub err_stands : (r q : LineReader) (e : TextFault) (b : Result Kept Fault) (piece : List ℕ) → q.notation ≡ r.notation → q.fault ≡ Some e → q.fed ≡ r.fed + length piece → Refuses e b →
+    ((nt : Notation) (text : List ℕ) (f : Fault) → Stands nt r text → b ≡ Err f → text_run nt (Ok kept_start) (text ++ piece) ≡ Err f) →
+    ((let z : Result (Unit {0}) TextFault = Err e in z) ≡ Err faults.NoMemory) ⊎ ((nt : Notation) (text : List ℕ) → Stands nt r text → Stands nt q (text ++ piece))
+err_stands r q e b piece i h n g f =
     elim (memory_or e) [
       | inl z ↦ inl (ap (λ x. Err x) z)
-      | inr z ↦ inr (λ text s.
-          elim (stands_fault q e b (text ++ piece) h (n ∙ (ap (λ m. m + length piece) s.fed ∙ sym (length-append text piece))) g (λ t w. f text t s w)) [
+      | inr z ↦ inr (λ nt text s.
+          elim (stands_fault nt q e b (text ++ piece) (i ∙ s.notation) h (n ∙ (ap (λ m. m + length piece) s.fed ∙ sym (length-append text piece))) g (λ t w. f nt text t s w)) [
             | inl y ↦ absurd (z y)
             | inr y ↦ y
           ])
     ]
 
 -- a fault answered before is answered again
-pub again : (r : LineReader) (e : TextFault) (text piece : List ℕ) → r.fault ≡ a_fault e → Stands r text → Refuses e (text_run (Ok kept_start) (text ++ piece))
-again r faults.NoMemory text piece h s = tt
-again r (faults.At l c k) text piece h s =
-    text_run-append (Ok kept_start) text piece
-    ∙ (ap (λ (x : Result Kept Fault). text_run x piece) (s.run_is ∙ ap (λ (o : Option TextFault). kept_or o (kept r)) h)
-    ∙ run_faulty (record { line = l; column = c; kind = k }) piece)
+pub again : (nt : Notation) → (r : LineReader) (e : TextFault) (text piece : List ℕ) → r.fault ≡ a_fault e → Stands nt r text → Refuses e (text_run nt (Ok kept_start) (text ++ piece))
+again nt r faults.NoMemory text piece h s = tt
+again nt r (faults.At l c k) text piece h s =
+    text_run-append nt (Ok kept_start) text piece
+    ∙ (ap (λ (x : Result Kept Fault). text_run nt x piece) (s.run_is ∙ ap (λ (o : Option TextFault). kept_or o (kept r)) h)
+    ∙ run_faulty nt (record { line = l; column = c; kind = k }) piece)
 
-pub again_stands : (r q : LineReader) (e : TextFault) (text piece : List ℕ) → r.fault ≡ a_fault e → q.fault ≡ r.fault → q.fed ≡ r.fed + length piece → Stands r text → Stands q (text ++ piece)
-again_stands r q faults.NoMemory text piece h i n s = absurd (s.memory h)
-again_stands r q (faults.At l c k) text piece h i n s = record {
-  run_is = again r (faults.At l c k) text piece h s ∙ sym (ap (λ (o : Option TextFault). kept_or o (kept q)) (i ∙ h));
+pub again_stands : (nt : Notation) → (r q : LineReader) (e : TextFault) (text piece : List ℕ) → r.fault ≡ a_fault e → q.notation ≡ r.notation → q.fault ≡ r.fault → q.fed ≡ r.fed + length piece → Stands nt r text → Stands nt q (text ++ piece)
+again_stands nt r q faults.NoMemory text piece h o i n s = absurd (s.memory h)
+again_stands nt r q (faults.At l c k) text piece h x i n s = record {
+  run_is = again nt r (faults.At l c k) text piece h s ∙ sym (ap (λ (o : Option TextFault). kept_or o (kept q)) (i ∙ h));
   fed = n ∙ (ap (λ m. m + length piece) s.fed ∙ sym (length-append text piece));
   memory = λ z. s.memory (sym i ∙ z);
+  notation = x ∙ s.notation;
 }
 
-pub all_read : (text piece : List ℕ) (i : ℕ) (k : Kept) → i ≡ length piece → text_run (Ok kept_start) (text ++ take i piece) ≡ keeping k → text_run (Ok kept_start) (text ++ piece) ≡ keeping k
-all_read text piece i k e w = ap (λ (x : List ℕ). text_run (Ok kept_start) (text ++ x)) (sym (ap (λ m. take m piece) e ∙ take-length piece)) ∙ w
+pub all_read : (nt : Notation) → (text piece : List ℕ) (i : ℕ) (k : Kept) → i ≡ length piece → text_run nt (Ok kept_start) (text ++ take i piece) ≡ keeping k → text_run nt (Ok kept_start) (text ++ piece) ≡ keeping k
+all_read nt text piece i k e w = ap (λ (x : List ℕ). text_run nt (Ok kept_start) (text ++ x)) (sym (ap (λ m. take m piece) e ∙ take-length piece)) ∙ w
 
 -- the whole piece is read
-pub stands_all : (r q : LineReader) (text piece : List ℕ) (i : ℕ) → i ≡ length piece → text_run (Ok kept_start) (text ++ take i piece) ≡ keeping (kept q) → q.fault ≡ None → q.fed ≡ r.fed + length piece → Stands r text → Stands q (text ++ piece)
-stands_all r q text piece i e w f n s = record {
-  run_is = all_read text piece i (kept q) e w ∙ sym (ap (λ (o : Option TextFault). kept_or o (kept q)) f);
+pub stands_all : (nt : Notation) → (r q : LineReader) (text piece : List ℕ) (i : ℕ) → i ≡ length piece → text_run nt (Ok kept_start) (text ++ take i piece) ≡ keeping (kept q) → q.notation ≡ r.notation → q.fault ≡ None → q.fed ≡ r.fed + length piece → Stands nt r text → Stands nt q (text ++ piece)
+stands_all nt r q text piece i e w x f n s = record {
+  run_is = all_read nt text piece i (kept q) e w ∙ sym (ap (λ (o : Option TextFault). kept_or o (kept q)) f);
   fed = n ∙ (ap (λ m. m + length piece) s.fed ∙ sym (length-append text piece));
   memory = λ z. let y : no_fault ≡ a_fault faults.NoMemory = sym f ∙ z in cc;
+  notation = x ∙ s.notation;
 }

@@ -1,5 +1,6 @@
 -- The reader of a text over more bytes.
 use Rattle.std.proofs.Common.{◌≡◌, ℕ, List, [], ◌∷◌, ◌++◌, Result, Ok, Err, refl}
+use Rattle.triplets.specs.declared.notation.Notation.{Notation}
 use Rattle.triplets.specs.Texts.{Fault}
 use Rattle.triplets.specs.TextReading.{Kept, text_advance, text_run}
 
@@ -9,11 +10,11 @@ keeping k = Ok k
 abbrev pub faulty : Fault → Result Kept Fault
 faulty f = Err f
 
-pub text_run-append : (r : Result Kept Fault) (xs ys : List ℕ) → text_run r (xs ++ ys) ≡ text_run (text_run r xs) ys
-text_run-append r [] ys = refl
-text_run-append r (x ∷ xs) ys = text_run-append (text_advance r x) xs ys
+pub text_run-append : (nt : Notation) → (r : Result Kept Fault) (xs ys : List ℕ) → text_run nt r (xs ++ ys) ≡ text_run nt (text_run nt r xs) ys
+text_run-append nt r [] ys = refl
+text_run-append nt r (x ∷ xs) ys = text_run-append nt (text_advance nt r x) xs ys
 
 -- a fault stays
-pub run_faulty : (f : Fault) (xs : List ℕ) → text_run (faulty f) xs ≡ faulty f
-run_faulty f [] = refl
-run_faulty f (x ∷ xs) = run_faulty f xs
+pub run_faulty : (nt : Notation) → (f : Fault) (xs : List ℕ) → text_run nt (faulty f) xs ≡ faulty f
+run_faulty nt f [] = refl
+run_faulty nt f (x ∷ xs) = run_faulty nt f xs

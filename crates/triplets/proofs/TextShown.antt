@@ -3,6 +3,7 @@ use Rattle.std.proofs.Common.{◌≡◌, ◌≢◌, ℕ, zero, suc, ◌+◌, Boo
 use Rattle.std.specs.Prelude.{◌==◌}
 use Rattle.std.proofs.lemmas.List.{append-nil}
 use Rattle.symmetry.specs.Vectors.{Vector}
+use Rattle.triplets.specs.declared.notation.Notation.{Notation}
 use Rattle.triplets.specs.declared.fault.TextKind.{TextKind}
 use Rattle.triplets.specs.declared.fault.TextKind.TheVariants as kinds
 use Rattle.motions.specs.declared.motion.Motion3.{Motion3}
@@ -23,26 +24,26 @@ use Rattle.triplets.proofs.LinePlaces.{byte_fault, shorter}
 use Rattle.triplets.proofs.TextEnds.{step_at, said_then, InLine, make_listing, a_line, bad_line, front_nil, front_front, at_next_line, next_line, at_next_byte, next_byte}
 
 -- nothing of these lines is shown to be bad
-abbrev pub IsNoneShown : (List ℕ → Type 0) → List (List ℕ) → Type 0
-IsNoneShown Good lines = (i before : ℕ) (kind : TextKind) → IsFirstShown Good lines i before kind → ⊥
+abbrev pub IsNoneShown : (nt : Notation) → (List ℕ → Type 0) → List (List ℕ) → Type 0
+IsNoneShown nt Good lines = (i before : ℕ) (kind : TextKind) → IsFirstShown nt Good lines i before kind → ⊥
 
 -- what is shown of these lines, where the one at n is the first
-abbrev pub IsShownSoFar : (List ℕ → Type 0) → Result Kept Fault → ℕ → List (List ℕ) → Type 0
-IsShownSoFar Good (Ok k) n lines = IsNoneShown Good lines
-IsShownSoFar Good (Err f) n lines = (i : ℕ) × (before : ℕ) × (f.line ≡ n + i) × (f.column ≡ before + 1) × IsFirstShown Good lines i before f.kind
+abbrev pub IsShownSoFar : (nt : Notation) → (List ℕ → Type 0) → Result Kept Fault → ℕ → List (List ℕ) → Type 0
+IsShownSoFar nt Good (Ok k) n lines = IsNoneShown nt Good lines
+IsShownSoFar nt Good (Err f) n lines = (i : ℕ) × (before : ℕ) × (f.line ≡ n + i) × (f.column ≡ before + 1) × IsFirstShown nt Good lines i before f.kind
 
-not_more : (Good : List ℕ → Type 0) (l : List ℕ) (lines : List (List ℕ)) → Good l → IsNoneShown IsGoodLine lines → IsNoneShown Good (l ∷ lines)
-not_more Good l lines g f zero before kind h = h.0.place.good g
-not_more Good l lines g f (suc i) before kind h = f i before kind h.1
+not_more : (nt : Notation) → (Good : List ℕ → Type 0) (l : List ℕ) (lines : List (List ℕ)) → Good l → IsNoneShown nt (IsGoodLine nt) lines → IsNoneShown nt Good (l ∷ lines)
+not_more nt Good l lines g f zero before kind h = h.0.place.good g
+not_more nt Good l lines g f (suc i) before kind h = f i before kind h.1
 
-pub shown_more : (Good : List ℕ → Type 0) (r : Result Kept Fault) (n : ℕ) (l : List ℕ) (lines : List (List ℕ)) → Good l → IsShownSoFar IsGoodLine r (n + 1) lines → IsShownSoFar Good r n (l ∷ lines)
-shown_more Good (Ok k) n l lines g t = not_more Good l lines g t
-shown_more Good (Err f) n l lines g t = (t.0 + 1, t.1, omega (arith, t.2), t.3, rw add-one (g, t.4))
+pub shown_more : (nt : Notation) → (Good : List ℕ → Type 0) (r : Result Kept Fault) (n : ℕ) (l : List ℕ) (lines : List (List ℕ)) → Good l → IsShownSoFar nt (IsGoodLine nt) r (n + 1) lines → IsShownSoFar nt Good r n (l ∷ lines)
+shown_more nt Good (Ok k) n l lines g t = not_more nt Good l lines g t
+shown_more nt Good (Err f) n l lines g t = (t.0 + 1, t.1, omega (arith, t.2), t.3, rw add-one (g, t.4))
 
 -- a line that may go on shows nothing
-pub not_last : (Good : List ℕ → Type 0) (l : List ℕ) → IsPrefixIn Good l → IsNoneShown Good (l ∷ [])
-not_last Good l p zero before kind h = elim h.1 [ inl z ↦ h.0.place.here z (shorter Good l (before + 1) p) | inr z ↦ z refl ]
-not_last Good l p (suc i) before kind h = h.1
+pub not_last : (nt : Notation) → (Good : List ℕ → Type 0) (l : List ℕ) → IsPrefixIn Good l → IsNoneShown nt Good (l ∷ [])
+not_last nt Good l p zero before kind h = elim h.1 [ inl z ↦ h.0.place.here z (shorter Good l (before + 1) p) | inr z ↦ z refl ]
+not_last nt Good l p (suc i) before kind h = h.1
 
 front_some : (bs : List ℕ) (ls : List (List ℕ)) → with_front bs ls ≢ []
 front_some bs [] e = cc
@@ -56,46 +57,46 @@ pub some_line : (bs : List ℕ) → lines_of bs ≢ []
 some_line [] e = cc
 some_line (b ∷ bs) e = some_line_at (b == 10) b (lines_of bs) (lines_of bs) e
 
-first_shown : (ls : List (List ℕ)) (before : List ℕ) (b : ℕ) (s : LineState) (k : TextKind) → line_run (Ok line_start) before ≡ line_going s → line_step (mark b) s ≡ line_stopped k →
-    IsFirstShown IsGoodLine (with_front before (with_front (b ∷ []) ls)) 0 (length before) k
-first_shown [] before b s k w e = (byte_fault before [] b s k w e, inl (omega (arith, length-append before (b ∷ []))))
-first_shown (l ∷ ls) before b s k w e = (byte_fault before l b s k w e, inl (omega (arith, length-append before (b ∷ l))))
+first_shown : (nt : Notation) → (ls : List (List ℕ)) (before : List ℕ) (b : ℕ) (s : LineState) (k : TextKind) → line_run nt (Ok line_start) before ≡ line_going s → line_step nt (mark nt b) s ≡ line_stopped k →
+    IsFirstShown nt (IsGoodLine nt) (with_front before (with_front (b ∷ []) ls)) 0 (length before) k
+first_shown nt [] before b s k w e = (byte_fault nt before [] b s k w e, inl (omega (arith, length-append before (b ∷ []))))
+first_shown nt (l ∷ ls) before b s k w e = (byte_fault nt before l b s k w e, inl (omega (arith, length-append before (b ∷ l))))
 
 -- the induction hypothesis
-abbrev pub ShownAfter : List ℕ → Type 0
-ShownAfter bs = (k : Kept) (here : LinePlace) (base : Said) (n : ℕ) (before : List ℕ) (vs : List Vector) → InLine k here base n before vs → IsShownSoFar IsGoodLine (text_run (Ok k) bs) n (with_front before (lines_of bs))
+abbrev pub ShownAfter : (nt : Notation) → List ℕ → Type 0
+ShownAfter nt bs = (k : Kept) (here : LinePlace) (base : Said) (n : ℕ) (before : List ℕ) (vs : List Vector) → InLine nt k here base n before vs → IsShownSoFar nt (IsGoodLine nt) (text_run nt (Ok k) bs) n (with_front before (lines_of bs))
 
-shown_line : (o : Option (Option Motion3)) (bs : List ℕ) (k : Kept) (here : LinePlace) (base : Said) (n : ℕ) (before : List ℕ) (vs : List Vector) → ShownAfter bs → InLine k here base n before vs → ending here ≡ o →
-    IsShownSoFar IsGoodLine (text_run (new_line (ended o false k) k) bs) n ((before ++ []) ∷ lines_of bs)
-shown_line None bs k here base n before vs further h e =
-    subst (λ r. IsShownSoFar IsGoodLine r n ((before ++ []) ∷ lines_of bs)) (sym (run_faulty (fault_here k kinds.MissingPart) bs)) (0, length before, omega (arith, h.line), h.column, (bad_line k here base n before vs h e, inr (some_line bs)))
-shown_line (Some o) bs k here base n before vs further h e =
+shown_line : (nt : Notation) → (o : Option (Option Motion3)) (bs : List ℕ) (k : Kept) (here : LinePlace) (base : Said) (n : ℕ) (before : List ℕ) (vs : List Vector) → ShownAfter nt bs → InLine nt k here base n before vs → ending nt here ≡ o →
+    IsShownSoFar nt (IsGoodLine nt) (text_run nt (new_line (ended o false k) k) bs) n ((before ++ []) ∷ lines_of bs)
+shown_line nt None bs k here base n before vs further h e =
+    subst (λ r. IsShownSoFar nt (IsGoodLine nt) r n ((before ++ []) ∷ lines_of bs)) (sym (run_faulty nt (fault_here k kinds.MissingPart) bs)) (0, length before, omega (arith, h.line), h.column, (bad_line nt k here base n before vs h e, inr (some_line bs)))
+shown_line nt (Some o) bs k here base n before vs further h e =
     let a = make_listing (operations_of o) vs in
     let k' = at_next_line o k in
-    shown_more IsGoodLine (text_run (Ok k') bs) n (before ++ []) (lines_of bs) (a, subst (λ (x : List ℕ). IsLine x a) (sym (append-nil before)) (a_line k here base n before vs o h e))
-    (subst (λ ls. IsShownSoFar IsGoodLine (text_run (Ok k') bs) (n + 1) ls) (front_nil bs) (further k' places.Start (said_then base a) (n + 1) [] [] (next_line o k here base n before vs h)))
+    shown_more nt (IsGoodLine nt) (text_run nt (Ok k') bs) n (before ++ []) (lines_of bs) (a, subst (λ (x : List ℕ). IsLine nt x a) (sym (append-nil before)) (a_line nt k here base n before vs o h e))
+    (subst (λ ls. IsShownSoFar nt (IsGoodLine nt) (text_run nt (Ok k') bs) (n + 1) ls) (front_nil bs) (further k' places.Start (said_then base a) (n + 1) [] [] (next_line nt o k here base n before vs h)))
 
-shown_moved : (r : Result LinePlace TextKind) (b : ℕ) (bs : List ℕ) (k : Kept) (here : LinePlace) (base : Said) (n : ℕ) (before : List ℕ) (vs : List Vector) → ShownAfter bs → InLine k here base n before vs → place_step (mark b) here ≡ r →
-    IsShownSoFar IsGoodLine (text_run (moved (in_line r) (completed (mark b) here) k) bs) n (with_front before (with_front (b ∷ []) (lines_of bs)))
-shown_moved (Err kind) b bs k here base n before vs further h e =
-    subst (λ r. IsShownSoFar IsGoodLine r n (with_front before (with_front (b ∷ []) (lines_of bs)))) (sym (run_faulty (fault_here k kind) bs)) (
+shown_moved : (nt : Notation) → (r : Result LinePlace TextKind) (b : ℕ) (bs : List ℕ) (k : Kept) (here : LinePlace) (base : Said) (n : ℕ) (before : List ℕ) (vs : List Vector) → ShownAfter nt bs → InLine nt k here base n before vs → place_step nt (mark nt b) here ≡ r →
+    IsShownSoFar nt (IsGoodLine nt) (text_run nt (moved (in_line r) (completed (mark nt b) here) k) bs) n (with_front before (with_front (b ∷ []) (lines_of bs)))
+shown_moved nt (Err kind) b bs k here base n before vs further h e =
+    subst (λ r. IsShownSoFar nt (IsGoodLine nt) r n (with_front before (with_front (b ∷ []) (lines_of bs)))) (sym (run_faulty nt (fault_here k kind) bs)) (
       0,
       length before,
       omega (arith, h.line),
       h.column,
-      first_shown (lines_of bs) before b (record { place = here; vectors = vs }) kind h.run (ap (λ (x : Result LinePlace TextKind). at_place x (with_vector (completed (mark b) here) vs)) e),
+      first_shown nt (lines_of bs) before b (record { place = here; vectors = vs }) kind h.run (ap (λ (x : Result LinePlace TextKind). at_place x (with_vector (completed (mark nt b) here) vs)) e),
     )
-shown_moved (Ok p) b bs k here base n before vs further h e =
-    let k' = at_next_byte b here p k in
-    subst (λ ls. IsShownSoFar IsGoodLine (text_run (Ok k') bs) n ls) (front_front before (b ∷ []) (lines_of bs))
-    (further k' p base n (before ++ b ∷ []) (with_vector (completed (mark b) here) vs) (next_byte b p k here base n before vs h e))
+shown_moved nt (Ok p) b bs k here base n before vs further h e =
+    let k' = at_next_byte nt b here p k in
+    subst (λ ls. IsShownSoFar nt (IsGoodLine nt) (text_run nt (Ok k') bs) n ls) (front_front before (b ∷ []) (lines_of bs))
+    (further k' p base n (before ++ b ∷ []) (with_vector (completed (mark nt b) here) vs) (next_byte nt b p k here base n before vs h e))
 
-shown_byte : (t : Bool) (b : ℕ) (bs : List ℕ) (k : Kept) (here : LinePlace) (base : Said) (n : ℕ) (before : List ℕ) (vs : List Vector) → ShownAfter bs → InLine k here base n before vs →
-    IsShownSoFar IsGoodLine (text_run (cond t (new_line (ended (ending here) false k) k) (moved (in_line (place_step (mark b) here)) (completed (mark b) here) k)) bs) n (with_front before (cond t ([] ∷ lines_of bs) (with_front (b ∷ []) (lines_of bs))))
-shown_byte true b bs k here base n before vs further h = shown_line (ending here) bs k here base n before vs further h refl
-shown_byte false b bs k here base n before vs further h = shown_moved (place_step (mark b) here) b bs k here base n before vs further h refl
+shown_byte : (nt : Notation) → (t : Bool) (b : ℕ) (bs : List ℕ) (k : Kept) (here : LinePlace) (base : Said) (n : ℕ) (before : List ℕ) (vs : List Vector) → ShownAfter nt bs → InLine nt k here base n before vs →
+    IsShownSoFar nt (IsGoodLine nt) (text_run nt (cond t (new_line (ended (ending nt here) false k) k) (moved (in_line (place_step nt (mark nt b) here)) (completed (mark nt b) here) k)) bs) n (with_front before (cond t ([] ∷ lines_of bs) (with_front (b ∷ []) (lines_of bs))))
+shown_byte nt true b bs k here base n before vs further h = shown_line nt (ending nt here) bs k here base n before vs further h refl
+shown_byte nt false b bs k here base n before vs further h = shown_moved nt (place_step nt (mark nt b) here) b bs k here base n before vs further h refl
 
-pub shown_all : (bs : List ℕ) → ShownAfter bs
-shown_all [] k here base n before vs h = not_last IsGoodLine (before ++ []) (subst IsPrefixOfGoodLine (sym (append-nil before)) (is_line_prefix before (record { place = here; vectors = vs }) h.run))
-shown_all (b ∷ bs) k here base n before vs h =
-    subst (λ x. IsShownSoFar IsGoodLine (text_run (step_at x b k) bs) n (with_front before (lines_of (b ∷ bs)))) (sym h.place) (shown_byte (b == 10) b bs k here base n before vs (shown_all bs) h)
+pub shown_all : (nt : Notation) → (bs : List ℕ) → ShownAfter nt bs
+shown_all nt [] k here base n before vs h = not_last nt (IsGoodLine nt) (before ++ []) (subst (IsPrefixOfGoodLine nt) (sym (append-nil before)) (is_line_prefix nt before (record { place = here; vectors = vs }) h.run))
+shown_all nt (b ∷ bs) k here base n before vs h =
+    subst (λ x. IsShownSoFar nt (IsGoodLine nt) (text_run nt (step_at nt x b k) bs) n (with_front before (lines_of (b ∷ bs)))) (sym h.place) (shown_byte nt (b == 10) b bs k here base n before vs (shown_all nt bs) h)

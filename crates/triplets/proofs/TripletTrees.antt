@@ -1,6 +1,7 @@
 -- What `write_triplet` writes of a motion that the grammar can say is a triplet with that value alone.
 use Rattle.std.proofs.Common.{◌≡◌, ℕ, List, [], ◌∷◌, ◌++◌, sym, ◌∙◌, append_assoc}
 use Rattle.symmetry.specs.Motions.{Motion}
+use Rattle.triplets.specs.declared.notation.Notation.TheVariants.{Triplets, Pairs}
 use Rattle.triplets.specs.Bytes.{comma}
 use Rattle.triplets.specs.Rows.{motion_with}
 use Rattle.triplets.specs.Grammar.{IsTriplet, part_text}
@@ -23,15 +24,15 @@ IsTriplet-triplet_text m h =
       two = two.tree;
       three = three.tree;
       text = (λ i. one.text_is i ++ comma ∷ [] ++ two.text_is i ++ comma ∷ [] ++ three.text_is i)
-          ∙ joined (part_text one.tree) (part_text two.tree) (part_text three.tree);
+          ∙ joined (part_text Triplets one.tree) (part_text Triplets two.tree) (part_text Triplets three.tree);
       rows = λ i. motion_with (sym one.row_is i) (sym two.row_is i) (sym three.row_is i);
     }
 
 -- bytes have one value at most
 one_triplet : (bytes : List ℕ) (m n : Motion) → IsTriplet bytes m → IsTriplet bytes n → n ≡ m
 one_triplet bytes m n h k =
-    let r = is_read bytes m h in
-    sym (one_value bytes r.last r.motion n r.run_is r.value_is k) ∙ r.motion_is
+    let r = is_read Triplets bytes m h in
+    sym (one_value Triplets bytes r.last r.motion n r.run_is r.value_is k) ∙ r.motion_is
 
 pub IsTripletOf-triplet_text : (m : Motion) → IsWritable m → IsTripletOf (triplet_text m) m
 IsTripletOf-triplet_text m h =

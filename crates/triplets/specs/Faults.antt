@@ -7,15 +7,17 @@ use Rattle.triplets.specs.declared.marks.Axis.TheVariants.{X, Y, Z}
 use Rattle.triplets.specs.declared.fault.TextKind.{TextKind}
 use Rattle.triplets.specs.declared.fault.TextKind.TheVariants as kinds
 use Rattle.symmetry.specs.Motions.{Motion}
-use Rattle.triplets.specs.Grammar.{IsTriplet}
+use Rattle.triplets.specs.declared.notation.Notation.{Notation}
+use Rattle.triplets.specs.Marks.{has_axis}
+use Rattle.triplets.specs.Grammar.{IsOperation}
 
--- the bytes are a triplet
-abbrev pub IsGood : List ℕ → Type 0
-IsGood bytes = (value : Motion) × IsTriplet bytes value
+-- the bytes are an operation
+abbrev pub IsGood : Notation → List ℕ → Type 0
+IsGood nt bytes = (value : Motion) × IsOperation nt bytes value
 
 -- they are the beginning of one
-abbrev pub IsPrefixOfGood : List ℕ → Type 0
-IsPrefixOfGood = IsPrefixIn IsGood
+abbrev pub IsPrefixOfGood : (nt : Notation) → List ℕ → Type 0
+IsPrefixOfGood nt = IsPrefixIn (IsGood nt)
 
 -- Words on what stands before a place.
 
@@ -58,31 +60,31 @@ abbrev pub TableRow : Type 0 → TextKind → TextKind → Type 0 → Type 0
 TableRow applies named kind otherwise = (applies × (kind ≡ named)) ⊎ ((applies → ⊥) × otherwise)
 
 -- a letter that stands in this part already
-abbrev pub IsRepeated : List ℕ → ℕ → Type 0
-IsRepeated before b = (a : Axis) × IsTrue (is_letter a b) × IsTrue (stands a false before)
+abbrev pub IsRepeated : Notation → List ℕ → ℕ → Type 0
+IsRepeated nt before b = (a : Axis) × IsTrue (is_letter a b) × (has_axis nt a ≡ true) × IsTrue (stands a false before)
 
--- x, y or z, small or capital
-abbrev pub IsLetter : ℕ → Type 0
-IsLetter b = (a : Axis) × IsTrue (is_letter a b)
+-- a letter of the notation, small or capital
+abbrev pub IsLetter : Notation → ℕ → Type 0
+IsLetter nt b = (a : Axis) × IsTrue (is_letter a b) × (has_axis nt a ≡ true)
 
 -- the kind at the byte b
-abbrev pub HasKind : List ℕ → ℕ → TextKind → Type 0
-HasKind before b kind =
-    TableRow ((b ≡ hash) × ¬ IsGood before) kinds.MissingPart kind (
-    TableRow ((b ≡ comma) × IsGood before) kinds.ExtraPart kind (
+abbrev pub HasKind : (nt : Notation) → List ℕ → ℕ → TextKind → Type 0
+HasKind nt before b kind =
+    TableRow ((b ≡ hash) × ¬ IsGood nt before) kinds.MissingPart kind (
+    TableRow ((b ≡ comma) × IsGood nt before) kinds.ExtraPart kind (
     TableRow ((b ≡ comma) × (last_mark comma before ≡ comma)) kinds.Empty kind (
-    TableRow (IsRepeated before b) kinds.Repeated kind (
-    TableRow (IsLetter b × (1 ≤ digits_at_end 0 before)) kinds.Coefficient kind (
+    TableRow (IsRepeated nt before b) kinds.Repeated kind (
+    TableRow (IsLetter nt b × (1 ≤ digits_at_end 0 before)) kinds.Coefficient kind (
     TableRow (IsTrue (is_digit b) × (last_other 0 before ≡ slash)) kinds.Denominator kind (
     TableRow (IsTrue (is_digit b) × (3 ≤ digits_at_end 0 before)) kinds.Coefficient kind (
     kind ≡ kinds.UnknownSign)))))))
 
 -- where no byte stands at the place, the text ends too early
-abbrev pub HasKindAt : List ℕ → Option ℕ → TextKind → Type 0
-HasKindAt before None kind = kind ≡ kinds.MissingPart
-HasKindAt before (Some b) kind = HasKind before b kind
+abbrev pub HasKindAt : (nt : Notation) → List ℕ → Option ℕ → TextKind → Type 0
+HasKindAt nt before None kind = kind ≡ kinds.MissingPart
+HasKindAt nt before (Some b) kind = HasKind nt before b kind
 
 -- the place of the fault, counted from 0, and its kind
-pub record IsFault (bytes : List ℕ) (before : ℕ) (kind : TextKind) : Type 0 where
-  pub place : IsPlaceIn IsGood bytes before
-  pub kind_is : HasKindAt (take before bytes) (slice_get bytes before) kind
+pub record IsFault (nt : Notation) (bytes : List ℕ) (before : ℕ) (kind : TextKind) : Type 0 where
+  pub place : IsPlaceIn (IsGood nt) bytes before
+  pub kind_is : HasKindAt nt (take before bytes) (slice_get bytes before) kind

@@ -1,6 +1,8 @@
 -- The grammar of a triplet: what is written, how it is spelled, and what it means.
 use Rattle.std.specs.Prelude.{◌≡◌, ℕ, ◌+◌, ◌-◌, ◌*◌, ◌≤◌, Bool, true, false, List, [], ◌∷◌, ◌++◌, map, length}
 use Rattle.triplets.specs.Bytes.{comma, slash}
+use Rattle.triplets.specs.declared.notation.Notation.{Notation}
+use Rattle.triplets.specs.declared.notation.Notation.TheVariants.{Triplets, Pairs}
 use Rattle.triplets.specs.declared.marks.Axis.{Axis}
 use Rattle.triplets.specs.declared.marks.Axis.TheVariants.{X, Y, Z}
 use Rattle.motions.specs.declared.motion.Sign.{Sign}
@@ -8,7 +10,8 @@ use Rattle.motions.specs.declared.motion.Sign.TheVariants.{Plus, Minus}
 use Rattle.triplets.specs.declared.part.Row.{Row}
 use Rattle.triplets.specs.declared.part.Used.{Used}
 use Rattle.symmetry.specs.Motions.{Motion}
-use Rattle.triplets.specs.Rows.{zero_row, unused, with_entry, with_shift, signed, uses, with_used, motion_with}
+use Rattle.triplets.specs.Marks.{has_axis}
+use Rattle.triplets.specs.Rows.{zero_row, axis_row, unused, with_entry, with_shift, signed, uses, with_used, motion_with}
 use Rattle.triplets.specs.Denominators.{unit, parts, Denominator, denominator_text}
 
 -- a byte that may stand between the words
@@ -101,11 +104,11 @@ with_letters (letter a c) u = with_used a u
 with_letters (multiple d _ a c) u = with_used a u
 with_letters _ u = u
 
--- the term's letter is none of these
-abbrev pub IsNew : Term → Used → Type 0
-IsNew (letter a c) u = uses a u ≡ false
-IsNew (multiple d _ a c) u = uses a u ≡ false
-IsNew _ u = Unit {0}
+-- the term's letter is one of the notation and none of these
+abbrev pub IsNew : Notation → Term → Used → Type 0
+IsNew nt (letter a c) u = (has_axis nt a ≡ true) × (uses a u ≡ false)
+IsNew nt (multiple d _ a c) u = (has_axis nt a ≡ true) × (uses a u ≡ false)
+IsNew nt _ u = Unit {0}
 
 -- What stands in a part before a term: nothing or a sign, or terms and a sign behind them
 pub data Lead : Type 0 where
@@ -138,31 +141,50 @@ lead_letters (sign bs s cs) = unused
 lead_letters (more l t bs s cs) = with_letters t (lead_letters l)
 
 -- each letter stands at most once
-abbrev pub IsLead : Lead → Type 0
-IsLead (bare bs) = Unit {0}
-IsLead (sign bs s cs) = Unit {0}
-IsLead (more l t bs s cs) = IsLead l × IsNew t (lead_letters l)
+abbrev pub IsLead : Notation → Lead → Type 0
+IsLead nt (bare bs) = Unit {0}
+IsLead nt (sign bs s cs) = Unit {0}
+IsLead nt (more l t bs s cs) = IsLead nt l × IsNew nt t (lead_letters l)
 
 -- a part: what stands before its last term, this term, and blanks
-pub record Written : Type 0 where
+pub record Written (nt : Notation) : Type 0 where
   pub lead : Lead
   pub last : Term
   pub after : List Blank
-  pub good : IsLead lead
-  pub new : IsNew last (lead_letters lead)
+  pub good : IsLead nt lead
+  pub new : IsNew nt last (lead_letters lead)
 
 -- a part as it is written
-abbrev pub part_text : Written → List ℕ
-part_text w = lead_text w.lead ++ (term_text w.last ++ blanks_text w.after)
+abbrev pub part_text : (nt : Notation) → Written nt → List ℕ
+part_text nt w = lead_text w.lead ++ (term_text w.last ++ blanks_text w.after)
 
 -- its value: a row of W, and an entry of w
-abbrev pub part_row : Written → Row
-part_row w = with_term (lead_sign w.lead) w.last (lead_row w.lead)
+abbrev pub part_row : (nt : Notation) → Written nt → Row
+part_row nt w = with_term (lead_sign w.lead) w.last (lead_row w.lead)
 
--- three parts with two commas between them
-pub record IsTriplet (bytes : List ℕ) (value : Motion) : Type 0 where
-  pub one : Written
-  pub two : Written
-  pub three : Written
-  pub text : bytes ≡ part_text one ++ (comma ∷ (part_text two ++ (comma ∷ part_text three)))
-  pub rows : value ≡ motion_with (part_row one) (part_row two) (part_row three)
+-- what the third part is: a triplet has one, a pair has none
+abbrev pub ThirdPart : Notation → Type 0
+ThirdPart Triplets = Written Triplets
+ThirdPart Pairs = Unit {0}
+
+-- as it is written, behind a comma
+abbrev pub third_text : (nt : Notation) → ThirdPart nt → List ℕ
+third_text Triplets w = comma ∷ part_text Triplets w
+third_text Pairs w = []
+
+-- its value: in a pair the third coordinate stays as it is
+abbrev pub third_row : (nt : Notation) → ThirdPart nt → Row
+third_row Triplets w = part_row Triplets w
+third_row Pairs w = axis_row
+
+-- three parts with two commas between them, or two parts with one
+pub record IsOperation (nt : Notation) (bytes : List ℕ) (value : Motion) : Type 0 where
+  pub one : Written nt
+  pub two : Written nt
+  pub three : ThirdPart nt
+  pub text : bytes ≡ part_text nt one ++ (comma ∷ (part_text nt two ++ third_text nt three))
+  pub rows : value ≡ motion_with (part_row nt one) (part_row nt two) (third_row nt three)
+
+-- the bytes are a triplet with this value
+abbrev pub IsTriplet : List ℕ → Motion → Type 0
+IsTriplet = IsOperation Triplets

@@ -1,5 +1,6 @@
 -- What the reader does in line 1, and where in a text it stands.
 use Rattle.std.specs.Prelude.{ℕ, ◌==◌, Bool, true, false, if◌then◌else◌, List, Option, Some, None, Result, Ok, Err}
+use Rattle.triplets.specs.declared.notation.Notation.{Notation}
 use Rattle.triplets.specs.Bytes.{hash}
 use Rattle.triplets.specs.declared.marks.Mark.{Mark}
 use Rattle.triplets.specs.declared.marks.Mark.TheVariants as marks
@@ -26,18 +27,18 @@ behind_word marks.Hash = Ok words.Comment
 behind_word _ = Err kinds.UnknownSign
 
 -- a byte of the heading
-abbrev pub heading_step : ℕ → HeadingPlace → Result HeadingPlace TextKind
-heading_step b words.G = letter_step 101 words.Ge b
-heading_step b words.Ge = letter_step 110 words.Gen b
-heading_step b words.Gen = letter_step 101 words.Gene b
-heading_step b words.Gene = letter_step 114 words.Gener b
-heading_step b words.Gener = letter_step 97 words.Genera b
-heading_step b words.Genera = letter_step 116 words.Generat b
-heading_step b words.Generat = letter_step 111 words.Generato b
-heading_step b words.Generato = letter_step 114 words.Generator b
-heading_step b words.Generator = letter_step 115 words.Generators b
-heading_step b words.Generators = behind_word (mark b)
-heading_step b words.Comment = Ok words.Comment
+abbrev pub heading_step : (nt : Notation) → ℕ → HeadingPlace → Result HeadingPlace TextKind
+heading_step nt b words.G = letter_step 101 words.Ge b
+heading_step nt b words.Ge = letter_step 110 words.Gen b
+heading_step nt b words.Gen = letter_step 101 words.Gene b
+heading_step nt b words.Gene = letter_step 114 words.Gener b
+heading_step nt b words.Gener = letter_step 97 words.Genera b
+heading_step nt b words.Genera = letter_step 116 words.Generat b
+heading_step nt b words.Generat = letter_step 111 words.Generato b
+heading_step nt b words.Generato = letter_step 114 words.Generator b
+heading_step nt b words.Generator = letter_step 115 words.Generators b
+heading_step nt b words.Generators = behind_word (mark nt b)
+heading_step nt b words.Comment = Ok words.Comment
 
 -- whether the heading may end here
 abbrev pub is_whole : HeadingPlace → Bool
@@ -56,19 +57,19 @@ in_line (Ok p) = Ok (texts.Line p)
 in_line (Err k) = Err k
 
 -- the first byte of line 1 that is no blank begins a line, if it does not begin the word
-abbrev pub begin_line : Mark → Result TextPlace TextKind
-begin_line marks.Blank = Ok texts.Beginning
-begin_line m = in_line (start_step m)
+abbrev pub begin_line : (nt : Notation) → Mark → Result TextPlace TextKind
+begin_line nt marks.Blank = Ok texts.Beginning
+begin_line nt m = in_line (start_step nt m)
 
 -- a byte of line 1 behind blanks: the letter g begins the word
-abbrev pub from_beginning : ℕ → Result TextPlace TextKind
-from_beginning b = if b == 103 then Ok (texts.Heading words.G) else begin_line (mark b)
+abbrev pub from_beginning : (nt : Notation) → ℕ → Result TextPlace TextKind
+from_beginning nt b = if b == 103 then Ok (texts.Heading words.G) else begin_line nt (mark nt b)
 
 -- a byte of a line of the text
-abbrev pub text_step : ℕ → TextPlace → Result TextPlace TextKind
-text_step b texts.Beginning = from_beginning b
-text_step b (texts.Heading p) = in_heading (heading_step b p)
-text_step b (texts.Line p) = in_line (place_step (mark b) p)
+abbrev pub text_step : (nt : Notation) → ℕ → TextPlace → Result TextPlace TextKind
+text_step nt b texts.Beginning = from_beginning nt b
+text_step nt b (texts.Heading p) = in_heading (heading_step nt b p)
+text_step nt b (texts.Line p) = in_line (place_step nt (mark nt b) p)
 
 -- the vector that a byte of this meaning completes
 abbrev pub text_completed : Mark → TextPlace → Option (List Part)
@@ -77,10 +78,10 @@ text_completed m (texts.Heading p) = None
 text_completed m (texts.Line p) = completed m p
 
 -- where a line may end, the operation that stands in it
-abbrev pub text_ending : TextPlace → Option (Option Motion3)
-text_ending texts.Beginning = Some None
-text_ending (texts.Heading p) = if is_whole p then Some None else None
-text_ending (texts.Line p) = ending p
+abbrev pub text_ending : (nt : Notation) → TextPlace → Option (Option Motion3)
+text_ending nt texts.Beginning = Some None
+text_ending nt (texts.Heading p) = if is_whole p then Some None else None
+text_ending nt (texts.Line p) = ending nt p
 
 -- whether the line is the heading
 abbrev pub is_heading : TextPlace → Bool

@@ -5,6 +5,9 @@ use Rattle.triplets.specs.declared.marks.Axis.{Axis}
 use Rattle.triplets.specs.declared.marks.Axis.TheVariants.{X, Y, Z}
 use Rattle.triplets.specs.declared.fault.TextKind.{TextKind}
 use Rattle.triplets.specs.declared.fault.TextKind.TheVariants as kinds
+use Rattle.triplets.specs.declared.notation.Notation.{Notation}
+use Rattle.triplets.specs.Marks.{has_axis}
+use Rattle.triplets.specs.declared.notation.Notation.TheVariants.{Triplets, Pairs}
 use Rattle.triplets.specs.Faults.{is_digit, is_letter, last_mark, last_other, digits_at_end, TableRow, IsLetter}
 use Rattle.symmetry.specs.Groups.{Listing}
 use Rattle.triplets.specs.Lines.{IsLine}
@@ -12,16 +15,16 @@ use Rattle.triplets.specs.Headings.{IsHeading}
 use Rattle.triplets.specs.Places.{IsPrefixIn, IsPlaceIn}
 
 -- the bytes are a line of the grammar
-abbrev pub IsGoodLine : List ℕ → Type 0
-IsGoodLine bytes = (listing : Listing) × IsLine bytes listing
+abbrev pub IsGoodLine : (nt : Notation) → List ℕ → Type 0
+IsGoodLine nt bytes = (listing : Listing) × IsLine nt bytes listing
 
 -- they are the beginning of one
-abbrev pub IsPrefixOfGoodLine : List ℕ → Type 0
-IsPrefixOfGoodLine = IsPrefixIn IsGoodLine
+abbrev pub IsPrefixOfGoodLine : (nt : Notation) → List ℕ → Type 0
+IsPrefixOfGoodLine nt = IsPrefixIn (IsGoodLine nt)
 
 -- they may be line 1: a line of the grammar, or the heading
-abbrev pub IsGoodFirstLine : List ℕ → Type 0
-IsGoodFirstLine bytes = IsGoodLine bytes ⊎ IsHeading bytes
+abbrev pub IsGoodFirstLine : (nt : Notation) → List ℕ → Type 0
+IsGoodFirstLine nt bytes = IsGoodLine nt bytes ⊎ IsHeading bytes
 
 -- the last bracket; n if there is none
 abbrev pub last_bracket : ℕ → List ℕ → ℕ
@@ -46,29 +49,34 @@ is_end_of_part b = is_digit b || (is_letter X b || (is_letter Y b || is_letter Z
 abbrev pub IsFresh : List ℕ → Type 0
 IsFresh before = (last_mark comma before ≡ comma) ⊎ ((last_mark comma before ≡ opening) ⊎ ((last_mark comma before ≡ closing) × (commas 0 before ≡ 0)))
 
+-- how many commas stand in an operation or a vector
+abbrev pub commas_within : Notation → ℕ
+commas_within Triplets = 2
+commas_within Pairs = 1
+
 -- the table of kinds: the first row that applies
-abbrev pub HasLineKind : List ℕ → ℕ → TextKind → Type 0
-HasLineKind before b kind =
+abbrev pub HasLineKind : (nt : Notation) → List ℕ → ℕ → TextKind → Type 0
+HasLineKind nt before b kind =
     TableRow (b ≡ hash) kinds.MissingPart kind (
     TableRow ((b ≡ closing) × (last_bracket 0 before ≡ opening) × IsTrue (is_digit (last_mark comma before))) kinds.MissingPart kind (
-    TableRow ((b ≡ comma) × (commas 0 before ≡ 2) × IsTrue (is_end_of_part (last_mark comma before))) kinds.ExtraPart kind (
+    TableRow ((b ≡ comma) × (commas_within nt ≤ commas 0 before) × IsTrue (is_end_of_part (last_mark comma before))) kinds.ExtraPart kind (
     TableRow ((b ≡ comma) × IsFresh before) kinds.Empty kind (
-    TableRow ((a : Axis) × IsTrue (is_letter a b) × IsTrue (line_stands a false before)) kinds.Repeated kind (
-    TableRow (IsLetter b × (1 ≤ digits_at_end 0 before)) kinds.Coefficient kind (
+    TableRow ((a : Axis) × IsTrue (is_letter a b) × (has_axis nt a ≡ true) × IsTrue (line_stands a false before)) kinds.Repeated kind (
+    TableRow (IsLetter nt b × (1 ≤ digits_at_end 0 before)) kinds.Coefficient kind (
     TableRow (IsTrue (is_digit b) × (last_other 0 before ≡ slash)) kinds.Denominator kind (
     TableRow (IsTrue (is_digit b) × (3 ≤ digits_at_end 0 before)) kinds.Coefficient kind (
     kind ≡ kinds.UnknownSign))))))))
 
 -- where no byte stands at the place, the line ends too early
-abbrev pub HasLineKindAt : List ℕ → Option ℕ → TextKind → Type 0
-HasLineKindAt before None kind = kind ≡ kinds.MissingPart
-HasLineKindAt before (Some b) kind = HasLineKind before b kind
+abbrev pub HasLineKindAt : (nt : Notation) → List ℕ → Option ℕ → TextKind → Type 0
+HasLineKindAt nt before None kind = kind ≡ kinds.MissingPart
+HasLineKindAt nt before (Some b) kind = HasLineKind nt before b kind
 
 -- the place of the fault, counted from 0, and its kind, where it is known which lines are good
-pub record IsFaultIn (Good : List ℕ → Type 0) (bytes : List ℕ) (before : ℕ) (kind : TextKind) : Type 0 where
+pub record IsFaultIn (nt : Notation) (Good : List ℕ → Type 0) (bytes : List ℕ) (before : ℕ) (kind : TextKind) : Type 0 where
   pub place : IsPlaceIn Good bytes before
-  pub kind_is : HasLineKindAt (take before bytes) (slice_get bytes before) kind
+  pub kind_is : HasLineKindAt nt (take before bytes) (slice_get bytes before) kind
 
 -- the fault of a line behind line 1
-abbrev pub IsLineFault : List ℕ → ℕ → TextKind → Type 0
-IsLineFault = IsFaultIn IsGoodLine
+abbrev pub IsLineFault : (nt : Notation) → List ℕ → ℕ → TextKind → Type 0
+IsLineFault nt = IsFaultIn nt (IsGoodLine nt)

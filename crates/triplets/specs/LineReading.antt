@@ -17,6 +17,8 @@ use Rattle.fractions.specs.declared.part.Part.{Part}
 use Rattle.triplets.specs.declared.line.VectorReader.{VectorReader}
 use Rattle.triplets.specs.declared.line.LinePlace.{LinePlace}
 use Rattle.triplets.specs.declared.line.LinePlace.TheVariants as places
+use Rattle.triplets.specs.declared.notation.Notation.{Notation}
+use Rattle.triplets.specs.declared.notation.Notation.TheVariants.{Triplets, Pairs}
 use Rattle.triplets.specs.Marks.{mark}
 use Rattle.triplets.specs.PartReading.{begin, settled, part_step, with_sign, IsSmall}
 use Rattle.triplets.specs.TripletReading.{start, step, value, early_comma}
@@ -41,15 +43,16 @@ in_coordinate label v (Ok p) = Ok (places.Coordinates (record v { part = p; labe
 in_coordinate label v (Err k) = Err k
 
 -- the comma behind a coordinate
-abbrev pub next_coordinate : Nth → VectorReader → ℤ → Result LinePlace TextKind
-next_coordinate First v x = Ok (places.Coordinates (record { nth = Second; first = x; second = v.second; part = begin; label = false }))
-next_coordinate Second v x = Ok (places.Coordinates (record { nth = Third; first = v.first; second = x; part = begin; label = false }))
-next_coordinate Third v x = Err kinds.ExtraPart
+abbrev pub next_coordinate : Notation → Nth → VectorReader → ℤ → Result LinePlace TextKind
+next_coordinate nt First v x = Ok (places.Coordinates (record { nth = Second; first = x; second = v.second; part = begin; label = false }))
+next_coordinate Triplets Second v x = Ok (places.Coordinates (record { nth = Third; first = v.first; second = x; part = begin; label = false }))
+next_coordinate Pairs Second v x = Err kinds.ExtraPart
+next_coordinate nt Third v x = Err kinds.ExtraPart
 
 -- a comma in a vector
-abbrev pub coordinate_comma : Option PartReader → VectorReader → Result LinePlace TextKind
-coordinate_comma None v = Err (early_comma v.part.spot)
-coordinate_comma (Some p) v = next_coordinate v.nth v p.row.shift
+abbrev pub coordinate_comma : (nt : Notation) → Option PartReader → VectorReader → Result LinePlace TextKind
+coordinate_comma nt None v = Err (early_comma v.part.spot)
+coordinate_comma nt (Some p) v = next_coordinate nt v.nth v p.row.shift
 
 -- the digits of a numerator are being read
 abbrev pub is_digits : Spot → Bool
@@ -57,14 +60,17 @@ is_digits (spots.Digits n v) = true
 is_digits _ = false
 
 -- a vector is closed
-abbrev pub closed_at : Nth → Option PartReader → VectorReader → Result LinePlace TextKind
-closed_at _ None v = Err kinds.UnknownSign
-closed_at Third (Some p) v = Ok (places.Closed (parts_with v.first v.second p.row.shift))
-closed_at _ (Some p) v = Err kinds.MissingPart
+abbrev pub closed_at : Notation → Nth → Option PartReader → VectorReader → Result LinePlace TextKind
+closed_at nt _ None v = Err kinds.UnknownSign
+closed_at nt First (Some p) v = Err kinds.MissingPart
+closed_at Triplets Second (Some p) v = Err kinds.MissingPart
+closed_at Pairs Second (Some p) v = Ok (places.Closed (parts_with v.first p.row.shift (pos 0)))
+closed_at Triplets Third (Some p) v = Ok (places.Closed (parts_with v.first v.second p.row.shift))
+closed_at Pairs Third (Some p) v = Err kinds.MissingPart
 
 -- a closing bracket: of a label, or of a vector
-abbrev pub on_close : VectorReader → Result LinePlace TextKind
-on_close v = if v.label && is_digits v.part.spot then Ok (places.Operation start) else closed_at v.nth (settled v.part) v
+abbrev pub on_close : (nt : Notation) → VectorReader → Result LinePlace TextKind
+on_close nt v = if v.label && is_digits v.part.spot then Ok (places.Operation start) else closed_at nt v.nth (settled v.part) v
 
 -- a letter in a vector
 abbrev pub behind_number : Spot → TextKind
@@ -78,20 +84,20 @@ coordinate_sign s spots.Begin v = Ok (places.Coordinates (record v { part = with
 coordinate_sign s _ v = Err kinds.UnknownSign
 
 -- a byte behind an opening bracket
-abbrev pub vector_step : Mark → VectorReader → Result LinePlace TextKind
-vector_step (marks.Letter a) v = Err (behind_number v.part.spot)
-vector_step (marks.Signs s) v = coordinate_sign s v.part.spot v
-vector_step marks.Comma v = coordinate_comma (settled v.part) v
-vector_step marks.Close v = on_close v
-vector_step (marks.Digit d) v = in_coordinate v.label v (part_step (marks.Digit d) v.part)
-vector_step m v = in_coordinate false v (part_step m v.part)
+abbrev pub vector_step : (nt : Notation) → Mark → VectorReader → Result LinePlace TextKind
+vector_step nt (marks.Letter a) v = Err (behind_number v.part.spot)
+vector_step nt (marks.Signs s) v = coordinate_sign s v.part.spot v
+vector_step nt marks.Comma v = coordinate_comma nt (settled v.part) v
+vector_step nt marks.Close v = on_close nt v
+vector_step nt (marks.Digit d) v = in_coordinate v.label v (part_step (marks.Digit d) v.part)
+vector_step nt m v = in_coordinate false v (part_step m v.part)
 
 -- the first byte that is no blank
-abbrev pub start_step : Mark → Result LinePlace TextKind
-start_step marks.Blank = Ok places.Start
-start_step marks.Open = Ok (places.Coordinates (opened true))
-start_step marks.Hash = Ok (places.Comment None)
-start_step m = in_operation (step m start)
+abbrev pub start_step : (nt : Notation) → Mark → Result LinePlace TextKind
+start_step nt marks.Blank = Ok places.Start
+start_step nt marks.Open = Ok (places.Coordinates (opened true))
+start_step nt marks.Hash = Ok (places.Comment None)
+start_step nt m = in_operation (step nt m start)
 
 -- a comment behind a triplet
 abbrev pub comment_behind : Option Motion3 → Result LinePlace TextKind
@@ -99,9 +105,9 @@ comment_behind None = Err kinds.MissingPart
 comment_behind (Some t) = Ok (places.Comment (Some t))
 
 -- a byte of an operation
-abbrev pub operation_step : Mark → TripletReader → Result LinePlace TextKind
-operation_step marks.Hash t = comment_behind (value t)
-operation_step m t = in_operation (step m t)
+abbrev pub operation_step : (nt : Notation) → Mark → TripletReader → Result LinePlace TextKind
+operation_step nt marks.Hash t = comment_behind (value nt t)
+operation_step nt m t = in_operation (step nt m t)
 
 -- a byte behind a closed vector
 abbrev pub closed_step : Mark → List Part → Result LinePlace TextKind
@@ -118,13 +124,13 @@ behind_step marks.Hash = Ok (places.Comment None)
 behind_step _ = Err kinds.UnknownSign
 
 -- a byte of a line
-abbrev pub place_step : Mark → LinePlace → Result LinePlace TextKind
-place_step m places.Start = start_step m
-place_step m (places.Operation t) = operation_step m t
-place_step m (places.Coordinates v) = vector_step m v
-place_step m (places.Closed v) = closed_step m v
-place_step m places.Behind = behind_step m
-place_step m (places.Comment o) = Ok (places.Comment o)
+abbrev pub place_step : (nt : Notation) → Mark → LinePlace → Result LinePlace TextKind
+place_step nt m places.Start = start_step nt m
+place_step nt m (places.Operation t) = operation_step nt m t
+place_step nt m (places.Coordinates v) = vector_step nt m v
+place_step nt m (places.Closed v) = closed_step m v
+place_step nt m places.Behind = behind_step m
+place_step nt m (places.Comment o) = Ok (places.Comment o)
 
 -- the vector that the mark completes
 abbrev pub completed_by : Mark → List Part → Option (List Part)
@@ -156,18 +162,18 @@ at_place (Ok p) vs = Ok (record { place = p; vectors = vs })
 at_place (Err k) vs = Err k
 
 -- a byte of a line
-abbrev pub line_step : Mark → LineState → Result LineState TextKind
-line_step m s = at_place (place_step m s.place) (with_vector (completed m s.place) s.vectors)
+abbrev pub line_step : (nt : Notation) → Mark → LineState → Result LineState TextKind
+line_step nt m s = at_place (place_step nt m s.place) (with_vector (completed m s.place) s.vectors)
 
 -- a byte, where there was no fault yet
-abbrev pub line_advance : Result LineState TextKind → ℕ → Result LineState TextKind
-line_advance (Err k) b = Err k
-line_advance (Ok s) b = line_step (mark b) s
+abbrev pub line_advance : (nt : Notation) → Result LineState TextKind → ℕ → Result LineState TextKind
+line_advance nt (Err k) b = Err k
+line_advance nt (Ok s) b = line_step nt (mark nt b) s
 
 -- the bytes of a line one by one
-abbrev pub line_run : Result LineState TextKind → List ℕ → Result LineState TextKind
-line_run r [] = r
-line_run r (b ∷ bs) = line_run (line_advance r b) bs
+abbrev pub line_run : (nt : Notation) → Result LineState TextKind → List ℕ → Result LineState TextKind
+line_run nt r [] = r
+line_run nt r (b ∷ bs) = line_run nt (line_advance nt r b) bs
 
 -- the operation of the line, if it may end here
 abbrev pub some_operation : Option Motion3 → Option (Option Motion3)
@@ -175,13 +181,13 @@ some_operation None = None
 some_operation (Some t) = Some (Some t)
 
 -- where a line may end, the operation that stands in it
-abbrev pub ending : LinePlace → Option (Option Motion3)
-ending places.Start = Some None
-ending (places.Operation t) = some_operation (value t)
-ending (places.Coordinates v) = None
-ending (places.Closed v) = None
-ending places.Behind = Some None
-ending (places.Comment o) = Some o
+abbrev pub ending : (nt : Notation) → LinePlace → Option (Option Motion3)
+ending nt places.Start = Some None
+ending nt (places.Operation t) = some_operation (value nt t)
+ending nt (places.Coordinates v) = None
+ending nt (places.Closed v) = None
+ending nt places.Behind = Some None
+ending nt (places.Comment o) = Some o
 
 -- the motion that is listed, if there is one
 abbrev pub operations_of : Option Motion3 → List Motion
@@ -194,8 +200,8 @@ listing_by None vs = None
 listing_by (Some o) vs = Some (record { ops = operations_of o; centrings = vs })
 
 -- what the line lists, if it may end here
-abbrev pub line_value : LineState → Option Listing
-line_value s = listing_by (ending s.place) s.vectors
+abbrev pub line_value : (nt : Notation) → LineState → Option Listing
+line_value nt s = listing_by (ending nt s.place) s.vectors
 
 -- the numbers are small
 abbrev pub IsPlaceSmall : LinePlace → Type 0

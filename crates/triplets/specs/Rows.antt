@@ -24,6 +24,10 @@ parts_with x y z = record { 0 = x } ∷ record { 0 = y } ∷ record { 0 = z } �
 abbrev pub zero_row : Row
 zero_row = record { x = pos 0; y = pos 0; z = pos 0; shift = pos 0 }
 
+-- the third coordinate as it is
+abbrev pub axis_row : Row
+axis_row = record { x = pos 0; y = pos 0; z = pos 1; shift = pos 0 }
+
 -- the entry of a letter
 abbrev pub with_entry : Axis → ℤ → Row → Row
 with_entry X v r = record r { x = v }

@@ -3,6 +3,7 @@ use Rattle.std.specs.Prelude.{◌≡◌, ℕ, Bool, List, Result, Ok, Err, IfOk,
 use Rattle.motions.specs.declared.listed.Listed.{Listed}
 use Rattle.motions.specs.Views.{listing_of}
 use Rattle.symmetry.specs.Groups.{Listing}
+use Rattle.triplets.specs.declared.notation.Notation.{Notation}
 use Rattle.triplets.specs.declared.fault.TextFault.{TextFault}
 use Rattle.triplets.specs.declared.fault.TextFault.TheVariants as faults
 use Rattle.triplets.specs.Texts.{IsGroupText, Fault, IsTextFault, IsShownFault}
@@ -18,22 +19,22 @@ Lists (Ok listed) generated g = (listed.generated ≡ generated) × (listing_of 
 Lists (Err fault) generated g = IsMemory fault
 
 -- the first fault of the text, or memory ran out
-abbrev pub IsFaultOf : List ℕ → TextFault → Type 0
-IsFaultOf text faults.NoMemory = Unit {0}
-IsFaultOf text (faults.At line column kind) = IsTextFault text (record { line = line; column = column; kind = kind })
+abbrev pub IsFaultOf : (nt : Notation) → List ℕ → TextFault → Type 0
+IsFaultOf nt text faults.NoMemory = Unit {0}
+IsFaultOf nt text (faults.At line column kind) = IsTextFault nt text (record { line = line; column = column; kind = kind })
 
 -- what a reader answers to a whole text
-pub record IsAnswer (text : List ℕ) (answer : Result Listed TextFault) : Type 0 where
-  pub found : IfOk answer (λ listed. IsGroupText text listed.generated (listing_of listed))
-  pub only : (generated : Bool) (g : Listing) → IsGroupText text generated g → Lists answer generated g
-  pub fault : IfErr answer (IsFaultOf text)
+pub record IsAnswer (nt : Notation) (text : List ℕ) (answer : Result Listed TextFault) : Type 0 where
+  pub found : IfOk answer (λ listed. IsGroupText nt text listed.generated (listing_of listed))
+  pub only : (generated : Bool) (g : Listing) → IsGroupText nt text generated g → Lists answer generated g
+  pub fault : IfErr answer (IsFaultOf nt text)
 
 -- the first fault that a text shows, or memory ran out
-abbrev pub IsShownBy : List ℕ → TextFault → Type 0
-IsShownBy text faults.NoMemory = Unit {0}
-IsShownBy text (faults.At line column kind) = IsShownFault text (record { line = line; column = column; kind = kind })
+abbrev pub IsShownBy : (nt : Notation) → List ℕ → TextFault → Type 0
+IsShownBy nt text faults.NoMemory = Unit {0}
+IsShownBy nt text (faults.At line column kind) = IsShownFault nt text (record { line = line; column = column; kind = kind })
 
 -- what a reader answers to a text that may go on
-pub record IsAnswerSoFar (text : List ℕ) (answer : Result (Unit {0}) TextFault) : Type 0 where
-  pub none : IfOk answer (λ _. (f : Fault) → ¬ IsShownFault text f)
-  pub fault : IfErr answer (IsShownBy text)
+pub record IsAnswerSoFar (nt : Notation) (text : List ℕ) (answer : Result (Unit {0}) TextFault) : Type 0 where
+  pub none : IfOk answer (λ _. (f : Fault) → ¬ IsShownFault nt text f)
+  pub fault : IfErr answer (IsShownBy nt text)

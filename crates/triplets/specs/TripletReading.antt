@@ -13,7 +13,9 @@ use Rattle.triplets.specs.declared.triplet.Nth.TheVariants.{First, Second, Third
 use Rattle.motions.specs.declared.motion.Motion3.{Motion3}
 use Rattle.triplets.specs.declared.triplet.TripletReader.{TripletReader}
 use Rattle.triplets.specs.Marks.{mark}
-use Rattle.triplets.specs.Rows.{zero_row, motion3_with}
+use Rattle.triplets.specs.declared.notation.Notation.{Notation}
+use Rattle.triplets.specs.declared.notation.Notation.TheVariants.{Triplets, Pairs}
+use Rattle.triplets.specs.Rows.{zero_row, axis_row, motion3_with}
 use Rattle.triplets.specs.PartReading.{begin, settled, part_step}
 
 -- before the first byte
@@ -35,28 +37,34 @@ early_comma spots.Begin = kinds.Empty
 early_comma _ = kinds.UnknownSign
 
 -- the comma behind a part
-abbrev pub next_part : Nth → TripletReader → Row → Result TripletReader TextKind
-next_part First s r = Ok (record { nth = Second; first = r; second = s.second; part = begin })
-next_part Second s r = Ok (record { nth = Third; first = s.first; second = r; part = begin })
-next_part Third s r = Err kinds.ExtraPart
+abbrev pub next_part : Notation → Nth → TripletReader → Row → Result TripletReader TextKind
+next_part nt First s r = Ok (record { nth = Second; first = r; second = s.second; part = begin })
+next_part Triplets Second s r = Ok (record { nth = Third; first = s.first; second = r; part = begin })
+next_part Pairs Second s r = Err kinds.ExtraPart
+next_part nt Third s r = Err kinds.ExtraPart
 
 -- a comma
-abbrev pub comma_at : Option PartReader → TripletReader → Result TripletReader TextKind
-comma_at None s = Err (early_comma s.part.spot)
-comma_at (Some p) s = next_part s.nth s p.row
+abbrev pub comma_at : (nt : Notation) → Option PartReader → TripletReader → Result TripletReader TextKind
+comma_at nt None s = Err (early_comma s.part.spot)
+comma_at nt (Some p) s = next_part nt s.nth s p.row
 
 -- a comma
-abbrev pub on_comma : TripletReader → Result TripletReader TextKind
-on_comma s = comma_at (settled s.part) s
+abbrev pub on_comma : (nt : Notation) → TripletReader → Result TripletReader TextKind
+on_comma nt s = comma_at nt (settled s.part) s
 
 -- the triplet, at the end of its last part
-abbrev pub value_at : Nth → Option PartReader → TripletReader → Option Motion3
-value_at Third (Some p) s = Some (motion3_with s.first s.second p.row)
-value_at _ _ s = None
+abbrev pub value_at : Notation → Nth → Option PartReader → TripletReader → Option Motion3
+value_at nt First o s = None
+value_at nt Second None s = None
+value_at Triplets Second (Some p) s = None
+value_at Pairs Second (Some p) s = Some (motion3_with s.first p.row axis_row)
+value_at nt Third None s = None
+value_at Triplets Third (Some p) s = Some (motion3_with s.first s.second p.row)
+value_at Pairs Third (Some p) s = None
 
 -- the triplet, if it is whole
-abbrev pub value : TripletReader → Option Motion3
-value s = value_at s.nth (settled s.part) s
+abbrev pub value : (nt : Notation) → TripletReader → Option Motion3
+value nt s = value_at nt s.nth (settled s.part) s
 
 -- a comment in a triplet
 abbrev pub hash_kind : Option Motion3 → TextKind
@@ -64,17 +72,17 @@ hash_kind None = kinds.MissingPart
 hash_kind (Some _) = kinds.UnknownSign
 
 -- a byte of a triplet
-abbrev pub step : Mark → TripletReader → Result TripletReader TextKind
-step marks.Comma s = on_comma s
-step marks.Hash s = Err (hash_kind (value s))
-step m s = in_part s (part_step m s.part)
+abbrev pub step : (nt : Notation) → Mark → TripletReader → Result TripletReader TextKind
+step nt marks.Comma s = on_comma nt s
+step nt marks.Hash s = Err (hash_kind (value nt s))
+step nt m s = in_part s (part_step m s.part)
 
 -- a byte, where there was no fault yet
-abbrev pub advance : Result TripletReader TextKind → ℕ → Result TripletReader TextKind
-advance (Err k) b = Err k
-advance (Ok s) b = step (mark b) s
+abbrev pub advance : (nt : Notation) → Result TripletReader TextKind → ℕ → Result TripletReader TextKind
+advance nt (Err k) b = Err k
+advance nt (Ok s) b = step nt (mark nt b) s
 
 -- the bytes one by one
-abbrev pub run : Result TripletReader TextKind → List ℕ → Result TripletReader TextKind
-run r [] = r
-run r (b ∷ bs) = run (advance r b) bs
+abbrev pub run : (nt : Notation) → Result TripletReader TextKind → List ℕ → Result TripletReader TextKind
+run nt r [] = r
+run nt r (b ∷ bs) = run nt (advance nt r b) bs

@@ -4,6 +4,7 @@ ghost use Rattle.triplets.specs.HeadingReading.{letter_step, behind_word, headin
 
 use crate::fault::TextKind;
 use crate::marks::{Mark, mark_of};
+use crate::notation::Notation;
 
 /// Where in the heading the reader stands: behind these letters of its word.
 #[derive(Clone, Copy, Debug)]
@@ -48,8 +49,8 @@ fn behind_word(mark: Mark) -> Result<HeadingPlace, TextKind>
 
 impl HeadingPlace {
     /// Reads one more byte.
-    pub fn step(self, byte: u8) -> Result<HeadingPlace, TextKind>
-        ensures { result ≡ heading_step byte self }
+    pub fn step(self, notation: Notation, byte: u8) -> Result<HeadingPlace, TextKind>
+        ensures { result ≡ heading_step notation byte self }
     {
         match self {
             HeadingPlace::G => letter_step(b'e', HeadingPlace::Ge, byte),
@@ -61,7 +62,7 @@ impl HeadingPlace {
             HeadingPlace::Generat => letter_step(b'o', HeadingPlace::Generato, byte),
             HeadingPlace::Generato => letter_step(b'r', HeadingPlace::Generator, byte),
             HeadingPlace::Generator => letter_step(b's', HeadingPlace::Generators, byte),
-            HeadingPlace::Generators => behind_word(mark_of(byte)),
+            HeadingPlace::Generators => behind_word(mark_of(notation, byte)),
             HeadingPlace::Comment => Ok(HeadingPlace::Comment),
         }
     }

@@ -17,6 +17,7 @@ mod heading;
 mod laws;
 mod line;
 mod marks;
+mod notation;
 mod part;
 mod place;
 mod text;
@@ -25,11 +26,12 @@ mod write;
 
 pub use fault::{TextFault, TextKind, TripletFault};
 pub use frieze::{Frieze, write_frieze};
-pub use group::{MOST_BYTES, read_group};
+pub use group::{MOST_BYTES, read_group, read_pairs};
 pub use laws::{
     kind_in_heading, limit_in_numbers, no_listing_and_fault, one_begun_row, one_fault, one_kept,
     one_listing,
 };
+pub use notation::Notation;
 pub use text::LineReader;
 pub use triplet::read_triplet;
 pub use write::{NoMemory, Triplet, write_triplet};

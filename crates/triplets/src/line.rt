@@ -3,6 +3,7 @@ ghost use Rattle.std.specs.Prelude.{◌≡◌, ◌≤◌, ℕ, length, IfOk, IfE
 
 use crate::fault::TextKind;
 use crate::marks::Mark;
+use crate::notation::Notation;
 use crate::part::{PartReader, Spot};
 use crate::triplet::{Nth, TripletReader};
 use fractions::Part;
@@ -24,7 +25,7 @@ pub struct VectorReader {
 pub enum LinePlace {
     /// Nothing but blanks.
     Start,
-    /// In a triplet, or behind a label.
+    /// In an operation, or behind a label.
     Operation(TripletReader),
     /// Behind a bracket.
     Coordinates(VectorReader),
@@ -53,53 +54,57 @@ impl VectorReader {
         }
     }
 
-    fn next(self, value: i64) -> Result<LinePlace, TextKind>
-        ensures { result ≡ next_coordinate self.nth self value }
+    fn next(self, notation: Notation, value: i64) -> Result<LinePlace, TextKind>
+        ensures { result ≡ next_coordinate notation self.nth self value }
     {
-        match self.nth {
-            Nth::First => Ok(LinePlace::Coordinates(VectorReader {
+        match (self.nth, notation) {
+            (Nth::First, _) => Ok(LinePlace::Coordinates(VectorReader {
                 nth: Nth::Second,
                 first: value,
                 part: PartReader::new(),
                 label: false,
                 ..self
             })),
-            Nth::Second => Ok(LinePlace::Coordinates(VectorReader {
+            (Nth::Second, Notation::Triplets) => Ok(LinePlace::Coordinates(VectorReader {
                 nth: Nth::Third,
                 second: value,
                 part: PartReader::new(),
                 label: false,
                 ..self
             })),
-            Nth::Third => Err(TextKind::ExtraPart),
+            _ => Err(TextKind::ExtraPart),
         }
     }
 
-    fn on_comma(self) -> Result<LinePlace, TextKind>
+    fn on_comma(self, notation: Notation) -> Result<LinePlace, TextKind>
         requires { IsSmall self.part }
-        ensures { result ≡ coordinate_comma (settled self.part) self }
+        ensures { result ≡ coordinate_comma notation (settled self.part) self }
     {
         match self.part.settled() {
-            Some(whole) => self.next(whole.row.shift),
+            Some(whole) => self.next(notation, whole.row.shift),
             None if self.part.spot == Spot::Begin => Err(TextKind::Empty),
             None => Err(TextKind::UnknownSign),
         }
     }
 
-    fn on_close(self) -> Result<LinePlace, TextKind>
+    fn on_close(self, notation: Notation) -> Result<LinePlace, TextKind>
         requires { IsSmall self.part }
-        ensures { result ≡ on_close self }
+        ensures { result ≡ on_close notation self }
     {
         if self.label && matches!(self.part.spot, Spot::Digits { .. }) {
             return Ok(LinePlace::Operation(TripletReader::new()));
         }
-        match (self.nth, self.part.settled()) {
-            (_, None) => Err(TextKind::UnknownSign),
-            (Nth::Third, Some(whole)) => {
+        match (notation, self.nth, self.part.settled()) {
+            (_, _, None) => Err(TextKind::UnknownSign),
+            (Notation::Triplets, Nth::Third, Some(whole)) => {
                 let vector = [Part(self.first), Part(self.second), Part(whole.row.shift)];
                 Ok(LinePlace::Closed(vector))
             }
-            (_, Some(_)) => Err(TextKind::MissingPart),
+            (Notation::Pairs, Nth::Second, Some(whole)) => {
+                let vector = [Part(self.first), Part(whole.row.shift), Part(0)];
+                Ok(LinePlace::Closed(vector))
+            }
+            (_, _, Some(_)) => Err(TextKind::MissingPart),
         }
     }
 
@@ -124,10 +129,10 @@ impl VectorReader {
     }
 
     /// Reads one more byte.
-    fn step(self, mark: Mark) -> Result<LinePlace, TextKind>
+    fn step(self, notation: Notation, mark: Mark) -> Result<LinePlace, TextKind>
         requires small { IsSmall self.part }
         requires digit { IsMarkInRange mark }
-        ensures { result ≡ vector_step mark self }
+        ensures { result ≡ vector_step notation mark self }
     {
         match mark {
             Mark::Letter(_) => Err(match self.part.spot {
@@ -135,8 +140,8 @@ impl VectorReader {
                 _ => TextKind::UnknownSign,
             }),
             Mark::Signs(sign) => self.on_sign(sign),
-            Mark::Comma => self.on_comma(),
-            Mark::Close => self.on_close(),
+            Mark::Comma => self.on_comma(notation),
+            Mark::Close => self.on_close(notation),
             Mark::Digit(_) => {
                 let part = self.part.step(mark)?;
                 Ok(LinePlace::Coordinates(VectorReader { part, ..self }))
@@ -158,29 +163,33 @@ impl LinePlace {
     ghost use Rattle.triplets.specs.Marks.{IsMarkInRange};
     ghost use Rattle.triplets.specs.LineReading.{start_step, operation_step, closed_step, behind_step, place_step, completed, ending, IsPlaceSmall};
 
-    fn from_start(mark: Mark) -> Result<LinePlace, TextKind>
+    fn from_start(notation: Notation, mark: Mark) -> Result<LinePlace, TextKind>
         requires { IsMarkInRange mark }
-        ensures { result ≡ start_step mark }
+        ensures { result ≡ start_step notation mark }
     {
         match mark {
             Mark::Blank => Ok(LinePlace::Start),
             Mark::Open => Ok(LinePlace::Coordinates(VectorReader::opened(true))),
             Mark::Hash => Ok(LinePlace::Comment(None)),
-            _ => Ok(LinePlace::Operation(TripletReader::new().step(mark)?)),
+            _ => Ok(LinePlace::Operation(TripletReader::new().step(notation, mark)?)),
         }
     }
 
-    fn from_operation(reader: TripletReader, mark: Mark) -> Result<LinePlace, TextKind>
+    fn from_operation(
+        notation: Notation,
+        reader: TripletReader,
+        mark: Mark,
+    ) -> Result<LinePlace, TextKind>
         requires small { IsSmall reader.part }
         requires digit { IsMarkInRange mark }
-        ensures { result ≡ operation_step mark reader }
+        ensures { result ≡ operation_step notation mark reader }
     {
         match mark {
-            Mark::Hash => match reader.value() {
+            Mark::Hash => match reader.value(notation) {
                 Some(value) => Ok(LinePlace::Comment(Some(value))),
                 None => Err(TextKind::MissingPart),
             },
-            _ => Ok(LinePlace::Operation(reader.step(mark)?)),
+            _ => Ok(LinePlace::Operation(reader.step(notation, mark)?)),
         }
     }
 
@@ -207,15 +216,15 @@ impl LinePlace {
     }
 
     /// Reads one more byte.
-    pub fn step(self, mark: Mark) -> Result<LinePlace, TextKind>
+    pub fn step(self, notation: Notation, mark: Mark) -> Result<LinePlace, TextKind>
         requires small { IsPlaceSmall self }
         requires digit { IsMarkInRange mark }
-        ensures { result ≡ place_step mark self }
+        ensures { result ≡ place_step notation mark self }
     {
         match self {
-            LinePlace::Start => LinePlace::from_start(mark),
-            LinePlace::Operation(reader) => LinePlace::from_operation(reader, mark),
-            LinePlace::Coordinates(reader) => reader.step(mark),
+            LinePlace::Start => LinePlace::from_start(notation, mark),
+            LinePlace::Operation(reader) => LinePlace::from_operation(notation, reader, mark),
+            LinePlace::Coordinates(reader) => reader.step(notation, mark),
             LinePlace::Closed(vector) => LinePlace::from_closed(vector, mark),
             LinePlace::Behind => LinePlace::from_behind(mark),
             LinePlace::Comment(operation) => Ok(LinePlace::Comment(operation)),
@@ -233,13 +242,13 @@ impl LinePlace {
     }
 
     /// The operation of the line, if the line may end here.
-    pub fn ending(self) -> Option<Option<Motion3>>
+    pub fn ending(self, notation: Notation) -> Option<Option<Motion3>>
         requires { IsPlaceSmall self }
-        ensures { result ≡ ending self }
+        ensures { result ≡ ending notation self }
     {
         match self {
             LinePlace::Start | LinePlace::Behind => Some(None),
-            LinePlace::Operation(reader) => Some(Some(reader.value()?)),
+            LinePlace::Operation(reader) => Some(Some(reader.value(notation)?)),
             LinePlace::Coordinates(_) | LinePlace::Closed(_) => None,
             LinePlace::Comment(operation) => Some(operation),
         }

@@ -2,6 +2,7 @@
 ghost use Rattle.std.specs.Prelude.{◌≡◌};
 ghost use Rattle.triplets.specs.Marks.{mark};
 
+use crate::notation::Notation;
 use motions::Sign;
 
 /// A letter of a triplet.
@@ -27,9 +28,9 @@ pub enum Mark {
     Other,
 }
 
-/// What a byte means.
-pub fn mark_of(byte: u8) -> Mark
-    ensures { result ≡ mark byte }
+/// What a byte means in the notation.
+pub fn mark_of(notation: Notation, byte: u8) -> Mark
+    ensures { result ≡ mark notation byte }
 {
     match byte {
         b'0'..=b'9' => Mark::Digit(u32::from(byte - b'0')),
@@ -38,7 +39,7 @@ pub fn mark_of(byte: u8) -> Mark
         b'-' => Mark::Signs(Sign::Minus),
         b'x' | b'X' => Mark::Letter(Axis::X),
         b'y' | b'Y' => Mark::Letter(Axis::Y),
-        b'z' | b'Z' => Mark::Letter(Axis::Z),
+        b'z' | b'Z' if notation == Notation::Triplets => Mark::Letter(Axis::Z),
         b'/' => Mark::Slash,
         b',' => Mark::Comma,
         b'#' => Mark::Hash,

@@ -6,6 +6,7 @@ use crate::fault::TextKind;
 use crate::heading::HeadingPlace;
 use crate::line::LinePlace;
 use crate::marks::Mark;
+use crate::notation::Notation;
 use fractions::Part;
 use motions::Motion3;
 
@@ -23,29 +24,38 @@ pub enum TextPlace {
 impl TextPlace {
     ghost use Rattle.triplets.specs.HeadingReading.{from_beginning, text_step, text_completed, text_ending, is_heading, IsTextPlaceSmall};
 
-    fn from_beginning(byte: u8, meaning: Mark) -> Result<TextPlace, TextKind>
-        requires { meaning ≡ mark byte }
-        ensures { result ≡ from_beginning byte }
+    fn from_beginning(
+        notation: Notation,
+        byte: u8,
+        meaning: Mark,
+    ) -> Result<TextPlace, TextKind>
+        requires { meaning ≡ mark notation byte }
+        ensures { result ≡ from_beginning notation byte }
     {
         if byte == b'g' {
             return Ok(TextPlace::Heading(HeadingPlace::G));
         }
         match meaning {
             Mark::Blank => Ok(TextPlace::Beginning),
-            mark => Ok(TextPlace::Line(LinePlace::Start.step(mark)?)),
+            mark => Ok(TextPlace::Line(LinePlace::Start.step(notation, mark)?)),
         }
     }
 
     /// Reads one more byte of a line, with its meaning.
-    pub fn step(self, byte: u8, meaning: Mark) -> Result<TextPlace, TextKind>
+    pub fn step(
+        self,
+        notation: Notation,
+        byte: u8,
+        meaning: Mark,
+    ) -> Result<TextPlace, TextKind>
         requires small { IsTextPlaceSmall self }
-        requires meaning { meaning ≡ mark byte }
-        ensures { result ≡ text_step byte self }
+        requires meaning { meaning ≡ mark notation byte }
+        ensures { result ≡ text_step notation byte self }
     {
         match self {
-            TextPlace::Line(place) => Ok(TextPlace::Line(place.step(meaning)?)),
-            TextPlace::Beginning => TextPlace::from_beginning(byte, meaning),
-            TextPlace::Heading(place) => Ok(TextPlace::Heading(place.step(byte)?)),
+            TextPlace::Line(place) => Ok(TextPlace::Line(place.step(notation, meaning)?)),
+            TextPlace::Beginning => TextPlace::from_beginning(notation, byte, meaning),
+            TextPlace::Heading(place) => Ok(TextPlace::Heading(place.step(notation, byte)?)),
         }
     }
 
@@ -60,15 +70,15 @@ impl TextPlace {
     }
 
     /// The operation of the line, if the line may end here.
-    pub fn ending(self) -> Option<Option<Motion3>>
+    pub fn ending(self, notation: Notation) -> Option<Option<Motion3>>
         requires { IsTextPlaceSmall self }
-        ensures { result ≡ text_ending self }
+        ensures { result ≡ text_ending notation self }
     {
         match self {
             TextPlace::Beginning => Some(None),
             TextPlace::Heading(place) if place.is_whole() => Some(None),
             TextPlace::Heading(_) => None,
-            TextPlace::Line(place) => place.ending(),
+            TextPlace::Line(place) => place.ending(notation),
         }
     }
 

@@ -6,6 +6,7 @@ ghost use Rattle.triplets.specs.Laws.PlaceLaws.{IsTextPlaceWithin-prop};
 use crate::fault::{TextFault, TextKind};
 use crate::line::LinePlace;
 use crate::marks::mark_of;
+use crate::notation::Notation;
 use crate::place::TextPlace;
 use motions::Listed;
 use std::alloc::Global;
@@ -15,6 +16,7 @@ use std::alloc::Global;
 /// It reads byte by byte, and keeps what the lines so far list and where in a line it stands.
 #[derive(Drop)]
 pub struct LineReader {
+    notation: Notation,
     listed: Listed,
     fed: u32,
     line: u32,
@@ -33,16 +35,39 @@ impl LineReader {
     ghost use Rattle.triplets.specs.TextReading.{Stands, Gives, AreAlike, kept, finished, byte_step, bytes_fed, fault_answered};
     ghost use Rattle.triplets.specs.TextAnswers.{IsAnswer, IsAnswerSoFar};
     ghost use Rattle.triplets.specs.KeptTexts.{Keeps};
+    ghost use Rattle.triplets.specs.declared.notation.Notation.{Notation};
+    ghost use Rattle.triplets.specs.declared.notation.Notation.TheVariants.{Triplets, Pairs};
     ghost use Rattle.motions.specs.ListedSizes.{IsListedSmall};
 
-    /// A reader that was fed nothing. It takes no memory.
+    /// A reader of triplets that was fed nothing. It takes no memory.
     pub fn make(alloc: Global) -> Self
-        ensures stands { Stands result [] }
-        ensures told { Keeps result [] }
+        ensures stands { Stands Triplets result [] }
+        ensures told { Keeps Triplets result [] }
+        ensures fed { bytes_fed result ≡ 0 }
+        ensures fault { fault_answered result ≡ None }
+    {
+        LineReader::of(alloc, Notation::Triplets)
+    }
+
+    /// A reader of pairs that was fed nothing. Each pair becomes the triplet with the third part `z`, and each vector
+    /// gets the third entry 0. It takes no memory.
+    pub fn pairs(alloc: Global) -> Self
+        ensures stands { Stands Pairs result [] }
+        ensures told { Keeps Pairs result [] }
+        ensures fed { bytes_fed result ≡ 0 }
+        ensures fault { fault_answered result ≡ None }
+    {
+        LineReader::of(alloc, Notation::Pairs)
+    }
+
+    fn of(alloc: Global, notation: Notation) -> Self
+        ensures stands { Stands notation result [] }
+        ensures told { Keeps notation result [] }
         ensures fed { bytes_fed result ≡ 0 }
         ensures fault { fault_answered result ≡ None }
     {
         LineReader {
+            notation,
             listed: Listed {
                 ops: Vec::new(alloc),
                 centrings: Vec::new(alloc),
@@ -68,13 +93,13 @@ impl LineReader {
 
     /// Ends the line, and lists its operation. Behind the heading the operations are generators.
     fn end_line(&mut self) -> Result<(), TextFault>
-        ensures value { Gives (λ _. (kept self.new).said) result (finished (kept self.old)) }
+        ensures value { Gives (λ _. (kept self.new).said) result (finished self.old.notation (kept self.old)) }
         ensures same { AreAlike self.old self.new }
     {
         if self.place.is_heading() {
             self.listed.generated = true;
         }
-        match self.place.ending() {
+        match self.place.ending(self.notation) {
             Some(Some(operation)) => {
                 self.listed.ops.push(operation)?;
                 Ok(())
@@ -88,7 +113,8 @@ impl LineReader {
     fn advance(&mut self, byte: u8) -> Result<(), TextFault>
         requires line { self.old.line ≤ self.old.fed }
         requires column { self.old.column ≤ self.old.fed }
-        ensures kept { Gives (λ _. kept self.new) result (byte_step byte (kept self.old)) }
+        ensures kept { Gives (λ _. kept self.new) result (byte_step self.old.notation byte (kept self.old)) }
+        ensures notation { self.new.notation ≡ self.old.notation }
         ensures fed { self.new.fed ≡ self.old.fed }
         ensures fault { self.new.fault ≡ self.old.fault }
         ensures line { self.new.line ≤ self.old.line + 1 }
@@ -101,8 +127,8 @@ impl LineReader {
             self.place = TextPlace::Line(LinePlace::Start);
             return Ok(());
         }
-        let meaning = mark_of(byte);
-        let next = match self.place.step(byte, meaning) {
+        let meaning = mark_of(self.notation, byte);
+        let next = match self.place.step(self.notation, byte, meaning) {
             Ok(next) => next,
             Err(kind) => return Err(self.here(kind)),
         };
@@ -121,9 +147,9 @@ impl LineReader {
     pub fn feed(&mut self, piece: &[u8]) -> Result<(), TextFault>
         requires { bytes_fed self.old + length piece.now ≤ 65536 }
         ensures fed { bytes_fed self.new ≡ bytes_fed self.old + length piece.now }
-        ensures stands { (result ≡ Err NoMemory) ⊎ ((text : List ℕ) → Stands self.old text → Stands self.new (text ++ piece.now)) }
-        ensures answer { (text : List ℕ) → Stands self.old text → IsAnswerSoFar (text ++ piece.now) result }
-        ensures told { (text : List ℕ) → Stands self.old text → IfOk result (λ _. Keeps self.new (text ++ piece.now)) }
+        ensures stands { (result ≡ Err NoMemory) ⊎ ((notation : Notation) (text : List ℕ) → Stands notation self.old text → Stands notation self.new (text ++ piece.now)) }
+        ensures answer { (notation : Notation) (text : List ℕ) → Stands notation self.old text → IsAnswerSoFar notation (text ++ piece.now) result }
+        ensures told { (notation : Notation) (text : List ℕ) → Stands notation self.old text → IfOk result (λ _. Keeps notation self.new (text ++ piece.now)) }
         ensures again { IfSome (fault_answered self.old) (λ fault. result ≡ Err fault) }
         ensures kept { IfErr result (λ fault. fault_answered self.new ≡ Some fault) }
     {
@@ -142,8 +168,8 @@ impl LineReader {
 
     /// Ends the text: what it lists, or its first fault.
     pub fn finish(self) -> Result<Listed, TextFault>
-        ensures answer { (text : List ℕ) → Stands self text → IsAnswer text result }
-        ensures small { (text : List ℕ) → Stands self text → IfOk result (IsListedSmall 9) }
+        ensures answer { (notation : Notation) (text : List ℕ) → Stands notation self text → IsAnswer notation text result }
+        ensures small { (notation : Notation) (text : List ℕ) → Stands notation self text → IfOk result (IsListedSmall 9) }
         ensures again { IfSome (fault_answered self) (λ fault. result ≡ Err fault) }
     {
         if let Some(fault) = self.fault {

@@ -1,6 +1,7 @@
 use Rattle.std.proofs.Common.{◌≡◌, take}
 use Rattle.triplets.specs.TripletReading.{start, run}
 use Rattle.std.proofs.Common.{Ok}
+use Rattle.triplets.specs.declared.notation.Notation.TheVariants.{Triplets}
 use Rattle.triplets.proofs.Wholes.{going}
 use Rattle.triplets.specs.PlaceBounds.{IsPartWithin}
 use Rattle.triplets.proofs.triplet.read_triplet.Given as goal
@@ -8,6 +9,6 @@ use Rattle.triplets.proofs.triplet.read_triplet.Given as goal
 -- the bytes so far lead to the reader, whose numbers they bound
 abbrev pub invariant-loop-i : goal.invariant-loop-i
 invariant-loop-i l = record {
-  read : run (Ok start) (take l.i l.bytes) ≡ going l.reader;
+  read : run Triplets (Ok start) (take l.i l.bytes) ≡ going l.reader;
   within : IsPartWithin l.i l.reader.part;
 }

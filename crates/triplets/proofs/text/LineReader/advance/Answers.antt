@@ -8,5 +8,5 @@ invariant_of-self-2 c = record {
   line_within = omega arith;
   column_within = omega arith;
   place_within =
-      text_place_within c.args.byte c.args.self.now.column c.args.self.now.place c.in-Ok.next c.args.self.now.place_within (sym c.step.ensures ∙ c.in-Ok.is);
+      text_place_within c.args.self.now.notation c.args.byte c.args.self.now.column c.args.self.now.place c.in-Ok.next c.args.self.now.place_within (sym c.step.ensures ∙ c.in-Ok.is);
 }

@@ -1,31 +1,38 @@
-use Rattle.std.proofs.Common.{get_or, refl, ◌∙◌, ◌++◌, arith, inr, Ok, Err}
-use Rattle.triplets.specs.TextReading.{kept, byte_step}
+use Rattle.std.proofs.Common.{get_or, refl, sym, subst, ap, ◌∙◌, ◌++◌, arith, inr, Ok, Err}
+use Rattle.triplets.specs.TextReading.{Refuses, Gives, kept, byte_step}
 use Rattle.triplets.proofs.TextFacts.{text_more, text_fault, gives_along, again, again_stands, stands_all, all_read, err_stands}
 use Rattle.triplets.proofs.Answered.{answer_so_far}
 use Rattle.triplets.proofs.FirstKept.{reader_keeps}
 use Rattle.triplets.proofs.text.LineReader.feed.Goals as goal
 
 pub returns-in-Some-clause-stands : goal.returns-in-Some-clause-stands
-returns-in-Some-clause-stands c = inr (λ text h. again_stands c.args.self.now _ c.in-Some.fault text c.args.piece.now c.in-Some.is refl refl h)
+returns-in-Some-clause-stands c = inr (λ nt text h. again_stands nt c.args.self.now _ c.in-Some.fault text c.args.piece.now c.in-Some.is refl refl refl h)
 
 pub returns-in-Some-clause-answer : goal.returns-in-Some-clause-answer
-returns-in-Some-clause-answer c text h =
-    answer_so_far (Err c.in-Some.fault) (kept c.args.self.now) _ (again c.args.self.now c.in-Some.fault text c.args.piece.now c.in-Some.is h)
+returns-in-Some-clause-answer c nt text h =
+    answer_so_far nt (Err c.in-Some.fault) (kept c.args.self.now) _ (again nt c.args.self.now c.in-Some.fault text c.args.piece.now c.in-Some.is h)
 
 pub returns-in-Err-clause-stands : goal.returns-in-Err-clause-stands
 returns-in-Err-clause-stands c =
-    err_stands c.args.self.now _ c.in-Err.fault (byte_step (get_or c.args.piece.now c.loop-byte.byte-index 0) (kept c.loop-byte.self)) c.args.piece.now refl (c.in-Err.ensures.fed ∙ c.loop-byte.invariant.fed) c.in-Err.ensures.kept
-    (λ text f h e. text_fault text c.args.piece.now c.loop-byte.byte-index (kept c.loop-byte.self) f c.loop-byte-test.true (c.loop-byte.invariant.run text h) e)
+    err_stands c.args.self.now _ c.in-Err.fault
+    (byte_step c.loop-byte.self.notation (get_or c.args.piece.now c.loop-byte.byte-index 0) (kept c.loop-byte.self)) c.args.piece.now
+    (c.in-Err.ensures.notation ∙ c.loop-byte.invariant.notation) refl (c.in-Err.ensures.fed ∙ c.loop-byte.invariant.fed) c.in-Err.ensures.kept
+    (λ nt text f h e. text_fault nt text c.args.piece.now c.loop-byte.byte-index (kept c.loop-byte.self) f c.loop-byte-test.true (c.loop-byte.invariant.run nt text h)
+    (ap (λ x. byte_step x (get_or c.args.piece.now c.loop-byte.byte-index 0) (kept c.loop-byte.self)) (sym (c.loop-byte.invariant.notation ∙ h.notation)) ∙ e))
 
 pub returns-in-Err-clause-answer : goal.returns-in-Err-clause-answer
-returns-in-Err-clause-answer c text h =
-    answer_so_far (Err c.in-Err.fault) (kept c.loop-byte.self) _
-    (gives_along c.in-Err.fault (byte_step (get_or c.args.piece.now c.loop-byte.byte-index 0) (kept c.loop-byte.self)) _
-    (λ f e. text_fault text c.args.piece.now c.loop-byte.byte-index (kept c.loop-byte.self) f c.loop-byte-test.true (c.loop-byte.invariant.run text h) e) c.in-Err.ensures.kept)
+returns-in-Err-clause-answer c nt text h =
+    answer_so_far nt (Err c.in-Err.fault) (kept c.loop-byte.self) _
+    (gives_along c.in-Err.fault (byte_step c.loop-byte.self.notation (get_or c.args.piece.now c.loop-byte.byte-index 0) (kept c.loop-byte.self)) _
+    (λ f e. text_fault nt text c.args.piece.now c.loop-byte.byte-index (kept c.loop-byte.self) f c.loop-byte-test.true (c.loop-byte.invariant.run nt text h)
+    (ap (λ x. byte_step x (get_or c.args.piece.now c.loop-byte.byte-index 0) (kept c.loop-byte.self)) (sym (c.loop-byte.invariant.notation ∙ h.notation)) ∙ e)) c.in-Err.ensures.kept)
 
 pub loop-byte-preserved : goal.loop-byte-preserved
 loop-byte-preserved c = record {
-  run = λ text h. text_more text c.args.piece.now c.loop-byte.byte-index (kept c.loop-byte.self) _ c.loop-byte-test.true (c.loop-byte.invariant.run text h) c.in_default-advance.ensures.kept;
+  run = λ nt text h.
+      text_more nt text c.args.piece.now c.loop-byte.byte-index (kept c.loop-byte.self) _ c.loop-byte-test.true (c.loop-byte.invariant.run nt text h)
+      (ap (λ x. byte_step x (get_or c.args.piece.now c.loop-byte.byte-index 0) (kept c.loop-byte.self)) (sym (c.loop-byte.invariant.notation ∙ h.notation)) ∙ c.in_default-advance.ensures.kept);
+  notation = c.in_default-advance.ensures.notation ∙ c.loop-byte.invariant.notation;
   fault = c.in_default-advance.ensures.fault ∙ c.loop-byte.invariant.fault;
   fed = c.in_default-advance.ensures.fed ∙ c.loop-byte.invariant.fed;
   line = omega (arith, c.in_default-advance.ensures.line, c.loop-byte.invariant.line);
@@ -33,12 +40,14 @@ loop-byte-preserved c = record {
 }
 
 pub returns-clause-stands : goal.returns-clause-stands
-returns-clause-stands c = inr (λ text h. stands_all c.args.self.now c.loop-byte.self text c.args.piece.now c.loop-byte.byte-index (omega arith) (c.loop-byte.invariant.run text h) c.loop-byte.invariant.fault c.loop-byte.invariant.fed h)
+returns-clause-stands c =
+    inr (λ nt text h. stands_all nt c.args.self.now c.loop-byte.self text c.args.piece.now c.loop-byte.byte-index (omega arith) (c.loop-byte.invariant.run nt text h)
+    c.loop-byte.invariant.notation c.loop-byte.invariant.fault c.loop-byte.invariant.fed h)
 
 pub returns-clause-answer : goal.returns-clause-answer
-returns-clause-answer c text h =
-    answer_so_far (Ok tt) (kept c.loop-byte.self) _ (all_read text c.args.piece.now c.loop-byte.byte-index (kept c.loop-byte.self) (omega arith) (c.loop-byte.invariant.run text h))
+returns-clause-answer c nt text h =
+    answer_so_far nt (Ok tt) (kept c.loop-byte.self) _ (all_read nt text c.args.piece.now c.loop-byte.byte-index (kept c.loop-byte.self) (omega arith) (c.loop-byte.invariant.run nt text h))
 
 pub returns-clause-told : goal.returns-clause-told
-returns-clause-told c text h =
-    reader_keeps c.loop-byte.self (text ++ c.args.piece.now) (all_read text c.args.piece.now c.loop-byte.byte-index (kept c.loop-byte.self) (omega arith) (c.loop-byte.invariant.run text h))
+returns-clause-told c nt text h =
+    reader_keeps nt c.loop-byte.self (text ++ c.args.piece.now) (all_read nt text c.args.piece.now c.loop-byte.byte-index (kept c.loop-byte.self) (omega arith) (c.loop-byte.invariant.run nt text h))
