@@ -1,4 +1,4 @@
--- The one written form of a motion as a coordinate triplet, and of a frieze motion as two parts of one.
+-- The one written form of a motion as a coordinate triplet or pair, and of a frieze motion as two parts of one.
 use Rattle.std.specs.Prelude.{Bool, true, false, ℕ, zero, suc, ℤ, pos, negsuc, List, [], ◌∷◌, ◌++◌, codes}
 use Rattle.std.specs.Fmt.{signed_decimal}
 use Rattle.std.specs.Str.Parse.{without_leading_plus}
@@ -8,7 +8,9 @@ use Rattle.fractions.specs.RatioText.{ratio_text}
 use Rattle.symmetry.specs.Vectors.{Vector}
 use Rattle.symmetry.specs.Motions.{Motion}
 use Rattle.motions.specs.FriezeMotions.{FriezeOperation}
+use Rattle.motions.specs.PlaneMatrices.{Pair}
 use Rattle.motions.specs.Signs.{sign_value}
+use Rattle.plane_motions.specs.PlaneMotions.{PlaneMotion}
 use Rattle.triplets.specs.declared.marks.Axis.{Axis}
 use Rattle.triplets.specs.declared.marks.Axis.TheVariants.{X, Y, Z}
 
@@ -61,6 +63,14 @@ triplet_text m =
     row_text m.matrix.first m.shift.x ++ codes "," ++
     row_text m.matrix.second m.shift.y ++ codes "," ++
     row_text m.matrix.third m.shift.z
+
+-- a row of two, as one without z
+abbrev pub pair_row_text : Pair → ℤ → List ℕ
+pair_row_text r t = row_text (record { x = r.x; y = r.y; z = pos 0 }) t
+
+-- the two rows of a motion of the plane, joined by a comma
+abbrev pub pair_text : PlaneMotion → List ℕ
+pair_text m = pair_row_text m.matrix.first m.shift.x ++ codes "," ++ pair_row_text m.matrix.second m.shift.y
 
 -- the two rows of a frieze motion, along the axis x and across it, joined by a comma
 abbrev pub frieze_text : FriezeOperation → List ℕ

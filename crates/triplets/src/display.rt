@@ -1,7 +1,8 @@
 // The parts of a triplet as they are written.
 ghost use Rattle.std.specs.Prelude.{◌≡◌, pos};
 ghost use Rattle.motions.specs.Views.{vector_of};
-ghost use Rattle.triplets.specs.Writing.{row_text};
+ghost use Rattle.motions.specs.PlaneViews.{pair_of};
+ghost use Rattle.triplets.specs.Writing.{pair_row_text, row_text};
 
 use crate::marks::Axis;
 use fractions::Part;
@@ -98,6 +99,19 @@ impl Row {
             x: row[0],
             y: row[1],
             z: row[2],
+            shift,
+        }
+    }
+
+    /// The row of an array of two, without z.
+    pub fn of_pair(row: &[i64; 2], shift: Part) -> Row
+        ensures { row_text (record { x = result.x; y = result.y; z = result.z }) result.shift.0
+            ≡ pair_row_text (pair_of row.now) shift.0 }
+    {
+        Row {
+            x: row[0],
+            y: row[1],
+            z: 0,
             shift,
         }
     }

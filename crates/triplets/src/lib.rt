@@ -1,11 +1,15 @@
-// Coordinate triplets and group texts: the grammar, readers that name the place and the kind of the first fault, and
-// the writer of the one written form.
+// Coordinate triplets and pairs, and group texts of either: the grammar, readers that name the place and the kind of the
+// first fault, and the writers of the one written form.
 //
 // Promises to the crates above: exactly the triplets and the texts of the grammar are read, each with its value;
-// of any other the first bad line, the column at which no good line goes on, and what is wrong there. A text says one
-// thing: it has one listing, of generators exactly where line 1 is the heading, or one fault and no listing. It may
-// come in pieces, cut anywhere. A motion has one written form, and where the grammar can say the motion, that form is
-// read as the motion again.
+// of any other the first bad line, the column at which no good line goes on, and what is wrong there. A text of triplets
+// or of pairs says one thing: it has one listing, of generators exactly where line 1 is the heading, or one fault and no
+// listing. It may come in pieces, cut anywhere. A motion has one written form, and where the grammar of triplets can say
+// the motion, that form is read as the motion again.
+//
+//     let mut reader = LineReader::make(alloc); // of triplets; LineReader::pairs(alloc) of pairs
+//     reader.feed(piece)?;
+//     let listed = reader.finish()?;
 #![tactic(auto)]
 
 mod denominator;
@@ -18,6 +22,7 @@ mod laws;
 mod line;
 mod marks;
 mod notation;
+mod pair;
 mod part;
 mod place;
 mod text;
@@ -32,11 +37,14 @@ pub use laws::{
     one_listing,
 };
 pub use notation::Notation;
+pub use pair::{Pair, write_pair};
 pub use text::LineReader;
 pub use triplet::read_triplet;
 pub use write::{NoMemory, Triplet, write_triplet};
 
 #[cfg(test)]
 mod heading_tests;
+#[cfg(test)]
+mod pair_tests;
 #[cfg(test)]
 mod tests;

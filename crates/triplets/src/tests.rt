@@ -33,6 +33,16 @@ pub struct Summary {
 }
 
 impl Summary {
+    /// The answer to a text that lists so many.
+    pub fn of_listed(ops: usize, centrings: usize, generated: bool) -> Summary {
+        Summary {
+            fault: None,
+            ops,
+            centrings,
+            generated,
+        }
+    }
+
     /// The answer to a text with this fault.
     pub fn of_fault(line: u32, column: u32, kind: TextKind) -> Summary {
         Summary {
@@ -44,14 +54,11 @@ impl Summary {
     }
 }
 
-fn summary_of(answer: Result<Listed, TextFault>) -> Summary {
+pub fn summary_of(answer: Result<Listed, TextFault>) -> Summary {
     match answer {
-        Ok(listed) => Summary {
-            fault: None,
-            ops: listed.ops.len(),
-            centrings: listed.centrings.len(),
-            generated: listed.generated,
-        },
+        Ok(listed) => {
+            Summary::of_listed(listed.ops.len(), listed.centrings.len(), listed.generated)
+        }
         Err(fault) => Summary {
             fault: Some(fault),
             ops: 0,
