@@ -3,6 +3,7 @@ use Rattle.std.proofs.Common.{◌≡◌, ℕ, ◌+◌, ◌<◌, List, [], ◌∷
 use Rattle.std.specs.Prelude.{slice_get}
 use Rattle.std.proofs.lemmas.List.{take-take}
 use Rattle.symmetry.specs.Motions.{Motion}
+use Rattle.triplets.specs.declared.notation.Notation.TheVariants.{Triplets}
 use Rattle.triplets.specs.declared.fault.TextKind.{TextKind}
 use Rattle.triplets.specs.Faults.{IsGood, IsPrefixOfGood, TableRow, HasKind, HasKindAt, IsFault}
 use Rattle.triplets.specs.Places.{IsPlaceIn}
@@ -12,12 +13,12 @@ use Rattle.cif_symops.specs.declared.word.Form.TheVariants.{Bare, Quoted, TextFi
 use Rattle.cif_symops.specs.Words.{Word}
 use Rattle.cif_symops.specs.Operations.{IsOperation, IsMisreadAs, IsMisread, AreOperations, IsFirstMisread}
 
-not_behind : (l : List ℕ) (m n : ℕ) → IsPlaceIn IsGood l m → IsPlaceIn IsGood l n → m < n → ⊥
+not_behind : (l : List ℕ) (m n : ℕ) → IsPlaceIn (IsGood Triplets) l m → IsPlaceIn (IsGood Triplets) l n → m < n → ⊥
 not_behind l m n h h' lt =
-    h.here (omega (arith, h'.within)) (subst IsPrefixOfGood (take-take (m + 1) n l (omega arith))
-    (shorter IsGood (take n l) (m + 1) h'.prefix))
+    h.here (omega (arith, h'.within)) (subst (IsPrefixOfGood Triplets) (take-take (m + 1) n l (omega arith))
+    (shorter (IsGood Triplets) (take n l) (m + 1) h'.prefix))
 
-one_place : (l : List ℕ) (m n : ℕ) → IsPlaceIn IsGood l m → IsPlaceIn IsGood l n → m ≡ n
+one_place : (l : List ℕ) (m n : ℕ) → IsPlaceIn (IsGood Triplets) l m → IsPlaceIn (IsGood Triplets) l n → m ≡ n
 one_place l m n h h' =
     let a : m < n → ⊥ = not_behind l m n h h' in
     let b : n < m → ⊥ = not_behind l n m h' h in
@@ -31,20 +32,20 @@ row_one below (inl h) (inr h') = absurd (h'.0 h.0)
 row_one below (inr h) (inl h') = absurd (h.0 h'.0)
 row_one below (inr h) (inr h') = below h.1 h'.1
 
-one_kind : (before : List ℕ) (b : ℕ) (k k' : TextKind) → HasKind before b k → HasKind before b k' → k ≡ k'
+one_kind : (before : List ℕ) (b : ℕ) (k k' : TextKind) → HasKind Triplets before b k → HasKind Triplets before b k' → k ≡ k'
 one_kind before b k k' = row_one (row_one (row_one (row_one (row_one (row_one (row_one (λ e e'. e ∙ sym e')))))))
 
-one_kind_at : (before : List ℕ) (at : Option ℕ) (k k' : TextKind) → HasKindAt before at k →
-    HasKindAt before at k' → k ≡ k'
+one_kind_at : (before : List ℕ) (at : Option ℕ) (k k' : TextKind) → HasKindAt Triplets before at k →
+    HasKindAt Triplets before at k' → k ≡ k'
 one_kind_at before None k k' e e' = e ∙ sym e'
 one_kind_at before (Some b) k k' h h' = one_kind before b k k' h h'
 
-one_fault : (l : List ℕ) (m n : ℕ) (k k' : TextKind) → IsFault l m k → IsFault l n k' → (m ≡ n) × (k ≡ k')
+one_fault : (l : List ℕ) (m n : ℕ) (k k' : TextKind) → IsFault Triplets l m k → IsFault Triplets l n k' → (m ≡ n) × (k ≡ k')
 one_fault l m n k k' h h' =
     let e = one_place l m n h.place h'.place in (
       e,
       one_kind_at (take m l) (slice_get l m) k k' h.kind_is
-          (subst (λ i. HasKindAt (take i l) (slice_get l i) k') (sym e) h'.kind_is),
+          (subst (λ i. HasKindAt Triplets (take i l) (slice_get l i) k') (sym e) h'.kind_is),
     )
 
 one_misread_as : (form : Form) (w : Word) (m n : ℕ) (k k' : TextKind) → IsMisreadAs form w m k →
