@@ -1,7 +1,8 @@
 -- Motions of the plane, how they multiply, and what they are in space.
-use Rattle.std.specs.Prelude.{◌≡◌, pos, List}
+use Rattle.std.specs.Prelude.{◌≡◌, pos, List, All}
 use Rattle.fractions.specs.declared.part.Part.{Part}
 use Rattle.symmetry.specs.Motions.{Motion}
+use Rattle.symmetry.specs.Groups.{Listing}
 use Rattle.motions.specs.declared.motion.Sign.TheVariants.{Plus}
 use Rattle.motions.specs.Layers.{PlanarMotion}
 use Rattle.motions.specs.PlaneMatrices.{Matrix2, Pair, image2, origin2, plus2, product2, unit2}
@@ -59,3 +60,8 @@ pub record IsFlat (m : Motion) : Type 0 where
   pub column_x : m.matrix.first.z ≡ pos 0
   pub column_y : m.matrix.second.z ≡ pos 0
   pub shift : m.shift.z ≡ pos 0
+
+-- what is listed of a plane group: each operation is flat, and the third entry of each centring vector is 0
+pub record IsFlatListing (g : Listing) : Type 0 where
+  pub operations : All IsFlat g.ops
+  pub centrings : All (λ v. v.z ≡ pos 0) g.centrings
