@@ -25,6 +25,7 @@ pub mod TextShown
 pub mod BegunRows
 pub mod KeptLines
 pub mod Headings
+pub mod FlatTexts
 pub mod HeadingKinds
 pub mod FirstLines
 pub mod FirstTexts

@@ -12,6 +12,8 @@ ghost use Rattle.triplets.specs.LineFaults.{HasLineKind};
 ghost use Rattle.triplets.specs.Texts.{Fault, IsGroupText, IsTextFault};
 ghost use Rattle.triplets.specs.declared.fault.TextKind.{TextKind};
 ghost use Rattle.triplets.specs.declared.notation.Notation.{Notation};
+ghost use Rattle.triplets.specs.declared.notation.Notation.TheVariants.{Pairs};
+ghost use Rattle.plane_motions.specs.PlaneMotions.{IsFlatListing};
 ghost use Rattle.triplets.specs.declared.fault.TextKind.TheVariants.{MissingPart, UnknownSign};
 ghost use Rattle.triplets.specs.declared.group.TheConstants.{MOST_BYTES};
 
@@ -53,6 +55,12 @@ pub fn kind_in_heading()
         → letters ++ rest ≡ heading_word → letters ≢ []
         → HasLineKind notation (blanks_text blanks ++ letters) b kind
         → kind ≡ (if b == hash then MissingPart else UnknownSign) }
+{}
+
+/// What a text of pairs lists is flat: its operations leave the third axis as it is, and its vectors have the third
+/// entry 0.
+pub fn pairs_are_flat()
+    ensures { (text : List ℕ) (b : Bool) (g : Listing) → IsGroupText Pairs text b g → IsFlatListing g }
 {}
 
 /// The limit that contracts name by its number.

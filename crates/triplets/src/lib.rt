@@ -34,7 +34,7 @@ pub use frieze::{Frieze, write_frieze};
 pub use group::{MOST_BYTES, read_group, read_pairs};
 pub use laws::{
     kind_in_heading, limit_in_numbers, no_listing_and_fault, one_begun_row, one_fault, one_kept,
-    one_listing,
+    one_listing, pairs_are_flat,
 };
 pub use notation::Notation;
 pub use pair::{Pair, write_pair};

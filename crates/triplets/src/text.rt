@@ -60,7 +60,8 @@ impl LineReader {
         LineReader::of(alloc, Notation::Pairs)
     }
 
-    fn of(alloc: Global, notation: Notation) -> Self
+    /// A reader of texts in the notation that was fed nothing. It takes no memory.
+    pub fn of(alloc: Global, notation: Notation) -> Self
         ensures stands { Stands notation result [] }
         ensures told { Keeps notation result [] }
         ensures fed { bytes_fed result ≡ 0 }
