@@ -7,17 +7,18 @@ use Rattle.motions.specs.declared.listed.Listed.{Listed}
 use Rattle.triplets.specs.declared.fault.TextFault.{TextFault}
 use Rattle.triplets.specs.declared.fault.TextFault.TheVariants as texts
 use Rattle.triplets.specs.declared.text.LineReader.{LineReader}
+use Rattle.triplets.specs.declared.notation.Notation.{Notation}
 use Rattle.triplets.specs.TextReading.{Stands, bytes_fed, fault_answered}
 use Rattle.triplets.specs.TextAnswers.{IsAnswer, IsFaultOf}
 use Rattle.requests.specs.declared.format.Format.TheVariants.{GroupText}
 use Rattle.requests.specs.Inputs.{IsShort}
 
 -- the text that the source gave was fed, and the reader stands behind it, unless memory ran out
-pub record HasFed (before now : Option (List ℕ)) (reader : LineReader) : Type 0 where
+pub record HasFed (nt : Notation) (before now : Option (List ℕ)) (reader : LineReader) : Type 0 where
   pub text : List ℕ
   pub given : before ≡ prepend_known text now
   pub fed : bytes_fed reader ≡ length text
-  pub stands : (fault_answered reader ≡ Some texts.NoMemory) ⊎ Stands reader text
+  pub stands : (fault_answered reader ≡ Some texts.NoMemory) ⊎ Stands nt reader text
 
 prepend_known-nothing : (known : Option (List ℕ)) → known ≡ prepend_known [] known
 prepend_known-nothing None = refl
@@ -33,7 +34,7 @@ answered_kept : {A : Type 0} (fault : Option TextFault) (f : TextFault) (result 
     → IfErr result (λ f. fault ≡ Some f) → fault ≡ Some f
 answered_kept fault f result is kept = subst (λ r. IfErr r (λ f. fault ≡ Some f)) is kept
 
-module _ (before now : Option (List ℕ)) (reader : LineReader) (h : HasFed before now reader) where
+module _ (nt : Notation) (before now : Option (List ℕ)) (reader : LineReader) (h : HasFed nt before now reader) where
   -- ---- one piece more
 
   module _ (after : Option (List ℕ)) (piece : List ℕ) (given : now ≡ prepend_known piece after) where
@@ -45,9 +46,9 @@ module _ (before now : Option (List ℕ)) (reader : LineReader) (h : HasFed befo
 
     -- the piece is fed
     pub fed_on : (new : LineReader) (result : Result (Unit {0}) TextFault) → bytes_fed new ≡ bytes_fed reader + length piece
-        → (result ≡ Err texts.NoMemory) ⊎ ((text : List ℕ) → Stands reader text → Stands new (text ++ piece))
+        → (result ≡ Err texts.NoMemory) ⊎ ((nt : Notation) (text : List ℕ) → Stands nt reader text → Stands nt new (text ++ piece))
         → IfSome (fault_answered reader) (λ fault. result ≡ Err fault) → IfErr result (λ fault. fault_answered new ≡ Some fault)
-        → HasFed before after new
+        → HasFed nt before after new
     fed_on new result fed stands again kept = record {
       text = h.text ++ piece;
       given = given_both;
@@ -58,12 +59,12 @@ module _ (before now : Option (List ℕ)) (reader : LineReader) (h : HasFed befo
         out : result ≡ Err texts.NoMemory → fault_answered new ≡ Some texts.NoMemory
         out e = answered_kept (fault_answered new) texts.NoMemory result e kept
 
-        behind : (fault_answered reader ≡ Some texts.NoMemory) ⊎ Stands reader h.text
-            → (result ≡ Err texts.NoMemory) ⊎ ((text : List ℕ) → Stands reader text → Stands new (text ++ piece))
-            → (fault_answered new ≡ Some texts.NoMemory) ⊎ Stands new (h.text ++ piece)
+        behind : (fault_answered reader ≡ Some texts.NoMemory) ⊎ Stands nt reader h.text
+            → (result ≡ Err texts.NoMemory) ⊎ ((nt : Notation) (text : List ℕ) → Stands nt reader text → Stands nt new (text ++ piece))
+            → (fault_answered new ≡ Some texts.NoMemory) ⊎ Stands nt new (h.text ++ piece)
         behind (inl e) f = inl (out (answered_again (fault_answered reader) texts.NoMemory result e again))
         behind (inr s) (inl e) = inl (out e)
-        behind (inr s) (inr f) = inr (f h.text s)
+        behind (inr s) (inr f) = inr (f nt h.text s)
 
     pub fed_within : (most : ℕ) → bytes_fed reader + length piece ≤ most → ReadsWithin before after most
     fed_within most few = (h.text ++ piece, subst (λ n. n ≤ most) (sym length_both) few, given_both)
@@ -71,7 +72,7 @@ module _ (before now : Option (List ℕ)) (reader : LineReader) (h : HasFed befo
   -- ---- the end
 
   -- no byte more was given
-  pub nothing_more : (after : Option (List ℕ)) (n : ℕ) (bytes : List ℕ) → n ≡ 0 → now ≡ prepend_known (take n bytes) after → HasFed before after reader
+  pub nothing_more : (after : Option (List ℕ)) (n : ℕ) (bytes : List ℕ) → n ≡ 0 → now ≡ prepend_known (take n bytes) after → HasFed nt before after reader
   nothing_more after n bytes none given = record {
     text = h.text;
     given = h.given ∙ ap (λ known. prepend_known h.text known) same;
@@ -94,14 +95,14 @@ module _ (before now : Option (List ℕ)) (reader : LineReader) (h : HasFed befo
 
   -- the fault at the end is one of the input
   module _ (end : IsAtEnd now) (few : bytes_fed reader ≤ 65536) (fault : TextFault) (answer : Result Listed TextFault) (is_fault : answer ≡ Err fault) where
-    pub fault_at_end : IfSome (fault_answered reader) (λ f. answer ≡ Err f) → ((text : List ℕ) → Stands reader text → IsAnswer text answer)
-        → (input : List ℕ) → before ≡ Some input → IsShort GroupText input × IsFaultOf input fault
+    pub fault_at_end : IfSome (fault_answered reader) (λ f. answer ≡ Err f) → ((nt : Notation) (text : List ℕ) → Stands nt reader text → IsAnswer nt text answer)
+        → (input : List ℕ) → before ≡ Some input → IsShort (GroupText nt) input × IsFaultOf nt input fault
     fault_at_end again answers input is =
-        subst (λ text. IsShort GroupText text × IsFaultOf text fault) (sym (all_fed end input is)) (subst (λ n. n ≤ 65536) h.fed few, shown h.stands)
+        subst (λ text. IsShort (GroupText nt) text × IsFaultOf nt text fault) (sym (all_fed end input is)) (subst (λ n. n ≤ 65536) h.fed few, shown h.stands)
       where
-        shown : (fault_answered reader ≡ Some texts.NoMemory) ⊎ Stands reader h.text → IsFaultOf h.text fault
+        shown : (fault_answered reader ≡ Some texts.NoMemory) ⊎ Stands nt reader h.text → IsFaultOf nt h.text fault
         shown (inl e) =
             let told : answer ≡ Err texts.NoMemory = answered_again (fault_answered reader) texts.NoMemory answer e again in
             let same : fault ≡ texts.NoMemory = cc in
-            subst (IsFaultOf h.text) (sym same) tt
-        shown (inr s) = subst (λ r. IfErr r (IsFaultOf h.text)) is_fault (answers h.text s).fault
+            subst (IsFaultOf nt h.text) (sym same) tt
+        shown (inr s) = subst (λ r. IfErr r (IsFaultOf nt h.text)) is_fault (answers nt h.text s).fault

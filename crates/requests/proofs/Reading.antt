@@ -8,6 +8,7 @@ use Rattle.closure.specs.declared.generated_error.GeneratedError.{GeneratedError
 use Rattle.closure.specs.declared.generated_error.GeneratedError.TheVariants as generators
 use Rattle.closure.specs.Derived.{IsGeneratedError}
 use Rattle.closure.specs.declared.group.Group.{Group}
+use Rattle.triplets.specs.declared.notation.Notation.{Notation}
 use Rattle.triplets.specs.Texts.{IsGroupText}
 use Rattle.triplets.specs.TextAnswers.{IsFaultOf}
 use Rattle.triplets.specs.declared.fault.TextFault.{TextFault}
@@ -28,10 +29,10 @@ use Rattle.requests.specs.Causes.{HasAnswer, IsGroupsObstacle, IsObstacle, IsSou
 
 module _ (left : Option (List ℕ)) (faults faults' : ℕ) (same : faults' ≡ faults) where
   -- a bad text
-  pub text_obstacle : (fault : TextFault) → ((input : List ℕ) → left ≡ Some input → IsShort GroupText input × IsFaultOf input fault)
-      → IsSourceObstacle GroupText left faults faults' (obstacle_of_text fault)
-  text_obstacle (texts.At line column kind) bad = (λ input is. (of_text (record { line = line; column = column; kind = kind }), bad input is, refl), same)
-  text_obstacle texts.NoMemory bad = same
+  pub text_obstacle : (nt : Notation) (fault : TextFault) → ((input : List ℕ) → left ≡ Some input → IsShort (GroupText nt) input × IsFaultOf nt input fault)
+      → IsSourceObstacle (GroupText nt) left faults faults' (obstacle_of_text fault)
+  text_obstacle nt (texts.At line column kind) bad = (λ input is. (of_text (record { line = line; column = column; kind = kind }), bad input is, refl), same)
+  text_obstacle nt texts.NoMemory bad = same
 
   -- the error of what is listed
   module _ (format : Format) (g : Listing) (lists : (input : List ℕ) → left ≡ Some input → IsShort format input × ListsAll format input g) where
@@ -45,15 +46,15 @@ module _ (left : Option (List ℕ)) (faults faults' : ℕ) (same : faults' ≡ f
     group_obstacle groups.NoMemory h = same
 
   -- the error of listed generators
-  module _ (g : Listing) (lists : (input : List ℕ) → left ≡ Some input → IsShort GroupText input × IsGroupText input true g) where
-    cause_of_generators : (input : List ℕ) (error : GeneratedError) → IsGeneratedError g error → left ≡ Some input → IsCause GroupText input (of_generators error)
+  module _ (nt : Notation) (g : Listing) (lists : (input : List ℕ) → left ≡ Some input → IsShort (GroupText nt) input × IsGroupText nt input true g) where
+    cause_of_generators : (input : List ℕ) (error : GeneratedError) → IsGeneratedError g error → left ≡ Some input → IsCause (GroupText nt) input (of_generators error)
     cause_of_generators input error h is = let text = lists input is in (text.0, (g, text.1, h))
 
     known_cause : (error : GeneratedError) (r : Refusal) → obstacle_of_generators error ≡ obstacles.Refused r → IsGeneratedError g error
-        → (input : List ℕ) → left ≡ Some input → IsRefusedInput GroupText input r
+        → (input : List ℕ) → left ≡ Some input → IsRefusedInput (GroupText nt) input r
     known_cause error r e h input is = (of_generators error, cause_of_generators input error h is, e)
 
-    pub generators_obstacle : (error : GeneratedError) → IsGeneratedError g error → IsSourceObstacle GroupText left faults faults' (obstacle_of_generators error)
+    pub generators_obstacle : (error : GeneratedError) → IsGeneratedError g error → IsSourceObstacle (GroupText nt) left faults faults' (obstacle_of_generators error)
     generators_obstacle (generators.TooMany n) h = (known_cause (generators.TooMany n) _ refl h, same)
     generators_obstacle (generators.NoInverse i) h = (known_cause (generators.NoInverse i) _ refl h, same)
     generators_obstacle generators.TooLarge h = (known_cause generators.TooLarge _ refl h, same)

@@ -1,6 +1,7 @@
 -- The group that an input lists, or why there is none.
 use Rattle.std.specs.Prelude.{◌≡◌, ℕ, ◌<◌, ◌≤◌, ◌⊎◌, true, false, List, length, Ok, Err}
 use Rattle.symmetry.specs.Groups.{Listing, IsGroup}
+use Rattle.triplets.specs.declared.notation.Notation.{Notation}
 use Rattle.triplets.specs.Texts.{Fault, IsGroupText, IsTextFault}
 use Rattle.cif_symops.specs.Answers.{FileSays}
 use Rattle.cif_symops.specs.declared.fault.CifFault.{CifFault}
@@ -21,7 +22,7 @@ use Rattle.requests.specs.Obstacles.{obstacle_of_cif, obstacle_of_generators, ob
 
 -- the most bytes that an input may have
 abbrev pub most_bytes : Format → ℕ
-most_bytes GroupText = 65536
+most_bytes (GroupText nt) = 65536
 most_bytes Cif = 16777216
 
 -- the input is no longer than it may be
@@ -31,20 +32,20 @@ IsShort format input = length input ≤ most_bytes format
 -- ---- what an input lists
 
 -- the text lists generators within the limits, and this is the listing of what they generate
-pub record IsGeneratedBy (input : List ℕ) (g : Listing) : Type 0 where
+pub record IsGeneratedBy (nt : Notation) (input : List ℕ) (g : Listing) : Type 0 where
   pub generators : Listing
-  pub is_text : IsGroupText input true generators
+  pub is_text : IsGroupText nt input true generators
   pub limits : GeneratesWithinLimits generators
   pub derived : IsDerivedListing generators g
 
 -- the input lists all of these operations, as a CIF file does
 abbrev pub ListsAll : Format → List ℕ → Listing → Type 0
-ListsAll GroupText input g = IsGroupText input false g
+ListsAll (GroupText nt) input g = IsGroupText nt input false g
 ListsAll Cif input g = FileSays input (Ok g)
 
 -- the input lists this by all its operations or, if it is a group text, by generators
 abbrev pub IsListed : Format → List ℕ → Listing → Type 0
-IsListed GroupText input g = ListsAll GroupText input g ⊎ IsGeneratedBy input g
+IsListed (GroupText nt) input g = ListsAll (GroupText nt) input g ⊎ IsGeneratedBy nt input g
 IsListed Cif input g = ListsAll Cif input g
 
 -- the input lists a group within the limits
@@ -76,12 +77,12 @@ pub data Cause : Type 0 where
 -- only a group text has a bad line or generators, and only a CIF file a fault of its words
 abbrev pub IsCause : Format → List ℕ → Cause → Type 0
 IsCause format input too_long = most_bytes format < length input
-IsCause GroupText input (of_text fault) = IsShort GroupText input × IsTextFault input fault
+IsCause (GroupText nt) input (of_text fault) = IsShort (GroupText nt) input × IsTextFault nt input fault
 IsCause Cif input (of_cif fault) = IsShort Cif input × FileSays input (Err fault)
 IsCause format input (of_group error) =
     IsShort format input × ((g : Listing) × ListsAll format input g × IsGroupError g error)
-IsCause GroupText input (of_generators error) =
-    IsShort GroupText input × ((g : Listing) × IsGroupText input true g × IsGeneratedError g error)
+IsCause (GroupText nt) input (of_generators error) =
+    IsShort (GroupText nt) input × ((g : Listing) × IsGroupText nt input true g × IsGeneratedError g error)
 IsCause _ input cause = ⊥
 
 -- what it keeps the program from

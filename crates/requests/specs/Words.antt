@@ -10,6 +10,7 @@ use Rattle.fractions.specs.WrittenRatio.{numerator, denominator, ratio_end, rati
 use Rattle.symmetry.specs.Vectors.{Vector}
 use Rattle.requests.specs.declared.form.Form.{Form}
 use Rattle.requests.specs.declared.form.Form.TheVariants.{Text, Json}
+use Rattle.triplets.specs.declared.notation.Notation.TheVariants.{Triplets}
 use Rattle.requests.specs.declared.format.Format.{Format}
 use Rattle.requests.specs.declared.format.Format.TheVariants.{GroupText, Cif}
 
@@ -119,5 +120,5 @@ form_first (word ∷ others) = if bytes_eq word (codes "--json") then (Json, oth
 
 -- the format that the next word gives: `--cif`, or a group text
 abbrev pub format_first : List (List ℕ) → Format × List (List ℕ)
-format_first [] = (GroupText, [])
-format_first (word ∷ others) = if bytes_eq word (codes "--cif") then (Cif, others) else (GroupText, word ∷ others)
+format_first [] = (GroupText Triplets, [])
+format_first (word ∷ others) = if bytes_eq word (codes "--cif") then (Cif, others) else (GroupText Triplets, word ∷ others)

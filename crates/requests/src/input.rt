@@ -17,7 +17,7 @@ use closure::Group;
 use devices::Source;
 use motions::Listed;
 use std::alloc::Global;
-use triplets::{LineReader, MOST_BYTES};
+use triplets::{LineReader, MOST_BYTES, Notation};
 
 // The source is asked for at most so many bytes at once.
 const PIECE: usize = 4096;
@@ -34,23 +34,27 @@ pub fn group_of<S: Source>(alloc: Global, source: &mut S, format: Format) -> Res
     ensures within { ReadsWithin (S.left source.old) (S.left source.new) (most_bytes format + 1) }
 {
     match format {
-        Format::GroupText => group_of_text(alloc, source),
+        Format::GroupText(notation) => group_of_text(alloc, source, notation),
         Format::Cif => group_of_file(alloc, source),
     }
 }
 
 /// Reads a source to its end: the group that its text lists.
-fn group_of_text<S: Source>(alloc: Global, source: &mut S) -> Result<Group, Obstacle>
+fn group_of_text<S: Source>(
+    alloc: Global,
+    source: &mut S,
+    notation: Notation,
+) -> Result<Group, Obstacle>
     ensures group { IfOk result (λ group. (input : List ℕ) →
-        S.left source.old ≡ Some input → IsGroupOfInput GroupText input group) }
+        S.left source.old ≡ Some input → IsGroupOfInput (GroupText notation) input group) }
     ensures obstacle { IfErr result
-        (IsSourceObstacle GroupText (S.left source.old) (S.faults source.old) (S.faults source.new)) }
+        (IsSourceObstacle (GroupText notation) (S.left source.old) (S.faults source.old) (S.faults source.new)) }
     ensures unfailed { OnOk result (S.faults source.new ≡ S.faults source.old) }
     ensures steady { S.NeverFails source.old → result ≢ Err Obstacle.ReadFault }
     ensures whole { IsReadWhole result → IsAtEnd (S.left source.new) }
     ensures within { ReadsWithin (S.left source.old) (S.left source.new) 65537 }
 {
-    let listed = read_listed(alloc, source)?;
+    let listed = read_listed(alloc, source, notation)?;
     if listed.generated {
         Ok(Group::generated(alloc, listed)?)
     } else {
@@ -59,19 +63,23 @@ fn group_of_text<S: Source>(alloc: Global, source: &mut S) -> Result<Group, Obst
 }
 
 /// Reads a source to its end, piece by piece: what its text lists.
-fn read_listed<S: Source>(alloc: Global, source: &mut S) -> Result<Listed, Obstacle>
+fn read_listed<S: Source>(
+    alloc: Global,
+    source: &mut S,
+    notation: Notation,
+) -> Result<Listed, Obstacle>
     ensures text { IfOk result (λ listed. (input : List ℕ) →
         S.left source.old ≡ Some input →
-        IsShort GroupText input × IsGroupText input listed.generated (listing_of listed)) }
+        IsShort (GroupText notation) input × IsGroupText notation input listed.generated (listing_of listed)) }
     ensures small { IfOk result (IsListedSmall 9) }
     ensures obstacle { IfErr result
-        (IsSourceObstacle GroupText (S.left source.old) (S.faults source.old) (S.faults source.new)) }
+        (IsSourceObstacle (GroupText notation) (S.left source.old) (S.faults source.old) (S.faults source.new)) }
     ensures unfailed { OnOk result (S.faults source.new ≡ S.faults source.old) }
     ensures steady { S.NeverFails source.old → result ≢ Err Obstacle.ReadFault }
     ensures whole { IsReadWhole result → IsAtEnd (S.left source.new) }
     ensures within { ReadsWithin (S.left source.old) (S.left source.new) 65537 }
 {
-    let mut reader = LineReader::make(alloc);
+    let mut reader = LineReader::of(alloc, notation);
     let mut room = MOST_BYTES;
     let mut piece = [0; PIECE];
     loop {

@@ -8,6 +8,7 @@ ghost use Rattle.requests.specs.Words.{first_word, form_first, format_first, fra
 use crate::form::Form;
 use crate::format::Format;
 use fractions::{Ratio, read_ratio};
+use triplets::Notation;
 
 /// The most digits that an index has.
 const MOST_INDEX_DIGITS: usize = 9;
@@ -215,6 +216,6 @@ pub fn split_format(words: &[String]) -> (Format, &[String])
 {
     match words {
         [option, others @ ..] if option.as_str() == "--cif" => (Format::Cif, others),
-        _ => (Format::GroupText, words),
+        _ => (Format::GroupText(Notation::Triplets), words),
     }
 }
