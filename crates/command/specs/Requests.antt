@@ -5,6 +5,7 @@ use Rattle.requests.specs.declared.refusal.Refusal.{Refusal}
 use Rattle.requests.specs.declared.refusal.Refusal.TheVariants.{Usage}
 use Rattle.requests.specs.Questions.{Asked}
 use Rattle.command.specs.At.{at_words}
+use Rattle.command.specs.Slabs.{slab_words}
 use Rattle.command.specs.Layers.{layers_words}
 use Rattle.command.specs.Images.{images_words}
 use Rattle.command.specs.Rods.{rod_words}
@@ -16,6 +17,7 @@ abbrev pub command_words : List (List ℕ) → Option (Result Asked Refusal)
 command_words [] = None
 command_words (name ∷ arguments) =
     if bytes_eq name (codes "at") then at_words arguments else
+    if bytes_eq name (codes "slab") then slab_words arguments else
     if bytes_eq name (codes "layers") then layers_words arguments else
     if bytes_eq name (codes "images") then images_words arguments else
     if bytes_eq name (codes "rod") then rod_words arguments else

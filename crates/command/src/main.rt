@@ -13,6 +13,7 @@ mod read_words;
 mod rod;
 mod run;
 mod samples;
+mod slab;
 #[cfg(test)]
 mod tests;
 mod types;

@@ -9,6 +9,7 @@ use crate::images::read_images;
 use crate::layers::read_layers;
 use crate::rod::read_rod;
 use crate::samples::read_sample;
+use crate::slab::read_slab;
 use crate::types::read_types;
 use requests::{Refusal, Request};
 
@@ -20,6 +21,7 @@ fn read_command(words: &[String]) -> Option<Result<Request, Refusal>>
     match words {
         [name, arguments @ ..] => match name.as_str() {
             "at" => read_at(arguments),
+            "slab" => read_slab(arguments),
             "layers" => read_layers(arguments),
             "images" => read_images(arguments),
             "rod" => read_rod(arguments),
@@ -35,7 +37,8 @@ fn read_command(words: &[String]) -> Option<Result<Request, Refusal>>
 ///
 /// The refusals, in this order: `Usage`, the words are no request; `FourIndex`, i is not -(h+k); `OutOfRange`, `AllZero`,
 /// `NotCoprime`, the indices are no Miller indices, or those of no direction; `FrameLimit`, `PointLimit`, `HeightLimit`, an
-/// entry of the frame, a coordinate of the point or the height is out of range.
+/// entry of the frame, a coordinate of the point or a height is out of range; `EmptySlab`, the first height of a slab is above
+/// the second.
 pub fn read_words(words: &[String]) -> Result<Request, Refusal>
     ensures is { result_map asked_of result ≡ asked_by (map string_bytes words.now) }
     ensures range { IfOk result (λ request. IsAskedInRange (asked_of request)) }

@@ -9,6 +9,7 @@ pub mod RodTexts
 pub mod SectionTypes
 pub mod SectionView
 pub mod Shown
+pub mod SlabTexts
 pub mod SmallHeights
 pub mod Texts
 pub mod TypeNumbers

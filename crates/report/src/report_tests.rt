@@ -7,6 +7,7 @@ ghost use Rattle.closure.specs.declared.limits.TheConstants.{MAX_ENTRY};
 
 use crate::at::at_text;
 use crate::report::Report;
+use crate::slab::slab_text;
 use closure::{Group, GroupError};
 use fractions::{Part, Ratio, UNIT};
 use motions::{Basis, Listed, Miller, Motion3};
@@ -38,6 +39,12 @@ const TURN: Motion3 = Motion3 {
 const INVERSION: Motion3 = Motion3 {
     w: [[-1, 0, 0], [0, -1, 0], [0, 0, -1]],
     t: ORIGIN,
+};
+
+// -x,-y,-z+1
+const NEXT_INVERSION: Motion3 = Motion3 {
+    w: [[-1, 0, 0], [0, -1, 0], [0, 0, -1]],
+    t: [NONE, NONE, EDGE],
 };
 
 // -x,-y,-z-7
@@ -183,6 +190,16 @@ fn an_inversion_far_below(rt: HostRuntime) -> Result<(), Fail> {
     let s = Ratio::make(-7, 2).unwrap();
     let text = at_text(rt.alloc(), s, &[IDENTITY, FAR_INVERSION])?;
     let expected = "height -7/2\nop x,y,z\nop -x,-y,-z-7\nend\n";
+    assert_eq!(rt; text.as_slice(), expected.as_bytes());
+    Ok(())
+}
+
+#[test]
+fn an_inversion_in_the_middle_of_a_period(rt: HostRuntime) -> Result<(), Fail> {
+    let low = Ratio::make(0, 1).unwrap();
+    let high = Ratio::make(1, 1).unwrap();
+    let text = slab_text(rt.alloc(), low, high, &[IDENTITY, NEXT_INVERSION])?;
+    let expected = "slab 0 1\nmiddle 1/2\nop x,y,z\nop -x,-y,-z+1\nend\n";
     assert_eq!(rt; text.as_slice(), expected.as_bytes());
     Ok(())
 }

@@ -44,10 +44,23 @@ module _ (g : Listing) (plane : Miller) (basis : BasisOfCode) (frame : Frame) (m
       let same : basis_of_frame frame ≡ basis_of basis = λ i. vectors (made.a i) (made.b i) (made.tau i) in
       subst (λ (r : Vector). P r (basis_of basis)) (ap row_of made.plane) (subst (P (row_of frame.plane)) same h)
 
-  fair : IsFairFrame g (row_of plane) (basis_of basis)
+  pub fair : IsFairFrame g (row_of plane) (basis_of basis)
   fair = record { is_frame = made.is_frame; not_skewed = made.not_skewed }
 
   module _ (group : Group) (of : IsGroupOf g group) where
+    -- what the scan lists, it lists in the frame that was given
+    pub list_in_frame : (In : Vector → Motion → Type 0) (scan : Scan) (ops : List Motion) → IsScanOf g frame scan
+        → (IsGroup g → IsFrame g (row_of scan.frame.plane) (basis_of_frame scan.frame)
+        → IsScan g (row_of scan.frame.plane) (basis_of_frame scan.frame) (scan_of scan)
+        → IsListOf (SameModulo g) g.ops (IsAtHome (basis_of_frame scan.frame)) (In (row_of scan.frame.plane)) ops)
+        → IsListOf (SameModulo g) g.ops (IsAtHome (basis_of basis)) (In (row_of plane)) ops
+    list_in_frame In scan ops scanned list =
+        from_frame Lists (subst (λ (q : Frame). Lists (row_of q.plane) (basis_of_frame q)) scanned.frame_is (list of.is_group))
+        made.is_frame (from_frame (λ r f. IsScan g r f (scan_of scan)) scanned.is)
+      where
+        Lists : Vector → Basis → Type 0
+        Lists r f = IsFrame g r f → IsScan g r f (scan_of scan) → IsListOf (SameModulo g) g.ops (IsAtHome f) (In r) ops
+
     pub height_answer : (s : Fraction) (scan : Scan) (ops : List Motion) (text : List ℕ) → IsScanOf g frame scan
         → ((g : Listing) → IsGroup g → IsFrame g (row_of scan.frame.plane) (basis_of_frame scan.frame)
         → IsScan g (row_of scan.frame.plane) (basis_of_frame scan.frame) (scan_of scan)
@@ -56,13 +69,9 @@ module _ (g : Listing) (plane : Miller) (basis : BasisOfCode) (frame : Frame) (m
     height_answer s scan ops text scanned list is = record {
       frame = fair;
       ops = ops;
-      are_ops = from_frame Lists (subst (λ (q : Frame). Lists (row_of q.plane) (basis_of_frame q)) scanned.frame_is (list g of.is_group))
-          made.is_frame (from_frame (λ r f. IsScan g r f (scan_of scan)) scanned.is);
+      are_ops = list_in_frame (λ r. InStabiliser g r s) scan ops scanned (list g);
       is_text = is;
     }
-      where
-        Lists : Vector → Basis → Type 0
-        Lists r f = IsFrame g r f → IsScan g r f (scan_of scan) → IsListOf (SameModulo g) g.ops (IsAtHome f) (InStabiliser g r s) ops
 
     pub report_answer : (form : Form) (report : Report) (text : List ℕ) → IsReport g (row_of frame.plane) (basis_of_frame frame) report
         → text ≡ written_report form report → Answers g (all_heights (row_of plane) (basis_of basis) form) text

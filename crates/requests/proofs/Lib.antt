@@ -9,6 +9,7 @@ pub mod CifFiles
 pub mod OneCause
 pub mod OneAnswer
 pub mod GroupAnswers
+mod SlabAnswers
 pub mod Reading
 mod InputGroups
 pub mod Pieces

@@ -4,8 +4,10 @@ pub mod Questions
 pub mod Views
 pub mod RodWords
 pub mod RodLimits
+pub mod SlabLimits
 pub mod RodViews
 pub mod At
+pub mod Slabs
 pub mod Layers
 pub mod Images
 pub mod Rods

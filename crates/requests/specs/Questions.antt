@@ -11,11 +11,13 @@ use Rattle.requests.specs.declared.form.Form.{Form}
 use Rattle.requests.specs.declared.format.Format.{Format}
 use Rattle.requests.specs.declared.refusal.Refusal.{Refusal}
 use Rattle.requests.specs.Limits.{IsHeightInRange}
+use Rattle.requests.specs.SlabLimits.{IsSlabInRange}
 
--- what is asked of a group: the operations at one height, those at all heights, the images of an orientation, or the operations
--- along a line through a point
+-- what is asked of a group: the operations at one height, those of a slab, those at all heights, the images of an orientation, or
+-- the operations along a line through a point
 pub data Question : Type 0 where
   at_height : (row : Vector) (basis : Basis) (height : Fraction) → Question
+  between_heights : (row : Vector) (basis : Basis) (low high : Fraction) → Question
   all_heights : (row : Vector) (basis : Basis) (form : Form) → Question
   image_rows : (row : Vector) → Question
   along_line : (direction a b point : Vector) → Question
@@ -30,9 +32,10 @@ pub data Asked : Type 0 where
   about : (format : Format) (question : Question) → Asked
   tabulate : (table : Table) → Asked
 
--- the height is within its limits, or each coordinate of the point
+-- the height is within its limits, or those of the slab, or each coordinate of the point
 abbrev pub IsQuestionInRange : Question → Type 0
 IsQuestionInRange (at_height row basis height) = IsHeightInRange height
+IsQuestionInRange (between_heights row basis low high) = IsSlabInRange low high
 IsQuestionInRange (along_line direction a b point) = IsVectorWithin largest_entry point
 IsQuestionInRange _ = Unit {0}
 

@@ -6,7 +6,7 @@ use Rattle.triplets.specs.declared.fault.TextKind.TheVariants.{UnknownSign, Repe
 use Rattle.requests.specs.declared.cif_kind.CifKind.{CifKind}
 use Rattle.requests.specs.declared.cif_kind.CifKind.TheVariants.{Quote, TextField, Ragged, Symop}
 use Rattle.requests.specs.declared.refusal.Refusal.{Refusal}
-use Rattle.requests.specs.declared.refusal.Refusal.TheVariants.{Usage, FourIndex, OutOfRange, AllZero, NotCoprime, FrameLimit, PointLimit, HeightLimit, TooLong, Text, NoSymops, Cif, TooMany, TooFine, NoIdentity, ShiftMoved, NotClosed, NoInverse, TooLarge, NotFrame, SkewFrame, Wide}
+use Rattle.requests.specs.declared.refusal.Refusal.TheVariants.{Usage, FourIndex, OutOfRange, AllZero, NotCoprime, FrameLimit, PointLimit, HeightLimit, EmptySlab, TooLong, Text, NoSymops, Cif, TooMany, TooFine, NoIdentity, ShiftMoved, NotClosed, NoInverse, TooLarge, NotFrame, SkewFrame, Wide}
 
 -- the printed name of a kind of faults of a text
 abbrev pub kind_text : TextKind → List ℕ
@@ -35,6 +35,7 @@ refusal_text (NotCoprime divisor) = codes "refused: common divisor " ++ signed_d
 refusal_text FrameLimit = codes "refused: frame entry out of range"
 refusal_text PointLimit = codes "refused: point out of range"
 refusal_text HeightLimit = codes "refused: height too large"
+refusal_text EmptySlab = codes "refused: empty slab"
 refusal_text TooLong = codes "refused: input too long"
 refusal_text (Text line column kind) = codes "refused: line " ++ decimal line ++ codes " column " ++ decimal column ++ codes " " ++ kind_text kind
 refusal_text NoSymops = codes "refused: no symmetry operations"

@@ -11,6 +11,7 @@ use Rattle.requests.specs.declared.words.FrameWord.{FrameWord}
 use Rattle.requests.specs.declared.words.IndexWords.{IndexWords}
 use Rattle.requests.specs.declared.limits.PlaneWords.{PlaneWords as ReadPlaneWords}
 use Rattle.requests.specs.declared.limits.Planes.{Planes as ReadPlanes}
+use Rattle.requests.specs.declared.slab_limits.SlabWords.{SlabWords as ReadSlabWords}
 use Rattle.requests.specs.declared.request.Question.{Question as ReadQuestion}
 use Rattle.requests.specs.declared.request.Question.TheVariants as questions
 use Rattle.requests.specs.declared.request.Table.{Table as ReadTable}
@@ -19,7 +20,8 @@ use Rattle.requests.specs.declared.request.Request.{Request}
 use Rattle.requests.specs.declared.request.Request.TheVariants as requests
 use Rattle.requests.specs.Words.{Fractions, FrameWords, Indices, Placed}
 use Rattle.requests.specs.Limits.{PlaneWords, Planes}
-use Rattle.requests.specs.Questions.{Question, Table, Asked, at_height, all_heights, image_rows, along_line, of_type, of_sample, about, tabulate}
+use Rattle.requests.specs.SlabLimits.{SlabWords}
+use Rattle.requests.specs.Questions.{Question, Table, Asked, at_height, between_heights, all_heights, image_rows, along_line, of_type, of_sample, about, tabulate}
 
 -- a ratio, and the place behind it
 abbrev pub placed : Ratio × ℕ → Placed
@@ -41,6 +43,15 @@ indices_of p = record { row = record { x = p.h; y = p.k; z = p.l }; third = p.i 
 abbrev pub plane_words : ReadPlaneWords → PlaneWords
 plane_words w = record { indices = indices_of w.indices; frame = option_map frame_of w.frame; height = option_map fraction_of w.s }
 
+-- what words say of a slab
+abbrev pub slab_words : ReadSlabWords → SlabWords
+slab_words w = record {
+  indices = indices_of w.indices;
+  frame = option_map frame_of w.frame;
+  low = fraction_of w.low;
+  high = fraction_of w.high;
+}
+
 -- the orientation and the vectors
 abbrev pub planes_of : ReadPlanes → Planes
 planes_of p = record { row = row_of p.plane; basis = basis_of p.basis }
@@ -48,6 +59,7 @@ planes_of p = record { row = row_of p.plane; basis = basis_of p.basis }
 -- what a question asks
 abbrev pub question_of : ReadQuestion → Question
 question_of (questions.At plane basis s) = at_height (row_of plane) (basis_of basis) (fraction_of s)
+question_of (questions.Slab plane basis low high) = between_heights (row_of plane) (basis_of basis) (fraction_of low) (fraction_of high)
 question_of (questions.Layers plane basis form) = all_heights (row_of plane) (basis_of basis) form
 question_of (questions.Images plane) = image_rows (row_of plane)
 question_of (questions.Rod direction basis point) = along_line (direction_of direction) (parts basis.a) (parts basis.b) (parts point)

@@ -24,6 +24,8 @@ mod rod;
 mod rod_limits;
 mod rod_words;
 mod run;
+mod slab;
+mod slab_limits;
 mod tables;
 mod words;
 
@@ -40,6 +42,7 @@ pub use request::{Question, Request, Table};
 pub use rod_limits::{Line, LineWords, within_line_limits};
 pub use rod_words::{DirectionWord, RodFrameWord, split_direction, split_point, split_rod_frame};
 pub use run::{carry_out, refuse};
+pub use slab_limits::{SlabWords, within_slab_limits};
 pub use words::{
     FrameWord, IndexWords, VectorWord, split_form, split_format, split_frame, split_indices,
     split_ratio, split_three_indices,

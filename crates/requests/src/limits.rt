@@ -93,7 +93,7 @@ fn basis_of_words(frame: Option<FrameWord>) -> Option<Basis>
 }
 
 /// Whether numerator and denominator of a height are in range.
-fn is_height_in_range(s: Ratio) -> bool
+pub fn is_height_in_range(s: Ratio) -> bool
     ensures is { result ≡ is_height_in_range (fraction_of s) }
     ensures range { IsTrue result → IsHeightLimit (Some (fraction_of s)) }
 {

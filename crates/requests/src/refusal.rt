@@ -25,8 +25,10 @@ pub enum Refusal {
     /// A coordinate of a point of a line has a denominator that does not divide [`UNIT`](fractions::UNIT), or is above 1,000
     /// in size.
     PointLimit,
-    /// In lowest terms the numerator or the denominator of the height is above 10^9 in size.
+    /// In lowest terms the numerator or the denominator of a height, or of half the sum of two, is above 10^9 in size.
     HeightLimit,
+    /// The first height of a slab is above the second.
+    EmptySlab,
     /// The input is longer than it may be.
     TooLong,
     /// The first bad line of the input, the column of its fault (both from 1) and what is wrong there.
@@ -81,6 +83,7 @@ impl fmt::Display for Refusal {
             Refusal::FrameLimit => write!(f, "refused: frame entry out of range"),
             Refusal::PointLimit => write!(f, "refused: point out of range"),
             Refusal::HeightLimit => write!(f, "refused: height too large"),
+            Refusal::EmptySlab => write!(f, "refused: empty slab"),
             Refusal::TooLong => write!(f, "refused: input too long"),
             Refusal::Text { line, column, kind } => {
                 let name = kind_name(kind);

@@ -15,6 +15,13 @@ pub enum Question {
         basis: Basis,
         s: Ratio,
     },
+    /// The operations that map the slab from the height `low` to the height `high` to itself, in the frame given.
+    Slab {
+        plane: Miller,
+        basis: Basis,
+        low: Ratio,
+        high: Ratio,
+    },
     /// The report of all heights of the orientation, in the frame given.
     Layers {
         plane: Miller,

@@ -13,6 +13,7 @@ use crate::layers::heights_text;
 use crate::obstacle::Obstacle;
 use crate::request::Question;
 use crate::rod::along_line_text;
+use crate::slab::between_heights_text;
 use closure::Group;
 use std::alloc::Global;
 
@@ -25,6 +26,12 @@ pub fn respond(alloc: Global, question: &Question, group: &Group) -> Result<Vec<
 {
     match *question {
         Question::At { plane, basis, s } => height_text(alloc, group, plane, basis, s),
+        Question::Slab {
+            plane,
+            basis,
+            low,
+            high,
+        } => between_heights_text(alloc, group, plane, basis, low, high),
         Question::Layers { plane, basis, form } => heights_text(alloc, group, plane, basis, form),
         Question::Images { plane } => orientations_text(alloc, group, plane),
         Question::Rod {

@@ -17,6 +17,7 @@ mod refused_words;
 mod reports;
 mod rods;
 mod samples;
+mod slabs;
 mod topic;
 mod types;
 mod unusual_reports;

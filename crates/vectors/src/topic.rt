@@ -2,7 +2,7 @@
 use crate::case::Case;
 use crate::{
     cif, generators, heights, images, refused_frames, refused_groups, refused_lines, refused_words,
-    reports, rods, samples, types, unusual_reports,
+    reports, rods, samples, slabs, types, unusual_reports,
 };
 
 /// What a case is about.
@@ -10,6 +10,8 @@ use crate::{
 pub enum Topic {
     /// The operations at one height.
     Heights,
+    /// The operations that map a slab to itself, and slabs that are refused.
+    Slabs,
     /// Reports of all heights of an orientation.
     Reports,
     /// Reports of unusual texts, frames and words: labels, a fine lattice, large indices, an oblique frame, four indices, JSON.
@@ -37,8 +39,9 @@ pub enum Topic {
 }
 
 /// Every topic.
-pub const TOPICS: [Topic; 13] = [
+pub const TOPICS: [Topic; 14] = [
     Topic::Heights,
+    Topic::Slabs,
     Topic::Reports,
     Topic::UnusualReports,
     Topic::Generators,
@@ -59,6 +62,7 @@ pub const TOPICS: [Topic; 13] = [
 pub fn cases(topic: Topic) -> &'static [Case] {
     match topic {
         Topic::Heights => heights::all(),
+        Topic::Slabs => slabs::all(),
         Topic::Reports => reports::all(),
         Topic::UnusualReports => unusual_reports::all(),
         Topic::Generators => generators::all(),
