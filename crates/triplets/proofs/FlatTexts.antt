@@ -6,7 +6,9 @@ use Rattle.symmetry.specs.Vectors.{Vector}
 use Rattle.symmetry.specs.Motions.{Motion}
 use Rattle.symmetry.specs.Groups.{Listing}
 use Rattle.plane_motions.specs.PlaneMotions.{IsFlat, IsFlatListing}
-use Rattle.triplets.specs.declared.notation.Notation.TheVariants.{Pairs}
+use Rattle.triplets.specs.declared.notation.Notation.{Notation}
+use Rattle.triplets.specs.declared.notation.Notation.TheVariants.{Triplets, Pairs}
+use Rattle.triplets.specs.FlatTexts.{IsListedIn}
 use Rattle.triplets.specs.declared.marks.Axis.{Axis}
 use Rattle.triplets.specs.declared.marks.Axis.TheVariants.{X, Y, Z}
 use Rattle.motions.specs.declared.motion.Sign.{Sign}
@@ -76,3 +78,7 @@ text_lines_flat false ls g h = lines_flat ls g h
 
 pub pairs_are_flat : (text : List ℕ) (b : Bool) (g : Listing) → IsGroupText Pairs text b g → IsFlatListing g
 pairs_are_flat text b g h = text_lines_flat b (lines_of text) g h
+
+pub listed_in : (nt : Notation) (text : List ℕ) (b : Bool) (g : Listing) → IsGroupText nt text b g → IsListedIn nt g
+listed_in Triplets text b g h = tt
+listed_in Pairs text b g h = pairs_are_flat text b g h

@@ -3,6 +3,7 @@ pub mod Laws
 pub mod Marks
 pub mod Denominators
 pub mod Rows
+pub mod FlatTexts
 pub mod Grammar
 pub mod Places
 pub mod Faults

@@ -35,6 +35,8 @@ impl LineReader {
     ghost use Rattle.triplets.specs.TextReading.{Stands, Gives, AreAlike, kept, finished, byte_step, bytes_fed, fault_answered};
     ghost use Rattle.triplets.specs.TextAnswers.{IsAnswer, IsAnswerSoFar};
     ghost use Rattle.triplets.specs.KeptTexts.{Keeps};
+    ghost use Rattle.triplets.specs.FlatTexts.{IsListedIn};
+    ghost use Rattle.motions.specs.Views.{listing_of};
     ghost use Rattle.triplets.specs.declared.notation.Notation.{Notation};
     ghost use Rattle.triplets.specs.declared.notation.Notation.TheVariants.{Triplets, Pairs};
     ghost use Rattle.motions.specs.ListedSizes.{IsListedSmall};
@@ -171,6 +173,8 @@ impl LineReader {
     pub fn finish(self) -> Result<Listed, TextFault>
         ensures answer { (notation : Notation) (text : List ℕ) → Stands notation self text → IsAnswer notation text result }
         ensures small { (notation : Notation) (text : List ℕ) → Stands notation self text → IfOk result (IsListedSmall 9) }
+        ensures flat { (notation : Notation) (text : List ℕ) → Stands notation self text →
+            IfOk result (λ listed. IsListedIn notation (listing_of listed)) }
         ensures again { IfSome (fault_answered self) (λ fault. result ≡ Err fault) }
     {
         if let Some(fault) = self.fault {

@@ -4,6 +4,8 @@ use Rattle.triplets.specs.TextReading.{outcome, finished, kept, said_of, Refuses
 use Rattle.triplets.specs.TextAnswers.{IsAnswer}
 use Rattle.triplets.proofs.TextFacts.{stands_refuses, stands_kept}
 use Rattle.triplets.proofs.Answered.{refuses_shown, answer_shown, answer, answer_passed, answer_small}
+use Rattle.motions.specs.Views.{listing_of}
+use Rattle.triplets.proofs.FlatTexts.{listed_in}
 use Rattle.triplets.proofs.text.LineReader.finish.Goals as goal
 
 pub returns-in-Some-clause-answer : goal.returns-in-Some-clause-answer
@@ -28,3 +30,8 @@ returns-clause-small c nt text h =
     let few = c.args.self.few in
     let fed = h.fed in
     answer_small nt (Ok c.end_line.new.self.listed) text (omega arith) (listed c nt text h)
+
+pub returns-clause-flat : goal.returns-clause-flat
+returns-clause-flat c nt text h =
+    let l = c.end_line.new.self.listed in
+    listed_in nt text l.generated (listing_of l) ((listed c nt text h).found)
