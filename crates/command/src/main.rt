@@ -8,6 +8,7 @@ mod at;
 mod device_tests;
 mod images;
 mod layers;
+mod lines;
 mod numbers;
 mod read_words;
 mod rod;

@@ -7,6 +7,7 @@ ghost use Rattle.requests.specs.Views.{asked_of};
 use crate::at::read_at;
 use crate::images::read_images;
 use crate::layers::read_layers;
+use crate::lines::read_lines;
 use crate::rod::read_rod;
 use crate::samples::read_sample;
 use crate::slab::read_slab;
@@ -25,6 +26,7 @@ fn read_command(words: &[String]) -> Option<Result<Request, Refusal>>
             "layers" => read_layers(arguments),
             "images" => read_images(arguments),
             "rod" => read_rod(arguments),
+            "lines" => read_lines(arguments),
             "types" => read_types(arguments),
             "sample" => read_sample(arguments),
             _ => None,

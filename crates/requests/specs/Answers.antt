@@ -9,7 +9,7 @@ use Rattle.sample.specs.declared.counts.Counts.{Counts}
 use Rattle.requests.specs.declared.format.Format.{Format}
 use Rattle.requests.specs.declared.refusal.Refusal.{Refusal}
 use Rattle.requests.specs.declared.refusal.Refusal.TheVariants.{Wide}
-use Rattle.requests.specs.Questions.{Asked, Question, Table, about, tabulate, at_height, between_heights, all_heights, image_rows, along_line, of_type, of_sample}
+use Rattle.requests.specs.Questions.{Asked, Question, Table, about, tabulate, at_height, between_heights, all_heights, image_rows, along_line, all_lines, of_type, of_sample}
 use Rattle.requests.specs.Obstacles.{IsFairFrame, RefusesFrame}
 use Rattle.requests.specs.Inputs.{IsRefusedInput, IsShort, ListsGroup, ListsSome}
 use Rattle.requests.specs.At.{IsHeightAnswer}
@@ -17,6 +17,7 @@ use Rattle.requests.specs.Slabs.{IsSlabAnswer}
 use Rattle.requests.specs.Layers.{IsReportAnswer}
 use Rattle.requests.specs.Images.{IsImagesAnswer}
 use Rattle.requests.specs.Rods.{IsFairRod, IsRodAnswer, RefusesRod}
+use Rattle.requests.specs.PlaneLines.{IsLinesAnswer}
 
 -- ---- of a group
 
@@ -27,6 +28,7 @@ Answers g (between_heights row basis low high) text = IsSlabAnswer g row basis l
 Answers g (all_heights row basis form) text = IsReportAnswer g row basis form text
 Answers g (image_rows row) text = IsImagesAnswer g row text
 Answers g (along_line u a b p) text = IsRodAnswer g u a b p text
+Answers g (all_lines row) text = IsLinesAnswer g row text
 
 -- the question may be asked of the group
 abbrev pub IsFair : Listing → Question → Type 0
@@ -35,6 +37,7 @@ IsFair g (between_heights row basis low high) = IsFairFrame g row basis
 IsFair g (all_heights row basis form) = IsFairFrame g row basis
 IsFair g (image_rows row) = ¬ IsWide g row
 IsFair g (along_line u a b p) = IsFairRod g u a b
+IsFair g (all_lines row) = Unit {0}
 
 -- why it may not
 abbrev pub RefusesQuestion : Listing → Question → Refusal → Type 0
@@ -43,6 +46,7 @@ RefusesQuestion g (between_heights row basis low high) refusal = RefusesFrame g 
 RefusesQuestion g (all_heights row basis form) refusal = RefusesFrame g row basis refusal
 RefusesQuestion g (image_rows row) refusal = IsWide g row × (refusal ≡ Wide)
 RefusesQuestion g (along_line u a b p) refusal = RefusesRod g u a b refusal
+RefusesQuestion g (all_lines row) refusal = ⊥
 
 -- ---- of an input
 

@@ -2,13 +2,15 @@
 use Rattle.std.specs.Prelude.{◌≡◌, ℕ, ◌<◌, ◌≤◌, ◌⊎◌, true, false, List, length, Ok, Err}
 use Rattle.symmetry.specs.Groups.{Listing, IsGroup}
 use Rattle.triplets.specs.declared.notation.Notation.{Notation}
+use Rattle.triplets.specs.declared.notation.Notation.TheVariants.{Triplets, Pairs}
 use Rattle.triplets.specs.Texts.{Fault, IsGroupText, IsTextFault}
 use Rattle.cif_symops.specs.Answers.{FileSays}
 use Rattle.cif_symops.specs.declared.fault.CifFault.{CifFault}
 use Rattle.closure.specs.Derived.{GeneratesWithinLimits, IsGeneratedError}
 use Rattle.closure.specs.Generated.{IsDerivedListing}
 use Rattle.closure.specs.declared.group.Group.{Group}
-use Rattle.closure.specs.Groups.{IsGroupOf}
+use Rattle.closure.specs.Groups.{group_listing, IsGroupOf}
+use Rattle.plane_groups.specs.PlaneGroups.{IsFlatGroup}
 use Rattle.closure.specs.declared.group_error.GroupError.{GroupError}
 use Rattle.closure.specs.declared.generated_error.GeneratedError.{GeneratedError}
 use Rattle.closure.specs.GroupErrors.{IsGroupError, IsWithinLimits}
@@ -63,6 +65,12 @@ pub record IsGroupOfInput (format : Format) (input : List ℕ) (group : Group) :
   pub short : IsShort format input
   pub some : ListsSome format input
   pub is_of : (g : Listing) → ListsGroup format input g → IsGroupOf g group
+
+-- the Group of a text of pairs is a plane group
+abbrev pub IsGroupIn : Format → Group → Type 0
+IsGroupIn (GroupText Triplets) group = Unit {0}
+IsGroupIn (GroupText Pairs) group = IsFlatGroup (group_listing group)
+IsGroupIn Cif group = Unit {0}
 
 -- ---- why there is no group
 

@@ -11,6 +11,7 @@ pub mod Slabs
 pub mod Layers
 pub mod Images
 pub mod Rods
+pub mod PlaneLines
 pub mod Inputs
 pub mod Answers
 pub mod Runs

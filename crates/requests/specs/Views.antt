@@ -6,6 +6,8 @@ use Rattle.fractions.specs.declared.ratio.Ratio.{Ratio}
 use Rattle.motions.specs.Views.{parts, row_of}
 use Rattle.motions.specs.BasisView.{basis_of}
 use Rattle.penetration.specs.DirectionView.{direction_of}
+use Rattle.triplets.specs.declared.notation.Notation.TheVariants.{Pairs}
+use Rattle.requests.specs.declared.format.Format.TheVariants.{GroupText}
 use Rattle.requests.specs.declared.words.VectorWord.{VectorWord}
 use Rattle.requests.specs.declared.words.FrameWord.{FrameWord}
 use Rattle.requests.specs.declared.words.IndexWords.{IndexWords}
@@ -21,7 +23,7 @@ use Rattle.requests.specs.declared.request.Request.TheVariants as requests
 use Rattle.requests.specs.Words.{Fractions, FrameWords, Indices, Placed}
 use Rattle.requests.specs.Limits.{PlaneWords, Planes}
 use Rattle.requests.specs.SlabLimits.{SlabWords}
-use Rattle.requests.specs.Questions.{Question, Table, Asked, at_height, between_heights, all_heights, image_rows, along_line, of_type, of_sample, about, tabulate}
+use Rattle.requests.specs.Questions.{Question, Table, Asked, at_height, between_heights, all_heights, image_rows, along_line, all_lines, of_type, of_sample, about, tabulate}
 
 -- a ratio, and the place behind it
 abbrev pub placed : Ratio × ℕ → Placed
@@ -72,4 +74,5 @@ table_of (tables.Sample n) = of_sample n
 -- what a request asks
 abbrev pub asked_of : Request → Asked
 asked_of (requests.About format question) = about format (question_of question)
+asked_of (requests.Lines plane) = about (GroupText Pairs) (all_lines (row_of plane))
 asked_of (requests.Tabulate table) = tabulate (table_of table)

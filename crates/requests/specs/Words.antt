@@ -1,5 +1,5 @@
 -- The words of a request.
-use Rattle.std.specs.Prelude.{ℕ, ◌+◌, ℤ, List, [], ◌∷◌, length, slice_index, Bool, not, ◌&&◌, ◌==◌, nat_lt, nat_le, if◌then◌else◌, Option, Some, None, option_map, option_and_then, is_none, codes}
+use Rattle.std.specs.Prelude.{ℕ, ◌+◌, ℤ, pos, List, [], ◌∷◌, length, slice_index, Bool, not, ◌&&◌, ◌==◌, nat_lt, nat_le, if◌then◌else◌, Option, Some, None, option_map, option_and_then, is_none, codes}
 use Rattle.std.specs.List.{list_all}
 use Rattle.std.specs.Char.{is_ascii_digit}
 use Rattle.std.specs.Str.{bytes_eq}
@@ -90,6 +90,12 @@ abbrev pub three_indices : List (List ℕ) → Option (Indices × List (List ℕ
 three_indices words =
     option_and_then (λ h. option_and_then (λ k. option_map (λ l. (record { row = record { x = h.0; y = k.0; z = l.0 }; third = None }, l.1))
     (first_word index_of k.1)) (first_word index_of h.1)) (first_word index_of words)
+
+-- `h k`, the indices of a line: those of the plane (h k 0)
+abbrev pub two_indices : List (List ℕ) → Option (Indices × List (List ℕ))
+two_indices words =
+    option_and_then (λ h. option_map (λ k. (record { row = record { x = h.0; y = k.0; z = pos 0 }; third = None }, k.1))
+    (first_word index_of h.1)) (first_word index_of words)
 
 -- a further index behind three of them: these are then h, k and i
 abbrev pub with_fourth : Indices × List (List ℕ) → Option (ℤ × List (List ℕ)) → Indices × List (List ℕ)

@@ -4,10 +4,11 @@ ghost use Rattle.std.specs.Io.KnownBytes.{IsAtEnd};
 ghost use Rattle.devices.specs.Transfers.{ReadsWithin};
 ghost use Rattle.motions.specs.ListedSizes.{IsListedSmall};
 ghost use Rattle.motions.specs.Views.{listing_of};
+ghost use Rattle.triplets.specs.FlatTexts.{IsListedIn};
 ghost use Rattle.triplets.specs.Texts.{IsGroupText};
 ghost use Rattle.requests.specs.declared.format.Format.TheVariants.{GroupText};
 ghost use Rattle.requests.specs.Causes.{IsReadWhole, IsSourceObstacle};
-ghost use Rattle.requests.specs.Inputs.{IsGroupOfInput, IsShort, most_bytes};
+ghost use Rattle.requests.specs.Inputs.{IsGroupIn, IsGroupOfInput, IsShort, most_bytes};
 
 use crate::cif_input::group_of_file;
 use crate::format::Format;
@@ -22,10 +23,11 @@ use triplets::{LineReader, MOST_BYTES, Notation};
 // The source is asked for at most so many bytes at once.
 const PIECE: usize = 4096;
 
-/// Reads a source to its end: the group that it lists in this format.
+/// Reads a source to its end: the group that it lists in this format. That of a text of pairs is a plane group.
 pub fn group_of<S: Source>(alloc: Global, source: &mut S, format: Format) -> Result<Group, Obstacle>
     ensures group { IfOk result (λ group. (input : List ℕ) →
         S.left source.old ≡ Some input → IsGroupOfInput format input group) }
+    ensures flat { IfOk result (IsGroupIn format) }
     ensures obstacle { IfErr result
         (IsSourceObstacle format (S.left source.old) (S.faults source.old) (S.faults source.new)) }
     ensures unfailed { OnOk result (S.faults source.new ≡ S.faults source.old) }
@@ -47,6 +49,7 @@ fn group_of_text<S: Source>(
 ) -> Result<Group, Obstacle>
     ensures group { IfOk result (λ group. (input : List ℕ) →
         S.left source.old ≡ Some input → IsGroupOfInput (GroupText notation) input group) }
+    ensures flat { IfOk result (IsGroupIn (GroupText notation)) }
     ensures obstacle { IfErr result
         (IsSourceObstacle (GroupText notation) (S.left source.old) (S.faults source.old) (S.faults source.new)) }
     ensures unfailed { OnOk result (S.faults source.new ≡ S.faults source.old) }
@@ -72,6 +75,7 @@ fn read_listed<S: Source>(
         S.left source.old ≡ Some input →
         IsShort (GroupText notation) input × IsGroupText notation input listed.generated (listing_of listed)) }
     ensures small { IfOk result (IsListedSmall 9) }
+    ensures flat { IfOk result (λ listed. IsListedIn notation (listing_of listed)) }
     ensures obstacle { IfErr result
         (IsSourceObstacle (GroupText notation) (S.left source.old) (S.faults source.old) (S.faults source.new)) }
     ensures unfailed { OnOk result (S.faults source.new ≡ S.faults source.old) }

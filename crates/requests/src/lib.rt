@@ -17,6 +17,7 @@ mod layers;
 mod limits;
 mod obstacle;
 mod outcome;
+mod plane_lines;
 mod refusal;
 mod request;
 mod respond;
@@ -45,5 +46,5 @@ pub use run::{carry_out, refuse};
 pub use slab_limits::{SlabWords, within_slab_limits};
 pub use words::{
     FrameWord, IndexWords, VectorWord, split_form, split_format, split_frame, split_indices,
-    split_ratio, split_three_indices,
+    split_ratio, split_three_indices, split_two_indices,
 };

@@ -151,6 +151,7 @@ pub fn refusal_of(fault: PlaneFault) -> Refusal
 pub fn within_limits(words: PlaneWords) -> Result<Planes, Refusal>
     ensures is { result_map planes_of result ≡ within_limits (plane_words words) }
     ensures height { IfOk result (λ _. IsHeightLimit (plane_words words).height) }
+    ensures row { IfOk result (λ planes. row_of planes.plane ≡ (indices_of words.indices).row) }
 {
     if !is_third(words.indices) {
         return Err(Refusal::FourIndex);

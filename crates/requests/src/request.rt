@@ -54,6 +54,8 @@ pub enum Table {
 pub enum Request {
     /// A question about the group that an input of this format lists.
     About { format: Format, question: Question },
+    /// The frieze groups of all lines h x + k y = s of the plane group that a text of pairs lists. The plane is (h k 0).
+    Lines { plane: Miller },
     /// A table, which needs no input.
     Tabulate(Table),
 }

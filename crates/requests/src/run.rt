@@ -9,15 +9,18 @@ ghost use Rattle.requests.specs.Answers.{HasOutput, IsInput, IsInputRefusal};
 ghost use Rattle.requests.specs.Causes.{HasAnswer, IsObstacle, IsReadWhole, IsRefusedOr};
 ghost use Rattle.requests.specs.Runs.{Complains, FitsIn, HasCause, LeavesOut, OffersLine, OffersOut, ReadsWhole, Refuses, Succeeds, most_read};
 
+use crate::format::Format;
 use crate::input::group_of;
 use crate::obstacle::Obstacle;
 use crate::outcome::Outcome;
+use crate::plane_lines::all_lines_text;
 use crate::refusal::Refusal;
 use crate::request::Request;
 use crate::respond::respond;
 use crate::tables::table_text;
 use devices::{Sink, Source, put_all};
 use std::alloc::Global;
+use triplets::Notation;
 
 /// Carries out a request: reads the source to its end, where it is asked of a group, and writes the whole answer to `out`,
 /// or the line of a refusal to `complaints`.
@@ -99,6 +102,10 @@ fn answer<S: Source>(
         Request::About { format, question } => {
             let group = group_of(alloc, source, format)?;
             respond(alloc, &question, &group)
+        }
+        Request::Lines { plane } => {
+            let group = group_of(alloc, source, Format::GroupText(Notation::Pairs))?;
+            all_lines_text(alloc, &group, plane)
         }
         Request::Tabulate(table) => Ok(table_text(alloc, table)?),
     }

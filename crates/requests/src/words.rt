@@ -1,9 +1,9 @@
 // The words that a command is made of, before any limit.
-ghost use Rattle.std.specs.Prelude.{◌≡◌, ◌≢◌, ◌≤◌, ◌↔◌, IfSome, IsTrue, length, map, option_map, slice_index, string_bytes};
+ghost use Rattle.std.specs.Prelude.{◌≡◌, ◌≢◌, ◌≤◌, ◌↔◌, IfSome, IsTrue, length, map, option_map, pos, slice_index, string_bytes};
 ghost use Rattle.std.specs.Str.Parse.{without_leading_sign};
 ghost use Rattle.fractions.specs.FractionOf.{fraction_of};
 ghost use Rattle.requests.specs.Views.{fractions_of, frame_of, indices_of, placed};
-ghost use Rattle.requests.specs.Words.{first_word, form_first, format_first, frame_first, index_of, indices_first, ratio_at, ratio_before_comma, ratio_to_end, three_indices, three_vectors, vector_word};
+ghost use Rattle.requests.specs.Words.{first_word, form_first, format_first, frame_first, index_of, indices_first, ratio_at, ratio_before_comma, ratio_to_end, three_indices, three_vectors, two_indices, vector_word};
 
 use crate::form::Form;
 use crate::format::Format;
@@ -153,6 +153,23 @@ pub fn split_three_indices(words: &[String]) -> Option<(IndexWords, &[String])>
     let (k, others) = split_index(others)?;
     let (l, others) = split_index(others)?;
     Some((IndexWords { h, k, l, i: None }, others))
+}
+
+/// The indices `h k` of a line that the first words are, as those of the plane (h k 0), and the words behind them.
+pub fn split_two_indices(words: &[String]) -> Option<(IndexWords, &[String])>
+    ensures { option_map (λ r. (indices_of r.0, map string_bytes r.1.now)) result
+        ≡ two_indices (map string_bytes words.now) }
+    ensures line { IfSome result (λ r. r.0.l ≡ pos 0) }
+{
+    let (h, others) = split_index(words)?;
+    let (k, others) = split_index(others)?;
+    let indices = IndexWords {
+        h,
+        k,
+        l: 0,
+        i: None,
+    };
+    Some((indices, others))
 }
 
 /// The indices `h k l` or `h k i l` that the first words are, and the words behind them.
