@@ -24,7 +24,7 @@ use Rattle.requests.specs.Obstacles.{obstacle_of_cif, obstacle_of_generators, ob
 
 -- the most bytes that an input may have
 abbrev pub most_bytes : Format → ℕ
-most_bytes (GroupText nt) = 65536
+most_bytes (GroupText notation) = 65536
 most_bytes Cif = 16777216
 
 -- the input is no longer than it may be
@@ -34,20 +34,20 @@ IsShort format input = length input ≤ most_bytes format
 -- ---- what an input lists
 
 -- the text lists generators within the limits, and this is the listing of what they generate
-pub record IsGeneratedBy (nt : Notation) (input : List ℕ) (g : Listing) : Type 0 where
+pub record IsGeneratedBy (notation : Notation) (input : List ℕ) (g : Listing) : Type 0 where
   pub generators : Listing
-  pub is_text : IsGroupText nt input true generators
+  pub is_text : IsGroupText notation input true generators
   pub limits : GeneratesWithinLimits generators
   pub derived : IsDerivedListing generators g
 
 -- the input lists all of these operations, as a CIF file does
 abbrev pub ListsAll : Format → List ℕ → Listing → Type 0
-ListsAll (GroupText nt) input g = IsGroupText nt input false g
+ListsAll (GroupText notation) input g = IsGroupText notation input false g
 ListsAll Cif input g = FileSays input (Ok g)
 
 -- the input lists this by all its operations or, if it is a group text, by generators
 abbrev pub IsListed : Format → List ℕ → Listing → Type 0
-IsListed (GroupText nt) input g = ListsAll (GroupText nt) input g ⊎ IsGeneratedBy nt input g
+IsListed (GroupText notation) input g = ListsAll (GroupText notation) input g ⊎ IsGeneratedBy notation input g
 IsListed Cif input g = ListsAll Cif input g
 
 -- the input lists a group within the limits
@@ -85,12 +85,12 @@ pub data Cause : Type 0 where
 -- only a group text has a bad line or generators, and only a CIF file a fault of its words
 abbrev pub IsCause : Format → List ℕ → Cause → Type 0
 IsCause format input too_long = most_bytes format < length input
-IsCause (GroupText nt) input (of_text fault) = IsShort (GroupText nt) input × IsTextFault nt input fault
+IsCause (GroupText notation) input (of_text fault) = IsShort (GroupText notation) input × IsTextFault notation input fault
 IsCause Cif input (of_cif fault) = IsShort Cif input × FileSays input (Err fault)
 IsCause format input (of_group error) =
     IsShort format input × ((g : Listing) × ListsAll format input g × IsGroupError g error)
-IsCause (GroupText nt) input (of_generators error) =
-    IsShort (GroupText nt) input × ((g : Listing) × IsGroupText nt input true g × IsGeneratedError g error)
+IsCause (GroupText notation) input (of_generators error) =
+    IsShort (GroupText notation) input × ((g : Listing) × IsGroupText notation input true g × IsGeneratedError g error)
 IsCause _ input cause = ⊥
 
 -- what it keeps the program from

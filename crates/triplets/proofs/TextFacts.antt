@@ -65,7 +65,7 @@ stands_fault nt r (faults.At l c k) b text i h n g f = inr (record {
   run_is = f (record { line = l; column = c; kind = k }) g ∙ sym (ap (λ (o : Option TextFault). kept_or o (kept r)) h);
   fed = n;
   memory = λ z. let y : some_fault (faults.At l c k) ≡ some_fault faults.NoMemory = sym h ∙ z in cc;
-  notation = i;
+  reads = i;
 })
 
 memory_or : (e : TextFault) → (e ≡ faults.NoMemory) ⊎ (e ≢ faults.NoMemory)
@@ -79,7 +79,7 @@ err_stands r q e b piece i h n g f =
     elim (memory_or e) [
       | inl z ↦ inl (ap (λ x. Err x) z)
       | inr z ↦ inr (λ nt text s.
-          elim (stands_fault nt q e b (text ++ piece) (i ∙ s.notation) h (n ∙ (ap (λ m. m + length piece) s.fed ∙ sym (length-append text piece))) g (λ t w. f nt text t s w)) [
+          elim (stands_fault nt q e b (text ++ piece) (i ∙ s.reads) h (n ∙ (ap (λ m. m + length piece) s.fed ∙ sym (length-append text piece))) g (λ t w. f nt text t s w)) [
             | inl y ↦ absurd (z y)
             | inr y ↦ y
           ])
@@ -99,7 +99,7 @@ again_stands nt r q (faults.At l c k) text piece h x i n s = record {
   run_is = again nt r (faults.At l c k) text piece h s ∙ sym (ap (λ (o : Option TextFault). kept_or o (kept q)) (i ∙ h));
   fed = n ∙ (ap (λ m. m + length piece) s.fed ∙ sym (length-append text piece));
   memory = λ z. s.memory (sym i ∙ z);
-  notation = x ∙ s.notation;
+  reads = x ∙ s.reads;
 }
 
 pub all_read : (nt : Notation) → (text piece : List ℕ) (i : ℕ) (k : Kept) → i ≡ length piece → text_run nt (Ok kept_start) (text ++ take i piece) ≡ keeping k → text_run nt (Ok kept_start) (text ++ piece) ≡ keeping k
@@ -111,5 +111,5 @@ stands_all nt r q text piece i e w x f n s = record {
   run_is = all_read nt text piece i (kept q) e w ∙ sym (ap (λ (o : Option TextFault). kept_or o (kept q)) f);
   fed = n ∙ (ap (λ m. m + length piece) s.fed ∙ sym (length-append text piece));
   memory = λ z. let y : no_fault ≡ a_fault faults.NoMemory = sym f ∙ z in cc;
-  notation = x ∙ s.notation;
+  reads = x ∙ s.reads;
 }

@@ -5,6 +5,6 @@ use Rattle.triplets.specs.declared.notation.Notation.{Notation}
 use Rattle.triplets.specs.Lines.{Centring, centring_text, centring_value}
 
 -- the bytes begin with these vectors, each with its +, and no further one stands whole behind them
-abbrev pub AreBegunVectors : (nt : Notation) → List ℕ → List Vector → Type 0
-AreBegunVectors nt bytes [] = (c : Centring nt) (rest : List ℕ) → ¬ (bytes ≡ centring_text nt c ++ rest)
-AreBegunVectors nt bytes (v ∷ vs) = (c : Centring nt) × (rest : List ℕ) × (bytes ≡ centring_text nt c ++ rest) × (v ≡ centring_value nt c) × AreBegunVectors nt rest vs
+abbrev pub AreBegunVectors : Notation → List ℕ → List Vector → Type 0
+AreBegunVectors notation bytes [] = (c : Centring notation) (rest : List ℕ) → ¬ (bytes ≡ centring_text notation c ++ rest)
+AreBegunVectors notation bytes (v ∷ vs) = (c : Centring notation) × (rest : List ℕ) × (bytes ≡ centring_text notation c ++ rest) × (v ≡ centring_value notation c) × AreBegunVectors notation rest vs

@@ -1,4 +1,4 @@
--- The place and the kind of a fault.
+-- The place and the kind of a fault of an operation.
 use Rattle.std.specs.Prelude.{◌≡◌, ◌⊎◌, ℕ, ◌+◌, ◌≤◌, ◌==◌, ◌&&◌, ◌||◌, nat_le, Bool, true, false, if◌then◌else◌, IsTrue, List, [], ◌∷◌, take, slice_get, Option, Some, None}
 use Rattle.triplets.specs.Bytes.{comma, hash, slash}
 use Rattle.triplets.specs.Places.{IsPrefixIn, IsPlaceIn}
@@ -13,11 +13,11 @@ use Rattle.triplets.specs.Grammar.{IsOperation}
 
 -- the bytes are an operation
 abbrev pub IsGood : Notation → List ℕ → Type 0
-IsGood nt bytes = (value : Motion) × IsOperation nt bytes value
+IsGood notation bytes = (value : Motion) × IsOperation notation bytes value
 
 -- they are the beginning of one
-abbrev pub IsPrefixOfGood : (nt : Notation) → List ℕ → Type 0
-IsPrefixOfGood nt = IsPrefixIn (IsGood nt)
+abbrev pub IsPrefixOfGood : Notation → List ℕ → Type 0
+IsPrefixOfGood notation = IsPrefixIn (IsGood notation)
 
 -- Words on what stands before a place.
 
@@ -61,30 +61,30 @@ TableRow applies named kind otherwise = (applies × (kind ≡ named)) ⊎ ((appl
 
 -- a letter that stands in this part already
 abbrev pub IsRepeated : Notation → List ℕ → ℕ → Type 0
-IsRepeated nt before b = (a : Axis) × IsTrue (is_letter a b) × (has_axis nt a ≡ true) × IsTrue (stands a false before)
+IsRepeated notation before b = (a : Axis) × IsTrue (is_letter a b) × (has_axis notation a ≡ true) × IsTrue (stands a false before)
 
 -- a letter of the notation, small or capital
 abbrev pub IsLetter : Notation → ℕ → Type 0
-IsLetter nt b = (a : Axis) × IsTrue (is_letter a b) × (has_axis nt a ≡ true)
+IsLetter notation b = (a : Axis) × IsTrue (is_letter a b) × (has_axis notation a ≡ true)
 
 -- the kind at the byte b
-abbrev pub HasKind : (nt : Notation) → List ℕ → ℕ → TextKind → Type 0
-HasKind nt before b kind =
-    TableRow ((b ≡ hash) × ¬ IsGood nt before) kinds.MissingPart kind (
-    TableRow ((b ≡ comma) × IsGood nt before) kinds.ExtraPart kind (
+abbrev pub HasKind : Notation → List ℕ → ℕ → TextKind → Type 0
+HasKind notation before b kind =
+    TableRow ((b ≡ hash) × ¬ IsGood notation before) kinds.MissingPart kind (
+    TableRow ((b ≡ comma) × IsGood notation before) kinds.ExtraPart kind (
     TableRow ((b ≡ comma) × (last_mark comma before ≡ comma)) kinds.Empty kind (
-    TableRow (IsRepeated nt before b) kinds.Repeated kind (
-    TableRow (IsLetter nt b × (1 ≤ digits_at_end 0 before)) kinds.Coefficient kind (
+    TableRow (IsRepeated notation before b) kinds.Repeated kind (
+    TableRow (IsLetter notation b × (1 ≤ digits_at_end 0 before)) kinds.Coefficient kind (
     TableRow (IsTrue (is_digit b) × (last_other 0 before ≡ slash)) kinds.Denominator kind (
     TableRow (IsTrue (is_digit b) × (3 ≤ digits_at_end 0 before)) kinds.Coefficient kind (
     kind ≡ kinds.UnknownSign)))))))
 
 -- where no byte stands at the place, the text ends too early
-abbrev pub HasKindAt : (nt : Notation) → List ℕ → Option ℕ → TextKind → Type 0
-HasKindAt nt before None kind = kind ≡ kinds.MissingPart
-HasKindAt nt before (Some b) kind = HasKind nt before b kind
+abbrev pub HasKindAt : Notation → List ℕ → Option ℕ → TextKind → Type 0
+HasKindAt notation before None kind = kind ≡ kinds.MissingPart
+HasKindAt notation before (Some b) kind = HasKind notation before b kind
 
 -- the place of the fault, counted from 0, and its kind
-pub record IsFault (nt : Notation) (bytes : List ℕ) (before : ℕ) (kind : TextKind) : Type 0 where
-  pub place : IsPlaceIn (IsGood nt) bytes before
-  pub kind_is : HasKindAt nt (take before bytes) (slice_get bytes before) kind
+pub record IsFault (notation : Notation) (bytes : List ℕ) (before : ℕ) (kind : TextKind) : Type 0 where
+  pub place : IsPlaceIn (IsGood notation) bytes before
+  pub kind_is : HasKindAt notation (take before bytes) (slice_get bytes before) kind

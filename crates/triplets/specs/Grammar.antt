@@ -1,4 +1,4 @@
--- The grammar of a triplet: what is written, how it is spelled, and what it means.
+-- The grammar of an operation, a triplet or a pair: what is written, how it is spelled, and what it means.
 use Rattle.std.specs.Prelude.{◌≡◌, ℕ, ◌+◌, ◌-◌, ◌*◌, ◌≤◌, Bool, true, false, List, [], ◌∷◌, ◌++◌, map, length}
 use Rattle.triplets.specs.Bytes.{comma, slash}
 use Rattle.triplets.specs.declared.notation.Notation.{Notation}
@@ -106,9 +106,9 @@ with_letters _ u = u
 
 -- the term's letter is one of the notation and none of these
 abbrev pub IsNew : Notation → Term → Used → Type 0
-IsNew nt (letter a c) u = (has_axis nt a ≡ true) × (uses a u ≡ false)
-IsNew nt (multiple d _ a c) u = (has_axis nt a ≡ true) × (uses a u ≡ false)
-IsNew nt _ u = Unit {0}
+IsNew notation (letter a c) u = (has_axis notation a ≡ true) × (uses a u ≡ false)
+IsNew notation (multiple d _ a c) u = (has_axis notation a ≡ true) × (uses a u ≡ false)
+IsNew notation _ u = Unit {0}
 
 -- What stands in a part before a term: nothing or a sign, or terms and a sign behind them
 pub data Lead : Type 0 where
@@ -142,25 +142,25 @@ lead_letters (more l t bs s cs) = with_letters t (lead_letters l)
 
 -- each letter stands at most once
 abbrev pub IsLead : Notation → Lead → Type 0
-IsLead nt (bare bs) = Unit {0}
-IsLead nt (sign bs s cs) = Unit {0}
-IsLead nt (more l t bs s cs) = IsLead nt l × IsNew nt t (lead_letters l)
+IsLead notation (bare bs) = Unit {0}
+IsLead notation (sign bs s cs) = Unit {0}
+IsLead notation (more l t bs s cs) = IsLead notation l × IsNew notation t (lead_letters l)
 
 -- a part: what stands before its last term, this term, and blanks
-pub record Written (nt : Notation) : Type 0 where
+pub record Written (notation : Notation) : Type 0 where
   pub lead : Lead
   pub last : Term
   pub after : List Blank
-  pub good : IsLead nt lead
-  pub new : IsNew nt last (lead_letters lead)
+  pub good : IsLead notation lead
+  pub new : IsNew notation last (lead_letters lead)
 
 -- a part as it is written
-abbrev pub part_text : (nt : Notation) → Written nt → List ℕ
-part_text nt w = lead_text w.lead ++ (term_text w.last ++ blanks_text w.after)
+abbrev pub part_text : (notation : Notation) → Written notation → List ℕ
+part_text notation w = lead_text w.lead ++ (term_text w.last ++ blanks_text w.after)
 
 -- its value: a row of W, and an entry of w
-abbrev pub part_row : (nt : Notation) → Written nt → Row
-part_row nt w = with_term (lead_sign w.lead) w.last (lead_row w.lead)
+abbrev pub part_row : (notation : Notation) → Written notation → Row
+part_row notation w = with_term (lead_sign w.lead) w.last (lead_row w.lead)
 
 -- what the third part is: a triplet has one, a pair has none
 abbrev pub ThirdPart : Notation → Type 0
@@ -168,22 +168,22 @@ ThirdPart Triplets = Written Triplets
 ThirdPart Pairs = Unit {0}
 
 -- as it is written, behind a comma
-abbrev pub third_text : (nt : Notation) → ThirdPart nt → List ℕ
+abbrev pub third_text : (notation : Notation) → ThirdPart notation → List ℕ
 third_text Triplets w = comma ∷ part_text Triplets w
 third_text Pairs w = []
 
 -- its value: in a pair the third coordinate stays as it is
-abbrev pub third_row : (nt : Notation) → ThirdPart nt → Row
+abbrev pub third_row : (notation : Notation) → ThirdPart notation → Row
 third_row Triplets w = part_row Triplets w
 third_row Pairs w = axis_row
 
 -- three parts with two commas between them, or two parts with one
-pub record IsOperation (nt : Notation) (bytes : List ℕ) (value : Motion) : Type 0 where
-  pub one : Written nt
-  pub two : Written nt
-  pub three : ThirdPart nt
-  pub text : bytes ≡ part_text nt one ++ (comma ∷ (part_text nt two ++ third_text nt three))
-  pub rows : value ≡ motion_with (part_row nt one) (part_row nt two) (third_row nt three)
+pub record IsOperation (notation : Notation) (bytes : List ℕ) (value : Motion) : Type 0 where
+  pub one : Written notation
+  pub two : Written notation
+  pub three : ThirdPart notation
+  pub text : bytes ≡ part_text notation one ++ (comma ∷ (part_text notation two ++ third_text notation three))
+  pub rows : value ≡ motion_with (part_row notation one) (part_row notation two) (third_row notation three)
 
 -- the bytes are a triplet with this value
 abbrev pub IsTriplet : List ℕ → Motion → Type 0

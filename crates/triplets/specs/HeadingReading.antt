@@ -27,18 +27,18 @@ behind_word marks.Hash = Ok words.Comment
 behind_word _ = Err kinds.UnknownSign
 
 -- a byte of the heading
-abbrev pub heading_step : (nt : Notation) → ℕ → HeadingPlace → Result HeadingPlace TextKind
-heading_step nt b words.G = letter_step 101 words.Ge b
-heading_step nt b words.Ge = letter_step 110 words.Gen b
-heading_step nt b words.Gen = letter_step 101 words.Gene b
-heading_step nt b words.Gene = letter_step 114 words.Gener b
-heading_step nt b words.Gener = letter_step 97 words.Genera b
-heading_step nt b words.Genera = letter_step 116 words.Generat b
-heading_step nt b words.Generat = letter_step 111 words.Generato b
-heading_step nt b words.Generato = letter_step 114 words.Generator b
-heading_step nt b words.Generator = letter_step 115 words.Generators b
-heading_step nt b words.Generators = behind_word (mark nt b)
-heading_step nt b words.Comment = Ok words.Comment
+abbrev pub heading_step : Notation → ℕ → HeadingPlace → Result HeadingPlace TextKind
+heading_step notation b words.G = letter_step 101 words.Ge b
+heading_step notation b words.Ge = letter_step 110 words.Gen b
+heading_step notation b words.Gen = letter_step 101 words.Gene b
+heading_step notation b words.Gene = letter_step 114 words.Gener b
+heading_step notation b words.Gener = letter_step 97 words.Genera b
+heading_step notation b words.Genera = letter_step 116 words.Generat b
+heading_step notation b words.Generat = letter_step 111 words.Generato b
+heading_step notation b words.Generato = letter_step 114 words.Generator b
+heading_step notation b words.Generator = letter_step 115 words.Generators b
+heading_step notation b words.Generators = behind_word (mark notation b)
+heading_step notation b words.Comment = Ok words.Comment
 
 -- whether the heading may end here
 abbrev pub is_whole : HeadingPlace → Bool
@@ -57,19 +57,19 @@ in_line (Ok p) = Ok (texts.Line p)
 in_line (Err k) = Err k
 
 -- the first byte of line 1 that is no blank begins a line, if it does not begin the word
-abbrev pub begin_line : (nt : Notation) → Mark → Result TextPlace TextKind
-begin_line nt marks.Blank = Ok texts.Beginning
-begin_line nt m = in_line (start_step nt m)
+abbrev pub begin_line : Notation → Mark → Result TextPlace TextKind
+begin_line notation marks.Blank = Ok texts.Beginning
+begin_line notation m = in_line (start_step notation m)
 
 -- a byte of line 1 behind blanks: the letter g begins the word
-abbrev pub from_beginning : (nt : Notation) → ℕ → Result TextPlace TextKind
-from_beginning nt b = if b == 103 then Ok (texts.Heading words.G) else begin_line nt (mark nt b)
+abbrev pub from_beginning : Notation → ℕ → Result TextPlace TextKind
+from_beginning notation b = if b == 103 then Ok (texts.Heading words.G) else begin_line notation (mark notation b)
 
 -- a byte of a line of the text
-abbrev pub text_step : (nt : Notation) → ℕ → TextPlace → Result TextPlace TextKind
-text_step nt b texts.Beginning = from_beginning nt b
-text_step nt b (texts.Heading p) = in_heading (heading_step nt b p)
-text_step nt b (texts.Line p) = in_line (place_step nt (mark nt b) p)
+abbrev pub text_step : Notation → ℕ → TextPlace → Result TextPlace TextKind
+text_step notation b texts.Beginning = from_beginning notation b
+text_step notation b (texts.Heading p) = in_heading (heading_step notation b p)
+text_step notation b (texts.Line p) = in_line (place_step notation (mark notation b) p)
 
 -- the vector that a byte of this meaning completes
 abbrev pub text_completed : Mark → TextPlace → Option (List Part)
@@ -78,10 +78,10 @@ text_completed m (texts.Heading p) = None
 text_completed m (texts.Line p) = completed m p
 
 -- where a line may end, the operation that stands in it
-abbrev pub text_ending : (nt : Notation) → TextPlace → Option (Option Motion3)
-text_ending nt texts.Beginning = Some None
-text_ending nt (texts.Heading p) = if is_whole p then Some None else None
-text_ending nt (texts.Line p) = ending nt p
+abbrev pub text_ending : Notation → TextPlace → Option (Option Motion3)
+text_ending notation texts.Beginning = Some None
+text_ending notation (texts.Heading p) = if is_whole p then Some None else None
+text_ending notation (texts.Line p) = ending notation p
 
 -- whether the line is the heading
 abbrev pub is_heading : TextPlace → Bool

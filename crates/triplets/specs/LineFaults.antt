@@ -15,16 +15,16 @@ use Rattle.triplets.specs.Headings.{IsHeading}
 use Rattle.triplets.specs.Places.{IsPrefixIn, IsPlaceIn}
 
 -- the bytes are a line of the grammar
-abbrev pub IsGoodLine : (nt : Notation) → List ℕ → Type 0
-IsGoodLine nt bytes = (listing : Listing) × IsLine nt bytes listing
+abbrev pub IsGoodLine : Notation → List ℕ → Type 0
+IsGoodLine notation bytes = (listing : Listing) × IsLine notation bytes listing
 
 -- they are the beginning of one
-abbrev pub IsPrefixOfGoodLine : (nt : Notation) → List ℕ → Type 0
-IsPrefixOfGoodLine nt = IsPrefixIn (IsGoodLine nt)
+abbrev pub IsPrefixOfGoodLine : Notation → List ℕ → Type 0
+IsPrefixOfGoodLine notation = IsPrefixIn (IsGoodLine notation)
 
 -- they may be line 1: a line of the grammar, or the heading
-abbrev pub IsGoodFirstLine : (nt : Notation) → List ℕ → Type 0
-IsGoodFirstLine nt bytes = IsGoodLine nt bytes ⊎ IsHeading bytes
+abbrev pub IsGoodFirstLine : Notation → List ℕ → Type 0
+IsGoodFirstLine notation bytes = IsGoodLine notation bytes ⊎ IsHeading bytes
 
 -- the last bracket; n if there is none
 abbrev pub last_bracket : ℕ → List ℕ → ℕ
@@ -55,28 +55,28 @@ commas_within Triplets = 2
 commas_within Pairs = 1
 
 -- the table of kinds: the first row that applies
-abbrev pub HasLineKind : (nt : Notation) → List ℕ → ℕ → TextKind → Type 0
-HasLineKind nt before b kind =
+abbrev pub HasLineKind : Notation → List ℕ → ℕ → TextKind → Type 0
+HasLineKind notation before b kind =
     TableRow (b ≡ hash) kinds.MissingPart kind (
     TableRow ((b ≡ closing) × (last_bracket 0 before ≡ opening) × IsTrue (is_digit (last_mark comma before))) kinds.MissingPart kind (
-    TableRow ((b ≡ comma) × (commas_within nt ≤ commas 0 before) × IsTrue (is_end_of_part (last_mark comma before))) kinds.ExtraPart kind (
+    TableRow ((b ≡ comma) × (commas_within notation ≤ commas 0 before) × IsTrue (is_end_of_part (last_mark comma before))) kinds.ExtraPart kind (
     TableRow ((b ≡ comma) × IsFresh before) kinds.Empty kind (
-    TableRow ((a : Axis) × IsTrue (is_letter a b) × (has_axis nt a ≡ true) × IsTrue (line_stands a false before)) kinds.Repeated kind (
-    TableRow (IsLetter nt b × (1 ≤ digits_at_end 0 before)) kinds.Coefficient kind (
+    TableRow ((a : Axis) × IsTrue (is_letter a b) × (has_axis notation a ≡ true) × IsTrue (line_stands a false before)) kinds.Repeated kind (
+    TableRow (IsLetter notation b × (1 ≤ digits_at_end 0 before)) kinds.Coefficient kind (
     TableRow (IsTrue (is_digit b) × (last_other 0 before ≡ slash)) kinds.Denominator kind (
     TableRow (IsTrue (is_digit b) × (3 ≤ digits_at_end 0 before)) kinds.Coefficient kind (
     kind ≡ kinds.UnknownSign))))))))
 
 -- where no byte stands at the place, the line ends too early
-abbrev pub HasLineKindAt : (nt : Notation) → List ℕ → Option ℕ → TextKind → Type 0
-HasLineKindAt nt before None kind = kind ≡ kinds.MissingPart
-HasLineKindAt nt before (Some b) kind = HasLineKind nt before b kind
+abbrev pub HasLineKindAt : Notation → List ℕ → Option ℕ → TextKind → Type 0
+HasLineKindAt notation before None kind = kind ≡ kinds.MissingPart
+HasLineKindAt notation before (Some b) kind = HasLineKind notation before b kind
 
 -- the place of the fault, counted from 0, and its kind, where it is known which lines are good
-pub record IsFaultIn (nt : Notation) (Good : List ℕ → Type 0) (bytes : List ℕ) (before : ℕ) (kind : TextKind) : Type 0 where
+pub record IsFaultIn (notation : Notation) (Good : List ℕ → Type 0) (bytes : List ℕ) (before : ℕ) (kind : TextKind) : Type 0 where
   pub place : IsPlaceIn Good bytes before
-  pub kind_is : HasLineKindAt nt (take before bytes) (slice_get bytes before) kind
+  pub kind_is : HasLineKindAt notation (take before bytes) (slice_get bytes before) kind
 
 -- the fault of a line behind line 1
-abbrev pub IsLineFault : (nt : Notation) → List ℕ → ℕ → TextKind → Type 0
-IsLineFault nt = IsFaultIn nt (IsGoodLine nt)
+abbrev pub IsLineFault : Notation → List ℕ → ℕ → TextKind → Type 0
+IsLineFault notation = IsFaultIn notation (IsGoodLine notation)

@@ -44,15 +44,15 @@ in_coordinate label v (Err k) = Err k
 
 -- the comma behind a coordinate
 abbrev pub next_coordinate : Notation → Nth → VectorReader → ℤ → Result LinePlace TextKind
-next_coordinate nt First v x = Ok (places.Coordinates (record { nth = Second; first = x; second = v.second; part = begin; label = false }))
+next_coordinate notation First v x = Ok (places.Coordinates (record { nth = Second; first = x; second = v.second; part = begin; label = false }))
 next_coordinate Triplets Second v x = Ok (places.Coordinates (record { nth = Third; first = v.first; second = x; part = begin; label = false }))
 next_coordinate Pairs Second v x = Err kinds.ExtraPart
-next_coordinate nt Third v x = Err kinds.ExtraPart
+next_coordinate notation Third v x = Err kinds.ExtraPart
 
 -- a comma in a vector
-abbrev pub coordinate_comma : (nt : Notation) → Option PartReader → VectorReader → Result LinePlace TextKind
-coordinate_comma nt None v = Err (early_comma v.part.spot)
-coordinate_comma nt (Some p) v = next_coordinate nt v.nth v p.row.shift
+abbrev pub coordinate_comma : Notation → Option PartReader → VectorReader → Result LinePlace TextKind
+coordinate_comma notation None v = Err (early_comma v.part.spot)
+coordinate_comma notation (Some p) v = next_coordinate notation v.nth v p.row.shift
 
 -- the digits of a numerator are being read
 abbrev pub is_digits : Spot → Bool
@@ -61,16 +61,16 @@ is_digits _ = false
 
 -- a vector is closed
 abbrev pub closed_at : Notation → Nth → Option PartReader → VectorReader → Result LinePlace TextKind
-closed_at nt _ None v = Err kinds.UnknownSign
-closed_at nt First (Some p) v = Err kinds.MissingPart
+closed_at notation _ None v = Err kinds.UnknownSign
+closed_at notation First (Some p) v = Err kinds.MissingPart
 closed_at Triplets Second (Some p) v = Err kinds.MissingPart
 closed_at Pairs Second (Some p) v = Ok (places.Closed (parts_with v.first p.row.shift (pos 0)))
 closed_at Triplets Third (Some p) v = Ok (places.Closed (parts_with v.first v.second p.row.shift))
 closed_at Pairs Third (Some p) v = Err kinds.MissingPart
 
 -- a closing bracket: of a label, or of a vector
-abbrev pub on_close : (nt : Notation) → VectorReader → Result LinePlace TextKind
-on_close nt v = if v.label && is_digits v.part.spot then Ok (places.Operation start) else closed_at nt v.nth (settled v.part) v
+abbrev pub on_close : Notation → VectorReader → Result LinePlace TextKind
+on_close notation v = if v.label && is_digits v.part.spot then Ok (places.Operation start) else closed_at notation v.nth (settled v.part) v
 
 -- a letter in a vector
 abbrev pub behind_number : Spot → TextKind
@@ -84,20 +84,20 @@ coordinate_sign s spots.Begin v = Ok (places.Coordinates (record v { part = with
 coordinate_sign s _ v = Err kinds.UnknownSign
 
 -- a byte behind an opening bracket
-abbrev pub vector_step : (nt : Notation) → Mark → VectorReader → Result LinePlace TextKind
-vector_step nt (marks.Letter a) v = Err (behind_number v.part.spot)
-vector_step nt (marks.Signs s) v = coordinate_sign s v.part.spot v
-vector_step nt marks.Comma v = coordinate_comma nt (settled v.part) v
-vector_step nt marks.Close v = on_close nt v
-vector_step nt (marks.Digit d) v = in_coordinate v.label v (part_step (marks.Digit d) v.part)
-vector_step nt m v = in_coordinate false v (part_step m v.part)
+abbrev pub vector_step : Notation → Mark → VectorReader → Result LinePlace TextKind
+vector_step notation (marks.Letter a) v = Err (behind_number v.part.spot)
+vector_step notation (marks.Signs s) v = coordinate_sign s v.part.spot v
+vector_step notation marks.Comma v = coordinate_comma notation (settled v.part) v
+vector_step notation marks.Close v = on_close notation v
+vector_step notation (marks.Digit d) v = in_coordinate v.label v (part_step (marks.Digit d) v.part)
+vector_step notation m v = in_coordinate false v (part_step m v.part)
 
 -- the first byte that is no blank
-abbrev pub start_step : (nt : Notation) → Mark → Result LinePlace TextKind
-start_step nt marks.Blank = Ok places.Start
-start_step nt marks.Open = Ok (places.Coordinates (opened true))
-start_step nt marks.Hash = Ok (places.Comment None)
-start_step nt m = in_operation (step nt m start)
+abbrev pub start_step : Notation → Mark → Result LinePlace TextKind
+start_step notation marks.Blank = Ok places.Start
+start_step notation marks.Open = Ok (places.Coordinates (opened true))
+start_step notation marks.Hash = Ok (places.Comment None)
+start_step notation m = in_operation (step notation m start)
 
 -- a comment behind a triplet
 abbrev pub comment_behind : Option Motion3 → Result LinePlace TextKind
@@ -105,9 +105,9 @@ comment_behind None = Err kinds.MissingPart
 comment_behind (Some t) = Ok (places.Comment (Some t))
 
 -- a byte of an operation
-abbrev pub operation_step : (nt : Notation) → Mark → TripletReader → Result LinePlace TextKind
-operation_step nt marks.Hash t = comment_behind (value nt t)
-operation_step nt m t = in_operation (step nt m t)
+abbrev pub operation_step : Notation → Mark → TripletReader → Result LinePlace TextKind
+operation_step notation marks.Hash t = comment_behind (value notation t)
+operation_step notation m t = in_operation (step notation m t)
 
 -- a byte behind a closed vector
 abbrev pub closed_step : Mark → List Part → Result LinePlace TextKind
@@ -124,13 +124,13 @@ behind_step marks.Hash = Ok (places.Comment None)
 behind_step _ = Err kinds.UnknownSign
 
 -- a byte of a line
-abbrev pub place_step : (nt : Notation) → Mark → LinePlace → Result LinePlace TextKind
-place_step nt m places.Start = start_step nt m
-place_step nt m (places.Operation t) = operation_step nt m t
-place_step nt m (places.Coordinates v) = vector_step nt m v
-place_step nt m (places.Closed v) = closed_step m v
-place_step nt m places.Behind = behind_step m
-place_step nt m (places.Comment o) = Ok (places.Comment o)
+abbrev pub place_step : Notation → Mark → LinePlace → Result LinePlace TextKind
+place_step notation m places.Start = start_step notation m
+place_step notation m (places.Operation t) = operation_step notation m t
+place_step notation m (places.Coordinates v) = vector_step notation m v
+place_step notation m (places.Closed v) = closed_step m v
+place_step notation m places.Behind = behind_step m
+place_step notation m (places.Comment o) = Ok (places.Comment o)
 
 -- the vector that the mark completes
 abbrev pub completed_by : Mark → List Part → Option (List Part)
@@ -162,18 +162,18 @@ at_place (Ok p) vs = Ok (record { place = p; vectors = vs })
 at_place (Err k) vs = Err k
 
 -- a byte of a line
-abbrev pub line_step : (nt : Notation) → Mark → LineState → Result LineState TextKind
-line_step nt m s = at_place (place_step nt m s.place) (with_vector (completed m s.place) s.vectors)
+abbrev pub line_step : Notation → Mark → LineState → Result LineState TextKind
+line_step notation m s = at_place (place_step notation m s.place) (with_vector (completed m s.place) s.vectors)
 
 -- a byte, where there was no fault yet
-abbrev pub line_advance : (nt : Notation) → Result LineState TextKind → ℕ → Result LineState TextKind
-line_advance nt (Err k) b = Err k
-line_advance nt (Ok s) b = line_step nt (mark nt b) s
+abbrev pub line_advance : Notation → Result LineState TextKind → ℕ → Result LineState TextKind
+line_advance notation (Err k) b = Err k
+line_advance notation (Ok s) b = line_step notation (mark notation b) s
 
 -- the bytes of a line one by one
-abbrev pub line_run : (nt : Notation) → Result LineState TextKind → List ℕ → Result LineState TextKind
-line_run nt r [] = r
-line_run nt r (b ∷ bs) = line_run nt (line_advance nt r b) bs
+abbrev pub line_run : Notation → Result LineState TextKind → List ℕ → Result LineState TextKind
+line_run notation r [] = r
+line_run notation r (b ∷ bs) = line_run notation (line_advance notation r b) bs
 
 -- the operation of the line, if it may end here
 abbrev pub some_operation : Option Motion3 → Option (Option Motion3)
@@ -181,13 +181,13 @@ some_operation None = None
 some_operation (Some t) = Some (Some t)
 
 -- where a line may end, the operation that stands in it
-abbrev pub ending : (nt : Notation) → LinePlace → Option (Option Motion3)
-ending nt places.Start = Some None
-ending nt (places.Operation t) = some_operation (value nt t)
-ending nt (places.Coordinates v) = None
-ending nt (places.Closed v) = None
-ending nt places.Behind = Some None
-ending nt (places.Comment o) = Some o
+abbrev pub ending : Notation → LinePlace → Option (Option Motion3)
+ending notation places.Start = Some None
+ending notation (places.Operation t) = some_operation (value notation t)
+ending notation (places.Coordinates v) = None
+ending notation (places.Closed v) = None
+ending notation places.Behind = Some None
+ending notation (places.Comment o) = Some o
 
 -- the motion that is listed, if there is one
 abbrev pub operations_of : Option Motion3 → List Motion
@@ -200,8 +200,8 @@ listing_by None vs = None
 listing_by (Some o) vs = Some (record { ops = operations_of o; centrings = vs })
 
 -- what the line lists, if it may end here
-abbrev pub line_value : (nt : Notation) → LineState → Option Listing
-line_value nt s = listing_by (ending nt s.place) s.vectors
+abbrev pub line_value : Notation → LineState → Option Listing
+line_value notation s = listing_by (ending notation s.place) s.vectors
 
 -- the numbers are small
 abbrev pub IsPlaceSmall : LinePlace → Type 0

@@ -10,8 +10,8 @@ use Rattle.triplets.specs.declared.marks.Mark.TheVariants.{Blank, Signs, Letter,
 
 -- the letters of a notation: x, y and z, or x and y
 abbrev pub has_axis : Notation → Axis → Bool
-has_axis nt X = true
-has_axis nt Y = true
+has_axis notation X = true
+has_axis notation Y = true
 has_axis Triplets Z = true
 has_axis Pairs Z = false
 
@@ -22,7 +22,7 @@ third_letter Pairs = Other
 
 -- the mark of a byte
 abbrev pub mark : Notation → ℕ → Mark
-mark nt b =
+mark notation b =
     if nat_le 48 b && nat_le b 57 then Digit (b - 48) else (
     if b == 32 then Blank else (
     if b == 9 then Blank else (
@@ -33,8 +33,8 @@ mark nt b =
     if b == 88 then Letter X else (
     if b == 121 then Letter Y else (
     if b == 89 then Letter Y else (
-    if b == 122 then third_letter nt else (
-    if b == 90 then third_letter nt else (
+    if b == 122 then third_letter notation else (
+    if b == 90 then third_letter notation else (
     if b == 47 then Slash else (
     if b == 44 then Comma else (
     if b == 35 then Hash else (

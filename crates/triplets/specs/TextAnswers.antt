@@ -19,22 +19,22 @@ Lists (Ok listed) generated g = (listed.generated ≡ generated) × (listing_of 
 Lists (Err fault) generated g = IsMemory fault
 
 -- the first fault of the text, or memory ran out
-abbrev pub IsFaultOf : (nt : Notation) → List ℕ → TextFault → Type 0
-IsFaultOf nt text faults.NoMemory = Unit {0}
-IsFaultOf nt text (faults.At line column kind) = IsTextFault nt text (record { line = line; column = column; kind = kind })
+abbrev pub IsFaultOf : Notation → List ℕ → TextFault → Type 0
+IsFaultOf notation text faults.NoMemory = Unit {0}
+IsFaultOf notation text (faults.At line column kind) = IsTextFault notation text (record { line = line; column = column; kind = kind })
 
 -- what a reader answers to a whole text
-pub record IsAnswer (nt : Notation) (text : List ℕ) (answer : Result Listed TextFault) : Type 0 where
-  pub found : IfOk answer (λ listed. IsGroupText nt text listed.generated (listing_of listed))
-  pub only : (generated : Bool) (g : Listing) → IsGroupText nt text generated g → Lists answer generated g
-  pub fault : IfErr answer (IsFaultOf nt text)
+pub record IsAnswer (notation : Notation) (text : List ℕ) (answer : Result Listed TextFault) : Type 0 where
+  pub found : IfOk answer (λ listed. IsGroupText notation text listed.generated (listing_of listed))
+  pub only : (generated : Bool) (g : Listing) → IsGroupText notation text generated g → Lists answer generated g
+  pub fault : IfErr answer (IsFaultOf notation text)
 
 -- the first fault that a text shows, or memory ran out
-abbrev pub IsShownBy : (nt : Notation) → List ℕ → TextFault → Type 0
-IsShownBy nt text faults.NoMemory = Unit {0}
-IsShownBy nt text (faults.At line column kind) = IsShownFault nt text (record { line = line; column = column; kind = kind })
+abbrev pub IsShownBy : Notation → List ℕ → TextFault → Type 0
+IsShownBy notation text faults.NoMemory = Unit {0}
+IsShownBy notation text (faults.At line column kind) = IsShownFault notation text (record { line = line; column = column; kind = kind })
 
 -- what a reader answers to a text that may go on
-pub record IsAnswerSoFar (nt : Notation) (text : List ℕ) (answer : Result (Unit {0}) TextFault) : Type 0 where
-  pub none : IfOk answer (λ _. (f : Fault) → ¬ IsShownFault nt text f)
-  pub fault : IfErr answer (IsShownBy nt text)
+pub record IsAnswerSoFar (notation : Notation) (text : List ℕ) (answer : Result (Unit {0}) TextFault) : Type 0 where
+  pub none : IfOk answer (λ _. (f : Fault) → ¬ IsShownFault notation text f)
+  pub fault : IfErr answer (IsShownBy notation text)

@@ -49,8 +49,8 @@ ended None heading k = Err (fault_here k kinds.MissingPart)
 ended (Some o) heading k = Ok (record { generated = heading || k.said.generated; listing = with_operation o k.said.listing })
 
 -- what is said when the text ends here
-abbrev pub finished : (nt : Notation) → Kept → Result Said Fault
-finished nt k = ended (text_ending nt k.place) (is_heading k.place) k
+abbrev pub finished : Notation → Kept → Result Said Fault
+finished notation k = ended (text_ending notation k.place) (is_heading k.place) k
 
 -- behind the line feed
 abbrev pub new_line : Result Said Fault → Kept → Result Kept Fault
@@ -67,27 +67,27 @@ moved (Err kind) v k = Err (fault_here k kind)
 moved (Ok p) v k = Ok (record { said = said_vector v k.said; line = k.line; column = k.column + 1; place = p })
 
 -- a byte of the text
-abbrev pub byte_step : (nt : Notation) → ℕ → Kept → Result Kept Fault
-byte_step nt b k = if b == 10 then new_line (finished nt k) k else moved (text_step nt b k.place) (text_completed (mark nt b) k.place) k
+abbrev pub byte_step : Notation → ℕ → Kept → Result Kept Fault
+byte_step notation b k = if b == 10 then new_line (finished notation k) k else moved (text_step notation b k.place) (text_completed (mark notation b) k.place) k
 
 -- a byte, where there was no fault yet
-abbrev pub text_advance : (nt : Notation) → Result Kept Fault → ℕ → Result Kept Fault
-text_advance nt (Err f) b = Err f
-text_advance nt (Ok k) b = byte_step nt b k
+abbrev pub text_advance : Notation → Result Kept Fault → ℕ → Result Kept Fault
+text_advance notation (Err f) b = Err f
+text_advance notation (Ok k) b = byte_step notation b k
 
 -- the bytes one by one
-abbrev pub text_run : (nt : Notation) → Result Kept Fault → List ℕ → Result Kept Fault
-text_run nt r [] = r
-text_run nt r (b ∷ bs) = text_run nt (text_advance nt r b) bs
+abbrev pub text_run : Notation → Result Kept Fault → List ℕ → Result Kept Fault
+text_run notation r [] = r
+text_run notation r (b ∷ bs) = text_run notation (text_advance notation r b) bs
 
 -- what the end of the text gives
-abbrev pub outcome : (nt : Notation) → Result Kept Fault → Result Said Fault
-outcome nt (Err f) = Err f
-outcome nt (Ok k) = finished nt k
+abbrev pub outcome : Notation → Result Kept Fault → Result Said Fault
+outcome notation (Err f) = Err f
+outcome notation (Ok k) = finished notation k
 
 -- what the bytes of a whole text give
-abbrev pub group_of : (nt : Notation) → List ℕ → Result Said Fault
-group_of nt bytes = outcome nt (text_run nt (Ok kept_start) bytes)
+abbrev pub group_of : Notation → List ℕ → Result Said Fault
+group_of notation bytes = outcome notation (text_run notation (Ok kept_start) bytes)
 
 -- what a Listed says
 abbrev pub said_of : Listed → Said
@@ -112,11 +112,11 @@ kept_or (Some (faults.At line column kind)) k = Err (record { line = line; colum
 kept_or (Some faults.NoMemory) k = Ok k
 
 -- The reader has read this text, and no memory ran out.
-pub record Stands (nt : Notation) (r : LineReader) (text : List ℕ) : Type 0 where
-  pub run_is : text_run nt (Ok kept_start) text ≡ kept_or r.fault (kept r)
+pub record Stands (notation : Notation) (r : LineReader) (text : List ℕ) : Type 0 where
+  pub run_is : text_run notation (Ok kept_start) text ≡ kept_or r.fault (kept r)
   pub fed : r.fed ≡ length text
   pub memory : r.fault ≡ Some faults.NoMemory → ⊥
-  pub notation : r.notation ≡ nt
+  pub reads : r.notation ≡ notation
 
 -- this fault is given, unless it is one of memory
 abbrev pub Refuses : {B : Type 0} → TextFault → Result B Fault → Type 0

@@ -18,20 +18,20 @@ returns-in-Err-clause-stands c =
     (byte_step c.loop-byte.self.notation (get_or c.args.piece.now c.loop-byte.byte-index 0) (kept c.loop-byte.self)) c.args.piece.now
     (c.in-Err.ensures.notation ∙ c.loop-byte.invariant.notation) refl (c.in-Err.ensures.fed ∙ c.loop-byte.invariant.fed) c.in-Err.ensures.kept
     (λ nt text f h e. text_fault nt text c.args.piece.now c.loop-byte.byte-index (kept c.loop-byte.self) f c.loop-byte-test.true (c.loop-byte.invariant.run nt text h)
-    (ap (λ x. byte_step x (get_or c.args.piece.now c.loop-byte.byte-index 0) (kept c.loop-byte.self)) (sym (c.loop-byte.invariant.notation ∙ h.notation)) ∙ e))
+    (ap (λ x. byte_step x (get_or c.args.piece.now c.loop-byte.byte-index 0) (kept c.loop-byte.self)) (sym (c.loop-byte.invariant.notation ∙ h.reads)) ∙ e))
 
 pub returns-in-Err-clause-answer : goal.returns-in-Err-clause-answer
 returns-in-Err-clause-answer c nt text h =
     answer_so_far nt (Err c.in-Err.fault) (kept c.loop-byte.self) _
     (gives_along c.in-Err.fault (byte_step c.loop-byte.self.notation (get_or c.args.piece.now c.loop-byte.byte-index 0) (kept c.loop-byte.self)) _
     (λ f e. text_fault nt text c.args.piece.now c.loop-byte.byte-index (kept c.loop-byte.self) f c.loop-byte-test.true (c.loop-byte.invariant.run nt text h)
-    (ap (λ x. byte_step x (get_or c.args.piece.now c.loop-byte.byte-index 0) (kept c.loop-byte.self)) (sym (c.loop-byte.invariant.notation ∙ h.notation)) ∙ e)) c.in-Err.ensures.kept)
+    (ap (λ x. byte_step x (get_or c.args.piece.now c.loop-byte.byte-index 0) (kept c.loop-byte.self)) (sym (c.loop-byte.invariant.notation ∙ h.reads)) ∙ e)) c.in-Err.ensures.kept)
 
 pub loop-byte-preserved : goal.loop-byte-preserved
 loop-byte-preserved c = record {
   run = λ nt text h.
       text_more nt text c.args.piece.now c.loop-byte.byte-index (kept c.loop-byte.self) _ c.loop-byte-test.true (c.loop-byte.invariant.run nt text h)
-      (ap (λ x. byte_step x (get_or c.args.piece.now c.loop-byte.byte-index 0) (kept c.loop-byte.self)) (sym (c.loop-byte.invariant.notation ∙ h.notation)) ∙ c.in_default-advance.ensures.kept);
+      (ap (λ x. byte_step x (get_or c.args.piece.now c.loop-byte.byte-index 0) (kept c.loop-byte.self)) (sym (c.loop-byte.invariant.notation ∙ h.reads)) ∙ c.in_default-advance.ensures.kept);
   notation = c.in_default-advance.ensures.notation ∙ c.loop-byte.invariant.notation;
   fault = c.in_default-advance.ensures.fault ∙ c.loop-byte.invariant.fault;
   fed = c.in_default-advance.ensures.fed ∙ c.loop-byte.invariant.fed;

@@ -15,12 +15,12 @@ pub returns-in_err-end_line-clause-answer : goal.returns-in_err-end_line-clause-
 returns-in_err-end_line-clause-answer c nt text h =
     answer_passed nt c.in_err-end_line.field-0.0 c.from_residual.result text c.from_residual.ensures.1
     (subst (Refuses c.in_err-end_line.field-0.0) (sym (ap (outcome nt) (stands_kept nt c.args.self text h c.in_default.is)))
-    (subst (λ x. Refuses c.in_err-end_line.field-0.0 (finished x (kept c.args.self))) h.notation c.in_err-end_line.ensures.value))
+    (subst (λ x. Refuses c.in_err-end_line.field-0.0 (finished x (kept c.args.self))) h.reads c.in_err-end_line.ensures.value))
 
 listed : (c : goal.In_ok-end_line) (nt : Notation) (text : List ℕ) → Stands nt c.args.self text → IsAnswer nt text (Ok c.end_line.new.self.listed)
 listed c nt text h =
     answer nt (Ok c.end_line.new.self.listed) text
-    (ap (outcome nt) (stands_kept nt c.args.self text h c.in_default.is) ∙ (ap (λ x. finished x (kept c.args.self)) (sym h.notation) ∙ c.in_ok-end_line.ensures.value))
+    (ap (outcome nt) (stands_kept nt c.args.self text h c.in_default.is) ∙ (ap (λ x. finished x (kept c.args.self)) (sym h.reads) ∙ c.in_ok-end_line.ensures.value))
 
 pub returns-clause-answer : goal.returns-clause-answer
 returns-clause-answer c nt text h = listed c nt text h
