@@ -1,4 +1,5 @@
 """What a text of triplets or of pairs lists, and what of it keeps a line or a plane, point by point, in exact fractions."""
+import functools
 import itertools
 import math
 import re
@@ -44,19 +45,28 @@ class Listing:
         """Whether the vector is in the lattice."""
         return reduced(v) in self.residues
 
+    @functools.cache
     def period(self, row):
         """The least positive height of a lattice vector."""
         heights = [dot(row, v) for v in self.residues]
         parts = math.lcm(*(Fraction(height).denominator for height in heights))
         return Fraction(math.gcd(*(int(height * parts) for height in heights), *(x * parts for x in row)), parts)
 
+    @functools.cache
+    def level(self, row):
+        """The operations that take points of one height to points of one, and by how much each raises those at 0 and at 1."""
+        found = []
+        for matrix, vector in self.operations:
+            rises = [{dot(row, times(matrix, point)) + dot(row, vector) - height for point in points(row, height)} for height in (0, 1)]
+            if all(len(rise) == 1 for rise in rises):
+                found.append((matrix, vector, *(rise.pop() for rise in rises)))
+        return found
+
     def keeping(self, row, *heights):
         """The operations that, moved by a lattice vector, keep each line or plane of these heights, and by how much each raises them."""
         period = self.period(row)
-        places = [point for height in heights for point in points(row, height)]
-        for matrix, vector in self.operations:
-            # One motion raises all points by the same, or it does not keep them all.
-            rises = {dot(row, times(matrix, point)) + dot(row, vector) - dot(row, point) for point in places}
+        for matrix, vector, bottom, top in self.level(row):
+            rises = {bottom + height * (top - bottom) for height in heights}
             if len(rises) == 1 and (rise := rises.pop()) % period == 0:
                 yield matrix, vector, rise
 
