@@ -5,7 +5,11 @@ ghost use Rattle.closure.specs.Groups.{group_listing, IsGroupOf};
 ghost use Rattle.line_frames.specs.LineFrames.{IsLineFrameOf};
 ghost use Rattle.line_frames.specs.Lines.{IsFlatGroup};
 
+use crate::directions::{along_lines, repeat_along, sense};
+use crate::means::mean;
+use crate::members::first_above;
 use closure::Group;
+use fractions::{Part, UNIT};
 use motions::Miller;
 use plane_lattice::Frame;
 
@@ -22,5 +26,18 @@ pub fn line_frame(group: &Group, plane: Miller) -> Frame
     requires line { plane.l ≡ pos 0 }
     ensures { (g : Listing) → IsGroupOf g group.now → IsLineFrameOf g plane result }
 {
-    unreachable!()
+    let sense = sense(&plane);
+    let a = along_lines(&plane, sense * repeat_along(group, &plane));
+    let b = [Part(0), Part(0), Part(-sense * UNIT)];
+    let tau = first_above(group, &plane, &a);
+    let period = Part(plane.h * tau[0].0 + plane.k * tau[1].0);
+    let c = mean(group.ops(), &plane, &tau);
+    Frame {
+        plane,
+        a,
+        b,
+        tau,
+        period,
+        c,
+    }
 }

@@ -9,6 +9,9 @@
 // along the third axis or its opposite. It is a frame of the planes, which may be skewed.
 #![tactic(auto)]
 
+mod directions;
 mod frame;
+mod means;
+mod members;
 
 pub use frame::line_frame;
