@@ -1,0 +1,4 @@
+pub mod Lines
+pub mod LineLists
+pub mod LineSections
+pub mod LineScans

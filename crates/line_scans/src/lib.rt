@@ -1,0 +1,4 @@
+// The lines of a plane group, height by height.
+#![tactic(auto)]
+
+mod laws;
