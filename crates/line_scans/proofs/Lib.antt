@@ -1,1 +1,3 @@
+pub mod LineActions
+pub mod LineGroups
 pub mod PlaneBridges
