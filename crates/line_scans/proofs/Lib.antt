@@ -1,3 +1,4 @@
 pub mod LineActions
 pub mod LineGroups
+pub mod LineStabilisers
 pub mod PlaneBridges

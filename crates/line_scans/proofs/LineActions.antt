@@ -38,7 +38,7 @@ product_entry p q a b c d x y =
     ((var 0 ⊗ var 2 ⊕ var 1 ⊗ var 4) ⊗ var 6 ⊕ (var 0 ⊗ var 3 ⊕ var 1 ⊗ var 5) ⊗ var 7)
     (var 0 ⊗ (var 2 ⊗ var 6 ⊕ var 3 ⊗ var 7) ⊕ var 1 ⊗ (var 4 ⊗ var 6 ⊕ var 5 ⊗ var 7)) tt
 
-image_product2 : (n m : Matrix2) (v : Pair) → image2 (product2 n m) v ≡ image2 n (image2 m v)
+pub image_product2 : (n m : Matrix2) (v : Pair) → image2 (product2 n m) v ≡ image2 n (image2 m v)
 image_product2 n m v =
     pair_path
     (product_entry n.first.x n.first.y m.first.x m.first.y m.second.x m.second.y v.x v.y)
@@ -57,7 +57,13 @@ times_times k l v = pair_path (entry v.x) (entry v.y)
     entry : (x : ℤ) → k *ℤ (l *ℤ x) ≡ k *ℤ l *ℤ x
     entry x = ring (k ∷ l ∷ x ∷ []) (var 0 ⊗ (var 1 ⊗ var 2)) (var 0 ⊗ var 1 ⊗ var 2) tt
 
-sign_of_product : (f g : Sign) → sign_value f *ℤ sign_value g ≡ sign_value (sign_product f g)
+pub image_unit2 : (v : Pair) → image2 unit2 v ≡ v
+image_unit2 v = pair_path (omega (arith, ints)) (omega (arith, ints))
+
+pub times_one : (v : Pair) → times2 (pos 1) v ≡ v
+times_one v = pair_path (omega (arith, ints)) (omega (arith, ints))
+
+pub sign_of_product : (f g : Sign) → sign_value f *ℤ sign_value g ≡ sign_value (sign_product f g)
 sign_of_product Plus Plus = refl
 sign_of_product Plus Minus = refl
 sign_of_product Minus Plus = refl
@@ -144,12 +150,6 @@ module _ (a : Pair) (c o : PlanePoint) where
         (along_entry edge o.over op.shift like.shift (sign_value like.along) n.matrix.second.x n.matrix.second.y (drift2 m o).x (drift2 m o).y a.y a.x a.y
         (λ i. (acts_m.shift i).x) (λ i. (acts_m.shift i).y) (λ i. (acts_n.along i).y) (drift2 n o).y (λ i. (acts_n.shift i).y));
   }
-
-  image_unit2 : (v : Pair) → image2 unit2 v ≡ v
-  image_unit2 v = pair_path (omega (arith, ints)) (omega (arith, ints))
-
-  times_one : (v : Pair) → times2 (pos 1) v ≡ v
-  times_one v = pair_path (omega (arith, ints)) (omega (arith, ints))
 
   pub acts_identity : Acts plane_identity frieze_identity
   acts_identity = record {

@@ -110,7 +110,7 @@ third = record { x = pos 0; y = pos 0; z = UNIT }
 third_in : (g : Listing) (k : ℤ) → IsInLattice g (multiple k third)
 third_in g k = lattice-multiple g k third (lattice-made g third (inl (2, lit< tt, refl)))
 
-flat_minus : (v w : Pair) → minus (in_space v) (in_space w) ≡ in_space (minus2 v w)
+pub flat_minus : (v w : Pair) → minus (in_space v) (in_space w) ≡ in_space (minus2 v w)
 unfolding plus multiple
 flat_minus v w = vector_path (omega (arith, ints)) (omega (arith, ints)) refl
 
