@@ -66,7 +66,7 @@ block_is m flat none = λ i. record { matrix = block_of_pair m flat i; shift = r
 
 -- ---- planes and lines
 
-image_below : (m : Motion) (v : Vector) → IsFlatMatrix m.matrix → first_two (image m.matrix v) ≡ image2 (pair_motion m).matrix (first_two v)
+pub image_below : (m : Motion) (v : Vector) → IsFlatMatrix m.matrix → first_two (image m.matrix v) ≡ image2 (pair_motion m).matrix (first_two v)
 unfolding dot
 image_below m v flat =
     λ i. record { x = entry m.matrix.first.x m.matrix.first.y m.matrix.first.z v.x v.y v.z flat.column_x i; y = entry m.matrix.second.x m.matrix.second.y m.matrix.second.z v.x v.y v.z flat.column_y i }
