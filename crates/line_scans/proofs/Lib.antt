@@ -6,3 +6,4 @@ pub mod LineOps
 pub mod LineStabilisers
 pub mod Multiples
 pub mod PlaneBridges
+pub mod SectionLists

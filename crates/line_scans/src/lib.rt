@@ -3,7 +3,9 @@
 
 mod laws;
 mod scan;
+mod section;
 mod viewpoint;
 
 pub use laws::{line_as_plane, line_stabilisers_as_plane_stabilisers};
 pub use scan::{LineHeight, LineScan, LineSection};
+pub use section::NoMemory;
