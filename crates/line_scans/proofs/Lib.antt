@@ -1,5 +1,6 @@
 pub mod FoundOps
 pub mod LineActions
+pub mod LineContexts
 pub mod LineGroups
 pub mod LineMeans
 pub mod LineOps
