@@ -8,3 +8,4 @@ pub mod LineStabilisers
 pub mod Multiples
 pub mod PlaneBridges
 pub mod SectionLists
+pub mod SectionTypes

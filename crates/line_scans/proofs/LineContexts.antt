@@ -84,7 +84,7 @@ module _ (g : Listing) (r a tau : Pair) (d : ℤ) (f : Basis) (scanning : List M
   abbrev ops : List PlaneMotion
   ops = map pair_motion scanning
 
-  abbrev c : PlanePoint
+  abbrev pub c : PlanePoint
   c = line_mean r tau ops
 
   pub above_d : pos 1 ≤ℤ d
