@@ -9,3 +9,4 @@ pub mod Multiples
 pub mod PlaneBridges
 pub mod SectionLists
 pub mod SectionTypes
+pub mod SpecialLines

@@ -2,6 +2,7 @@
 #![tactic(auto)]
 
 mod laws;
+mod make;
 mod scan;
 mod section;
 mod viewpoint;
