@@ -10,3 +10,4 @@ pub mod PlaneBridges
 pub mod SectionLists
 pub mod SectionTypes
 pub mod SpecialLines
+pub mod MadeLines

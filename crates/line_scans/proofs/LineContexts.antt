@@ -94,7 +94,7 @@ module _ (g : Listing) (r a tau : Pair) (d : ℤ) (f : Basis) (scanning : List M
 
   -- ---- the vector c'
 
-  total_is : total_up row f.tau scanning ≡ in_space (line_total r tau ops)
+  pub total_is : total_up row f.tau scanning ≡ in_space (line_total r tau ops)
   total_is = ap (λ v. total_up row v scanning) x.f_tau ∙ total_below r tau scanning (flat_scanning g r x.flat scanning x.are_scanning)
 
   pub up : pos 1 ≤ℤ dot2 r c.at
