@@ -189,7 +189,7 @@ module _ (group : Group) (frame : Frame) (flat : IsFlatGroup (group_listing grou
 
       module _ (general : LineSection) (general_is : IsSectionOf (row_of frame.plane) f (pos 0) (map motion_of scan.general.items) general)
           (hs : List LineHeight) (heights_are : AllZip (IsLineHeightOf (row_of frame.plane) f d) scan.special.items hs) where
-        abbrev told : lines.LineScan
+        abbrev pub told : lines.LineScan
         told = record {
           row = r;
           a = a;
@@ -265,3 +265,35 @@ module _ (group : Group) (frame : Frame) (flat : IsFlatGroup (group_listing grou
           types = all_of_zip Both
               (λ (h : lines.LineHeight). IsFirstFrieze (InLineSectionAt g r a tau d (line_mean r tau ops) h.height) h.section.found) line_height_of type_at scan.special.items hs zipped;
         }
+
+-- the indices, and the fractions of c', however they are written
+pub told_so : (g : Listing) (frame : Frame) (c : List Ratio) {h k : ℤ} {general : lines.LineSection} {heights : List lines.LineHeight}
+    → h ≡ frame.plane.h → k ≡ frame.plane.k → fraction_at c 0 ≡ fraction_at frame.c 0 → fraction_at c 1 ≡ fraction_at frame.c 1
+    → IsLineScan g (first_two (row_of frame.plane)) (record {
+      row = first_two (row_of frame.plane);
+      a = first_two (parts frame.a);
+      tau = first_two (parts frame.tau);
+      period = frame.period.0;
+      mean = record { x = fraction_at frame.c 0; y = fraction_at frame.c 1 };
+      general = general;
+      heights = heights;
+    })
+    → IsLineScan g (first_two (row_of frame.plane)) (record {
+      row = record { x = h; y = k };
+      a = first_two (parts frame.a);
+      tau = first_two (parts frame.tau);
+      period = frame.period.0;
+      mean = record { x = fraction_at c 0; y = fraction_at c 1 };
+      general = general;
+      heights = heights;
+    })
+told_so g frame c {h} {k} {general} {heights} e e' x y so =
+    subst (IsLineScan g (first_two (row_of frame.plane))) (λ i. record {
+      row = record { x = sym e i; y = sym e' i };
+      a = first_two (parts frame.a);
+      tau = first_two (parts frame.tau);
+      period = frame.period.0;
+      mean = record { x = sym x i; y = sym y i };
+      general = general;
+      heights = heights;
+    }) so

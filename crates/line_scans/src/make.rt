@@ -1,6 +1,7 @@
 // The lines of a plane group.
 ghost use Rattle.std.specs.Prelude.{◌≡◌, ℤ, pos, All, IfOk, map};
 ghost use Rattle.std.specs.List.{AllZip};
+ghost use Rattle.fractions.specs.Fractions.{fraction_at};
 ghost use Rattle.symmetry.specs.Groups.{Listing};
 ghost use Rattle.motions.specs.Views.{motion_of, row_of};
 ghost use Rattle.closure.specs.Groups.{IsGroupOf, group_listing};
@@ -15,6 +16,7 @@ use crate::scan::{LineHeight, LineScan};
 use crate::section::{NoMemory, line_section};
 use crate::viewpoint::Viewpoint;
 use closure::Group;
+use fractions::Ratio;
 use plane_lattice::Frame;
 use scanning::{Height, Scan};
 use std::alloc::Global;
@@ -44,10 +46,18 @@ pub(crate) fn lines_in(
         a: [frame.a[0], frame.a[1]],
         tau: [frame.tau[0], frame.tau[1]],
         period: frame.period,
-        c: [frame.c[0], frame.c[1]],
+        c: in_plane(&frame.c),
         general,
         heights,
     })
+}
+
+/// The first two of three ratios.
+fn in_plane(c: &[Ratio; 3]) -> [Ratio; 2]
+    ensures first { fraction_at result 0 ≡ fraction_at c.now 0 }
+    ensures second { fraction_at result 1 ≡ fraction_at c.now 1 }
+{
+    [c[0], c[1]]
 }
 
 /// The section at each special height.
