@@ -1,7 +1,7 @@
 -- What flat operations list and generate is a plane group.
 use Rattle.std.proofs.Common.{◌≡◌, sym, ap, subst, ◌∙◌, refl, inl, inr, lit<, pos, negsuc, ◌-ℤ◌, arith}
-use Rattle.std.specs.Prelude.{Contains, unsigned_abs}
-use Rattle.std.proofs.lemmas.List.Elements.{All-contains}
+use Rattle.std.specs.Prelude.{All, List, Contains, unsigned_abs}
+use Rattle.std.proofs.lemmas.List.Elements.{All-contains, All-contains_itself, All-weaker}
 use Rattle.std.proofs.lemmas.Int.{ints}
 use Rattle.fractions.specs.declared.part.TheConstants.{UNIT}
 use Rattle.integers.specs.Size.{Divides}
@@ -16,6 +16,9 @@ use Rattle.closure.specs.declared.group.Group.{Group}
 use Rattle.closure.specs.Fineness.{centrings_alone}
 use Rattle.closure.specs.Generated.{generating_kind, IsDerivedListing, IsGenerated, IsLeast}
 use Rattle.closure.specs.Groups.{group_listing, IsGroupOf}
+use Rattle.symmetry.proofs.LatticeLaws.{lattice-made}
+use Rattle.closure.specs.Lattices.{residues_of}
+use Rattle.closure.specs.Laws.ShiftLaws.{residues-reduced}
 use Rattle.closure.specs.Laws.ListLaws.{nothing_contained}
 use Rattle.closure.specs.Laws.Remainders.{Divides-zero, rem-same}
 use Rattle.closure.specs.Residues.{residue}
@@ -33,20 +36,25 @@ lattice_level g each _ zero_vector = Divides-zero (unsigned_abs UNIT)
 lattice_level g each _ (added t v k made) = level-plus t v (lattice_level g each t k) (each v made)
 lattice_level g each _ (subtracted t v k made) = level-plus t _ (lattice_level g each t k) (level-multiple (negsuc 0) v (each v made))
 
--- an upright motion whose translation has entries from 0 to below an edge is flat
-reduced_flat : (m : Motion) → IsUpright m → residue m.shift ≡ m.shift → IsFlat m
+-- a level vector with entries from 0 to below an edge lies in the plane
+reduced_zero : (v : Vector) → IsLevel v → residue v ≡ v → v.z ≡ pos 0
 unfolding residue
+reduced_zero v level reduced =
+    sym (ap (λ (v : Vector). v.z) reduced) ∙ rem-same (unsigned_abs UNIT) (lit< tt) v.z (pos 0) whole
+  where
+    whole : Divides (unsigned_abs UNIT) (v.z -ℤ pos 0)
+    whole = subst (Divides (unsigned_abs UNIT)) (omega (arith, ints)) level
+
+-- so an upright motion whose translation is such a vector is flat
+reduced_flat : (m : Motion) → IsUpright m → residue m.shift ≡ m.shift → IsFlat m
 reduced_flat m p reduced = record {
   row_x = p.row_x;
   row_y = p.row_y;
   row_z = p.row_z;
   column_x = p.column_x;
   column_y = p.column_y;
-  shift = sym (ap (λ (v : Vector). v.z) reduced) ∙ rem-same (unsigned_abs UNIT) (lit< tt) m.shift.z (pos 0) whole;
+  shift = reduced_zero m.shift p.level reduced;
 }
-  where
-    whole : Divides (unsigned_abs UNIT) (m.shift.z -ℤ pos 0)
-    whole = subst (Divides (unsigned_abs UNIT)) (omega (arith, ints)) p.level
 
 module _ (g : Listing) (flat : IsFlatListing g) where
   operation_flat : (m : Motion) → Contains g.ops m → IsFlat m
@@ -103,3 +111,18 @@ group_flat g group flat is = record {
   operations = λ m listed. flat.operations m (Contains-from_firsts g.ops (group_listing group).ops is.firsts m listed);
   heights = λ t inside. flat.heights t ((is.alike.lattice t).1 inside);
 }
+
+-- its operations are flat, and its residues, which are its centring vectors, lie in the plane
+pub listing_of_flat : (group : Group) → IsFlatGroup (group_listing group) → IsFlatListing (group_listing group)
+listing_of_flat group flat = record {
+  operations = each IsFlat (group_listing group).ops flat.operations;
+  centrings = each (λ (v : Vector). v.z ≡ pos 0) (residues_of group.lattice) in_plane;
+}
+  where
+    each : {A : Type 0} (P : A → Type 0) (xs : List A) → ((x : A) → Contains xs x → P x) → All P xs
+    each P xs h = All-weaker (Contains xs) P h xs (All-contains_itself xs)
+
+    in_plane : (v : Vector) → Contains (residues_of group.lattice) v → v.z ≡ pos 0
+    in_plane v is =
+        reduced_zero v (flat.heights v (lattice-made (group_listing group) v (inr (inl is))))
+        (All-contains (λ r. residue r ≡ r) (residues_of group.lattice) v (residues-reduced group.lattice) is)
