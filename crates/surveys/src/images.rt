@@ -1,5 +1,5 @@
 // The triples that are equivalent to an orientation.
-ghost use Rattle.std.specs.Prelude.{◌↔◌, ◌≤◌, ◌+◌, Any, IfOk, IsTrue, OnOk, map, vec_len};
+ghost use Rattle.std.specs.Prelude.{◌≡◌, ◌↔◌, ◌≤◌, ◌+◌, ◌⊎◌, ◌++◌, ◌∷◌, [], Any, IfOk, IsTrue, OnOk, map, vec_len};
 ghost use Rattle.motions.specs.Views.{row_of, vector_of};
 ghost use Rattle.closure.specs.Groups.{group_listing};
 ghost use Rattle.surveys.specs.Additions.{IsWith};

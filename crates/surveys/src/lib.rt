@@ -10,7 +10,6 @@
 
 mod images;
 mod laws;
-mod limits;
 mod periods;
 mod places;
 mod representatives;
@@ -22,6 +21,5 @@ mod surveyed;
 mod tests;
 
 pub use laws::{one_representative, orientation_classes};
-pub use limits::WIDEST;
 pub use surveying::{NoMemory, survey};
 pub use surveyed::Surveyed;

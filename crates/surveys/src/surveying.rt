@@ -23,8 +23,7 @@ pub type NoMemory = AllocError;
 /// the greatest first, each with its counts: those of each listing of the group.
 ///
 /// Two triples are equivalent where an operation W takes the one, (hkl), to the other or its opposite: (hkl) W or
-/// -(hkl) W. So each orientation with such indices is equivalent to exactly one of the list. n is 1 to
-/// [`WIDEST`](crate::WIDEST).
+/// -(hkl) W. So each orientation with such indices is equivalent to exactly one of the list. n is 1 to 5.
 pub fn survey(alloc: Global, group: &Group, n: i64) -> Result<Vec<Surveyed>, NoMemory>
     requires from { pos 1 ≤ℤ n }
     requires most { n ≤ℤ pos 5 }
