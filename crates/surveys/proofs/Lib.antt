@@ -1,3 +1,5 @@
 pub mod Equivalence
 pub mod Divisors
 pub mod Greatest
+pub mod GreaterImages
+pub mod RowSizes

@@ -1,5 +1,5 @@
 // Rows of three indices.
-ghost use Rattle.std.specs.Prelude.{◌≡◌, ◌↔◌, IsTrue, unsigned_abs};
+ghost use Rattle.std.specs.Prelude.{◌≡◌, ◌↔◌, IsTrue};
 ghost use Rattle.symmetry.specs.Sizes.{IsVectorWithin};
 ghost use Rattle.symmetry.specs.Vectors.{opposite};
 ghost use Rattle.motions.specs.Views.{row_of, vector_of};
@@ -17,11 +17,10 @@ pub(crate) fn opposite_row(row: &[i64; 3]) -> [i64; 3]
     [-row[0], -row[1], -row[2]]
 }
 
-/// Whether each index is at most n in size.
-pub(crate) fn is_within(row: &[i64; 3], n: i64) -> bool
-    ensures { IsTrue result ↔ IsVectorWithin (unsigned_abs n) (vector_of row.now) }
+/// Whether each index is at most `largest` in size.
+pub(crate) fn is_within(row: &[i64; 3], largest: u64) -> bool
+    ensures { IsTrue result ↔ IsVectorWithin largest (vector_of row.now) }
 {
-    let largest = n.unsigned_abs();
     row[0].unsigned_abs() <= largest
         && row[1].unsigned_abs() <= largest
         && row[2].unsigned_abs() <= largest

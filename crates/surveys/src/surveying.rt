@@ -34,7 +34,7 @@ pub fn survey(alloc: Global, group: &Group, n: i64) -> Result<Vec<Surveyed>, NoM
     let side = (2 * n + 1) as u32;
     for place in 0..side * side * side {
         if let Some(plane) = plane_at(n, place) {
-            if is_representative(group, &plane, n) {
+            if is_representative(group, &plane, n.unsigned_abs()) {
                 list.push(surveyed(alloc, group, plane)?)?;
             }
         }
