@@ -3,3 +3,5 @@ pub mod Divisors
 pub mod Greatest
 pub mod GreaterImages
 pub mod RowSizes
+pub mod Sets
+pub mod ImageLists

@@ -1,9 +1,10 @@
-use Rattle.std.proofs.Common.{◌≡◌, ◌↔◌, ◌≤◌, ◌+◌, ◌⊎◌, ◌++◌, ◌∷◌, [], Any, IfOk, IsTrue, OnOk, map, vec_len, ℕ, ◌-◌, ◌*◌, ◌<◌, length}
-use Rattle.motions.specs.Views.{row_of, vector_of}
-use Rattle.closure.specs.Groups.{group_listing}
-use Rattle.surveys.specs.Additions.{IsWith}
-use Rattle.surveys.specs.Surveys.{AreEquivalent, ListsSet}
+-- The images under the operations so far.
+use Rattle.std.proofs.Common.{◌*◌, ◌≤◌, map, take, vec_len}
+use Rattle.motions.specs.Views.{motion_of, row_of, vector_of}
+use Rattle.surveys.specs.Surveys.{ListsSet}
+use Rattle.surveys.proofs.ImageLists.{IsImage}
 use Rattle.surveys.proofs.images.images.Given as goal
 
 abbrev pub invariant-loop-m : goal.invariant-loop-m
-invariant-loop-m l = ?
+invariant-loop-m l =
+    ListsSet (IsImage (row_of l.plane) (take l.m-index (map motion_of l.m-items))) (map vector_of l.rows.items) × (vec_len l.rows ≤ 2 * l.m-index)
