@@ -5,3 +5,4 @@ pub mod GreaterImages
 pub mod RowSizes
 pub mod Sets
 pub mod ImageLists
+pub mod ShiftLists

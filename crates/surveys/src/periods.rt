@@ -2,13 +2,11 @@
 ghost use Rattle.std.specs.Prelude.{◌≡◌, ◌≤ℤ◌, pos, unsigned_abs};
 ghost use Rattle.std.specs.Int.{IsGcd};
 ghost use Rattle.fractions.specs.declared.part.TheConstants.{UNIT};
-ghost use Rattle.integers.specs.Size.{IsWithin};
 ghost use Rattle.symmetry.specs.Frames.{IsPeriod};
 ghost use Rattle.symmetry.specs.Vectors.{dot};
 ghost use Rattle.motions.specs.Views.{parts, row_of};
 ghost use Rattle.closure.specs.Groups.{group_listing};
 ghost use Rattle.closure.specs.Residues.{IsResidue};
-ghost use Rattle.scanning.specs.Bounds.{largest_shift};
 
 use closure::Group;
 use fractions::{Part, UNIT, greatest_common_divisor};
@@ -16,16 +14,15 @@ use motions::Miller;
 
 /// The least positive (hkl).v of the vectors v of the lattice, in parts: the greatest common divisor of those of the
 /// residues and of [`UNIT`], which a whole vector has since (hkl) is coprime.
-pub(crate) fn period(group: &Group, plane: &Miller) -> i64
-    ensures is { IsPeriod (group_listing group.now) (row_of plane.now) result }
-    ensures from { pos 1 ≤ℤ result }
-    ensures most { result ≤ℤ UNIT }
+pub(crate) fn period(group: &Group, plane: &Miller) -> Part
+    ensures is { IsPeriod (group_listing group.now) (row_of plane.now) result.0 }
+    ensures most { result.0 ≤ℤ UNIT }
 {
     let mut period = UNIT;
     for v in group.lattice().residues() {
         period = common_divisor(period, height_of(plane, v));
     }
-    period
+    Part(period)
 }
 
 /// The number (hkl).v of a residue.
