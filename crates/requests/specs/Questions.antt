@@ -1,5 +1,5 @@
 -- What is asked.
-use Rattle.std.specs.Prelude.{◌≡◌, ◌≤◌, ℕ, Result, Ok, Err}
+use Rattle.std.specs.Prelude.{◌≡◌, ◌≤◌, ℕ, ℤ, pos, ◌≤ℤ◌, Result, Ok, Err}
 use Rattle.fractions.specs.Fraction.{Fraction}
 use Rattle.symmetry.specs.Vectors.{Vector}
 use Rattle.symmetry.specs.Frames.{Basis}
@@ -13,13 +13,14 @@ use Rattle.requests.specs.declared.refusal.Refusal.{Refusal}
 use Rattle.requests.specs.Limits.{IsHeightInRange}
 use Rattle.requests.specs.SlabLimits.{IsSlabInRange}
 
--- what is asked of a group: the operations at one height, those of a slab, those at all heights, the images of an orientation, or
--- the operations along a line through a point
+-- what is asked of a group: the operations at one height, those of a slab, those at all heights, the images of an orientation, the
+-- survey of the orientations with indices at most n in size, or the operations along a line through a point
 pub data Question : Type 0 where
   at_height : (row : Vector) (basis : Basis) (height : Fraction) → Question
   between_heights : (row : Vector) (basis : Basis) (low high : Fraction) → Question
   all_heights : (row : Vector) (basis : Basis) (form : Form) → Question
   image_rows : (row : Vector) → Question
+  survey_within : (n : ℤ) → Question
   along_line : (direction a b point : Vector) → Question
 
 -- what is asked without an input: the table of a type, or the counts of a sample
@@ -32,10 +33,15 @@ pub data Asked : Type 0 where
   about : (format : Format) (question : Question) → Asked
   tabulate : (table : Table) → Asked
 
--- the height is within its limits, or those of the slab, or each coordinate of the point
+-- the size of a survey is 1 to 5
+abbrev pub IsSurveyInRange : ℤ → Type 0
+IsSurveyInRange n = (pos 1 ≤ℤ n) × (n ≤ℤ pos 5)
+
+-- the height is within its limits, or those of the slab, or the size of the survey, or each coordinate of the point
 abbrev pub IsQuestionInRange : Question → Type 0
 IsQuestionInRange (at_height row basis height) = IsHeightInRange height
 IsQuestionInRange (between_heights row basis low high) = IsSlabInRange low high
+IsQuestionInRange (survey_within n) = IsSurveyInRange n
 IsQuestionInRange (along_line direction a b point) = IsVectorWithin largest_entry point
 IsQuestionInRange _ = Unit {0}
 
