@@ -14,6 +14,7 @@ mod rod;
 mod run;
 mod samples;
 mod slab;
+mod survey;
 #[cfg(test)]
 mod tests;
 mod types;

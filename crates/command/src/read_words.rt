@@ -10,6 +10,7 @@ use crate::layers::read_layers;
 use crate::rod::read_rod;
 use crate::samples::read_sample;
 use crate::slab::read_slab;
+use crate::survey::read_survey;
 use crate::types::read_types;
 use requests::{Refusal, Request};
 
@@ -24,6 +25,7 @@ fn read_command(words: &[String]) -> Option<Result<Request, Refusal>>
             "slab" => read_slab(arguments),
             "layers" => read_layers(arguments),
             "images" => read_images(arguments),
+            "survey" => read_survey(arguments),
             "rod" => read_rod(arguments),
             "types" => read_types(arguments),
             "sample" => read_sample(arguments),
