@@ -6,3 +6,4 @@ pub mod RowSizes
 pub mod Sets
 pub mod ImageLists
 pub mod ShiftLists
+pub mod LatticeNumbers
