@@ -7,3 +7,4 @@ pub mod Sets
 pub mod ImageLists
 pub mod ShiftLists
 pub mod LatticeNumbers
+pub mod SpecialCounts
