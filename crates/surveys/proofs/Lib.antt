@@ -8,3 +8,4 @@ pub mod ImageLists
 pub mod ShiftLists
 pub mod LatticeNumbers
 pub mod SpecialCounts
+pub mod Digits
