@@ -40,7 +40,7 @@ lower_second s a b c b' c' c_in c'_in l =
     omega (arith, ints, two, out, c_in.below, c'_in.from)
 
 module _ (n : ℤ) (from : pos 1 ≤ℤ n) where
-  earlier : (r s : Vector) → IsVectorWithin (unsigned_abs n) r → IsVectorWithin (unsigned_abs n) s → IsGreater r s → place_of n r <ℤ place_of n s
+  pub earlier : (r s : Vector) → IsVectorWithin (unsigned_abs n) r → IsVectorWithin (unsigned_abs n) s → IsGreater r s → place_of n r <ℤ place_of n s
   earlier r s p q (inl h) =
       lower_first (side n) (n -ℤ r.x) (n -ℤ r.y) (n -ℤ r.z) (n -ℤ s.x) (n -ℤ s.y) (n -ℤ s.z)
       (digit_of n r.y from p.y) (digit_of n r.z from p.z) (digit_of n s.y from q.y) (digit_of n s.z from q.z) (omega (arith, ints, h))

@@ -9,3 +9,5 @@ pub mod ShiftLists
 pub mod LatticeNumbers
 pub mod SpecialCounts
 pub mod Digits
+pub mod PlacedPlanes
+pub mod PartialSurveys
