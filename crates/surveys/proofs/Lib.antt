@@ -6,3 +6,8 @@ pub mod RowSizes
 pub mod Sets
 pub mod ImageLists
 pub mod ShiftLists
+pub mod LatticeNumbers
+pub mod SpecialCounts
+pub mod Digits
+pub mod PlacedPlanes
+pub mod PartialSurveys
