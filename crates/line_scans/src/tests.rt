@@ -1,0 +1,1 @@
+// Lines of known plane groups.
