@@ -1,6 +1,10 @@
 -- The group of a list of flat operations is a plane group.
-use Rattle.std.proofs.Common.{◌≡◌, ◌⊎◌, inl, inr, ℕ, zero, suc, ◌<◌, ℤ, pos, negsuc, ◌+ℤ◌, ◌*ℤ◌, List, [], ◌∷◌, ◌++◌, get_or, length, refl, sym, ap, subst, ◌∙◌, arith}
-use Rattle.std.specs.Prelude.{Contains, unsigned_abs}
+use Rattle.std.proofs.Common.{◌≡◌, ◌⊎◌, inl, inr, ℕ, zero, suc, ◌<◌, ℤ, pos, negsuc, ◌+ℤ◌, ◌*ℤ◌, List, [], ◌∷◌, ◌++◌, get_or, length, map, refl, sym, ap, subst, ◌∙◌, arith}
+use Rattle.std.specs.Prelude.{All, Contains, unsigned_abs}
+use Rattle.std.proofs.lemmas.List.{get_or-map, length-map}
+use Rattle.fractions.specs.declared.part.Part.{Part}
+use Rattle.motions.specs.Views.{motion_of, parts}
+use Rattle.motions.specs.declared.motion.Motion3.{Motion3}
 use Rattle.std.proofs.lemmas.Int.{ints}
 use Rattle.fractions.specs.declared.part.TheConstants.{UNIT}
 use Rattle.integers.specs.Size.{Divides}
@@ -52,3 +56,16 @@ flat_listing g group of flat whole = record {
   operations = λ m listed. flat m (Contains-from_firsts g.ops (group_listing group).ops of.firsts m listed);
   heights = λ t is. lattice_whole g flat whole t ((of.alike.lattice t).1 is);
 }
+
+-- so is that of the code's motions, where no centring vector is listed
+pub code_listing_flat : (ms : List Motion3) (vs : List (List Part)) (group : Group) → All (λ m. IsFlat (motion_of m)) ms → vs ≡ []
+    → IsGroupOf (record { ops = map motion_of ms; centrings = map parts vs }) group → IsFlatGroup (group_listing group)
+code_listing_flat ms vs group flat none of = flat_listing (record { ops = map motion_of ms; centrings = map parts vs }) group of each nothing
+  where
+    each : (m : Motion) → Contains (map motion_of ms) m → IsFlat m
+    each m (k, within, is) =
+        let l : k < length ms = subst (λ n. k < n) (length-map ms motion_of) within in
+        subst IsFlat (sym (get_or-map motion_of ms k (record { w = []; t = [] }) m l) ∙ is) (flat k (record { w = []; t = [] }) l)
+
+    nothing : (v : Vector) → Contains (map parts vs) v → IsWholeThird v
+    nothing v (k, within, is) = let l = length-map vs parts in let e = ap length none in absurd (omega (arith, within, l, e))

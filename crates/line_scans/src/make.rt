@@ -42,11 +42,7 @@ pub fn lines(alloc: Global, group: &Group, plane: Miller) -> Result<LineScan, No
 }
 
 /// The same in the frame of the lines.
-fn lines_in(
-    alloc: Global,
-    group: &Group,
-    frame: &Frame,
-) -> Result<LineScan, NoMemory>
+fn lines_in(alloc: Global, group: &Group, frame: &Frame) -> Result<LineScan, NoMemory>
     requires group { IsFlatGroup (group_listing group.now) }
     requires line { frame.now.plane.l ≡ pos 0 }
     requires frame { (g : Listing) → IsGroupOf g group.now → IsLineFrameOf g frame.now.plane frame.now }

@@ -108,12 +108,23 @@ fn lines_along_the_mirrors_of_p2mg_have_mirrors_across_them(rt: HostRuntime) -> 
     assert!(rt; scan.general.ops.as_slice() == [one, mirror].as_slice());
     assert!(rt; scan.heights.len() == 2);
     assert!(rt; is_height(&scan.heights[0], 0, 1, 7, 0, &[one, turn, mirror, glide]));
-    assert!(rt; is_height(&scan.heights[1], 1, 2, 7, 0, &[one, next_turn, mirror, next_glide]));
+    assert!(rt;
+        is_height(
+            &scan.heights[1],
+            1,
+            2,
+            7,
+            0,
+            &[one, next_turn, mirror, next_glide]
+        )
+    );
     Ok(())
 }
 
 #[test]
-fn lines_across_the_mirrors_of_p2mg_have_half_turns_or_mirrors(rt: HostRuntime) -> Result<(), Fail> {
+fn lines_across_the_mirrors_of_p2mg_have_half_turns_or_mirrors(
+    rt: HostRuntime,
+) -> Result<(), Fail> {
     let scan = lines_of_p2mg(rt.alloc(), 1, 0)?;
     let one = diagonal(1, 1, [NONE, NONE]);
     let turn = diagonal(-1, -1, [NONE, NONE]);
