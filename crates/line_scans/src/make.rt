@@ -17,16 +17,32 @@ use crate::section::{NoMemory, line_section};
 use crate::viewpoint::Viewpoint;
 use closure::Group;
 use fractions::Ratio;
+use line_frames::line_frame;
+use motions::Miller;
 use plane_lattice::Frame;
 use scanning::{Height, Scan};
 use std::alloc::Global;
 
-/// The lines of the group, in the frame of them that [`line_frame`](line_frames::line_frame) gives.
-pub(crate) fn lines_in(
-    alloc: Global,
-    group: &Group,
-    frame: &Frame,
-) -> Result<LineScan, NoMemory>
+/// The lines h x + k y = s of a plane group, which is given as a group of space, with the plane (h k 0).
+///
+/// Every rational height is in one class: it is general, or it is a whole number of periods above one special height. The
+/// operations at each are the motions of the plane group that map the line to itself, once each modulo whole multiples of
+/// a, at home in the frame of the lines, and in the order of the group's operations. Each section has its first change
+/// onto a frieze type (International Tables, Volume E, frieze groups).
+///
+/// Each operation of the group is flat, and each vector of its lattice has a whole third entry.
+pub fn lines(alloc: Global, group: &Group, plane: Miller) -> Result<LineScan, NoMemory>
+    requires group { IsFlatGroup (group_listing group.now) }
+    requires line { plane.l ≡ pos 0 }
+    ensures { (g : Listing) → IsGroupOf g group.now →
+        IfOk result (λ scan. IsLineScan g (record { x = plane.h; y = plane.k }) (line_scan_of scan)) }
+{
+    let frame = line_frame(group, plane);
+    lines_in(alloc, group, &frame)
+}
+
+/// The same in the frame of the lines.
+fn lines_in(alloc: Global, group: &Group, frame: &Frame) -> Result<LineScan, NoMemory>
     requires group { IsFlatGroup (group_listing group.now) }
     requires line { frame.now.plane.l ≡ pos 0 }
     requires frame { (g : Listing) → IsGroupOf g group.now → IsLineFrameOf g frame.now.plane frame.now }

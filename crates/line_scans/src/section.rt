@@ -34,11 +34,7 @@ pub(crate) fn line_section(
 }
 
 /// What each motion does along the line.
-fn line_ops(
-    alloc: Global,
-    point: &Viewpoint,
-    ops: &[Motion3],
-) -> Result<Vec<LineOp>, NoMemory>
+fn line_ops(alloc: Global, point: &Viewpoint, ops: &[Motion3]) -> Result<Vec<LineOp>, NoMemory>
     requires small { All IsSmall (map motion_of ops.now) }
     requires lines { All (HasLineOp (row_of point.now.frame.plane) (basis_of_frame point.now.frame) point.now.step) (map motion_of ops.now) }
     ensures { IfOk result (λ list.

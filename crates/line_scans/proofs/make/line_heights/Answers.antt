@@ -1,4 +1,4 @@
-use Rattle.std.proofs.Common.{ℤ, arith, ap, sym, subst, ◌∙◌, take, ◌++◌, ◌∷◌, []}
+use Rattle.std.proofs.Common.{ℤ, ap, sym, subst, ◌∙◌, take, ◌++◌, ◌∷◌, []}
 use Rattle.std.proofs.lemmas.List.{take_more}
 use Rattle.motions.specs.Views.{row_of}
 use Rattle.plane_lattice.specs.FrameView.{basis_of_frame}

@@ -1,5 +1,5 @@
 -- The scan of the planes (h k 0) is ready for the sections, and what they make of it is the scan of the lines.
-use Rattle.std.proofs.Common.{◌≡◌, ℕ, ℤ, pos, ap, map, sym, subst, ◌∙◌, lit<, refl}
+use Rattle.std.proofs.Common.{ℤ, pos, map, sym, subst, lit<}
 use Rattle.std.specs.Prelude.{All, unsigned_abs}
 use Rattle.motions.specs.Views.{motion_of, row_of}
 use Rattle.motions.specs.declared.index.TheConstants.{INDEX}
@@ -8,9 +8,7 @@ use Rattle.closure.specs.Groups.{group_listing}
 use Rattle.closure.proofs.OwnLattice.{own_listing}
 use Rattle.plane_lattice.specs.FrameView.{basis_of_frame}
 use Rattle.scanning.specs.declared.height.Height.{Height}
-use Rattle.line_frames.specs.Lines.{first_two}
 use Rattle.line_scans.specs.LineOps.{AreLineMotions, IsStep}
-use Rattle.line_scans.specs.LineScans.{IsLineScan}
 use Rattle.line_scans.specs.LineOps.{IsSectionOf}
 use Rattle.line_scans.specs.LineView.{IsLineHeightOf}
 use Rattle.std.specs.List.{AllZip}

@@ -1,4 +1,4 @@
-use Rattle.std.proofs.Common.{[], arith, ◌<◌, length}
+use Rattle.std.proofs.Common.{[], arith}
 use Rattle.std.proofs.lemmas.List.{map_more}
 use Rattle.symmetry.specs.Sizes.{IsSmall}
 use Rattle.motions.specs.Views.{motion_of, row_of}

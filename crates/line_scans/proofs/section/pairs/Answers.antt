@@ -1,8 +1,8 @@
-use Rattle.std.proofs.Common.{[], arith, ap, sym, ◌∙◌, ◌++◌, ◌∷◌, map}
-use Rattle.std.proofs.lemmas.List.{map_more, map-append}
+use Rattle.std.proofs.Common.{[], arith}
+use Rattle.std.proofs.lemmas.List.{map_more}
 use Rattle.motions.specs.Views.{motion_of}
 use Rattle.plane_lattice.proofs.Operations.{all_at}
-use Rattle.plane_motions.specs.PlaneMotions.{IsFlat, plane_block, plane_of}
+use Rattle.plane_motions.specs.PlaneMotions.{IsFlat}
 use Rattle.line_scans.proofs.SectionLists.{pairs_more}
 use Rattle.line_scans.proofs.section.pairs.Goals as goal
 
