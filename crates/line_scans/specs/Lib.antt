@@ -1,0 +1,5 @@
+pub mod Lines
+pub mod LineLists
+pub mod LineOps
+pub mod LineSections
+pub mod LineScans
