@@ -1,0 +1,4 @@
+pub mod LineOrigins
+pub mod LineTexts
+pub mod SmallLineScans
+pub mod WrittenView
