@@ -9,6 +9,8 @@
 mod lines;
 mod named;
 mod named_lines;
+#[cfg(test)]
+mod tests;
 mod text;
 mod written;
 

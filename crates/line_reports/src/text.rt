@@ -76,11 +76,7 @@ fn write_general(text: &mut String, scan: &LineScan) -> Result<(), NoMemory>
 }
 
 // The blocks of the special heights.
-fn write_heights(
-    text: &mut String,
-    scan: &LineScan,
-    heights: &[LineHeight],
-) -> Result<(), NoMemory>
+fn write_heights(text: &mut String, scan: &LineScan, heights: &[LineHeight]) -> Result<(), NoMemory>
     requires scan { IsSmallLineScan scan.now }
     requires heights { All (λ h. IsSmallLineHeight (fraction_of h.s)) heights.now }
     ensures { OnOk result (string_bytes text.new
