@@ -3,4 +3,3 @@ pub mod LineLists
 pub mod LineOps
 pub mod LineSections
 pub mod LineScans
-pub mod LineScanView
