@@ -67,8 +67,8 @@ module _ (r a c : Pair) (flat : dot2 r a ≡ pos 0) (up : pos 1 ≤ℤ dot2 r c)
   row_none u v at_a at_c = (
     none u (row_entry u v r.x r.y a.x a.y c.x c.y at_a at_c flat) (row_entry' u v r.x r.y a.x a.y c.x c.y at_a at_c flat),
     none v
-    (ap (λ d. d *ℤ v *ℤ a.x) turned ∙ row_entry' v u r.y r.x a.y a.x c.y c.x (swap u v a.x a.y ∙ at_a) (swap u v c.x c.y ∙ at_c) (swap r.x r.y a.x a.y ∙ flat))
-    (ap (λ d. d *ℤ v *ℤ a.y) turned ∙ row_entry v u r.y r.x a.y a.x c.y c.x (swap u v a.x a.y ∙ at_a) (swap u v c.x c.y ∙ at_c) (swap r.x r.y a.x a.y ∙ flat)),
+        (ap (λ d. d *ℤ v *ℤ a.x) turned ∙ row_entry' v u r.y r.x a.y a.x c.y c.x (swap u v a.x a.y ∙ at_a) (swap u v c.x c.y ∙ at_c) (swap r.x r.y a.x a.y ∙ flat))
+        (ap (λ d. d *ℤ v *ℤ a.y) turned ∙ row_entry v u r.y r.x a.y a.x c.y c.x (swap u v a.x a.y ∙ at_a) (swap u v c.x c.y ∙ at_c) (swap r.x r.y a.x a.y ∙ flat)),
   )
     where
       swap : (p q x y : ℤ) → q *ℤ y +ℤ p *ℤ x ≡ p *ℤ x +ℤ q *ℤ y
@@ -335,8 +335,11 @@ module _ (r a : Pair) (c o : PlanePoint) (flat : dot2 r a ≡ pos 0) (up : pos 1
               listed = (found.place, within, get_or_default list found.place like some_op within);
               along = along_once a c o once_a once_c above n lesser (rational_line (line_of like)) moved does;
               across = across_once a c o once_a once_c above n lesser (rational_line (line_of like)) moved does;
-              shift = (found.has.times, whole op.shift.num op.shift.den like.t found.has.times
-                  (shift_once a c o once_a once_c above n lesser (rational_line (line_of like)) moved does));
+              shift = (
+                found.has.times,
+                whole op.shift.num op.shift.den like.t found.has.times
+                    (shift_once a c o once_a once_c above n lesser (rational_line (line_of like)) moved does),
+              );
             }
           where
             whole : (p q t k : ℤ) → (p -ℤ k *ℤ q) *ℤ edge ≡ t *ℤ q → p *ℤ edge -ℤ t *ℤ q ≡ k *ℤ (q *ℤ edge)

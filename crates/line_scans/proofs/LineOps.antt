@@ -53,7 +53,7 @@ drift_block m tau k =
     none : (k : ℤ) → k *ℤ pos 0 +ℤ pos 2 *ℤ UNIT *ℤ pos 0 ≡ pos 0
     none k = omega (arith, ints)
 
-multiple_in_space : (k : ℤ) (v : Pair) → multiple k (in_space v) ≡ in_space (times2 k v)
+pub multiple_in_space : (k : ℤ) (v : Pair) → multiple k (in_space v) ≡ in_space (times2 k v)
 unfolding multiple
 multiple_in_space k v = vector_path refl refl (none k)
   where

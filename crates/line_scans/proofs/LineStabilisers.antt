@@ -155,10 +155,11 @@ module _ (g : Listing) (r a : Pair) (group : IsGroup g) (coprime : IsCoprime (in
   pub product_in : (s : Height) → IsHeight s → (m n : PlaneMotion) → InLineStabiliser g r s m → InLineStabiliser g r s n
       → InLineStabiliser g r s (plane_followed_by m n)
   product_in s high m n p q =
-      (stabiliser_follows s (plane_followed_by m n) high).1
-      (member_product m n p.0 q.0,
-      subst (Follows row s) (plane_block_product m n)
-      (follows_product row s (plane_block m) (plane_block n) ((stabiliser_follows s m high).0 p).1 ((stabiliser_follows s n high).0 q).1))
+      (stabiliser_follows s (plane_followed_by m n) high).1 (
+        member_product m n p.0 q.0,
+        subst (Follows row s) (plane_block_product m n)
+            (follows_product row s (plane_block m) (plane_block n) ((stabiliser_follows s m high).0 p).1 ((stabiliser_follows s n high).0 q).1),
+      )
 
   -- the inverse of a member of the plane is one
   abbrev Inverse : PlaneMotion → Type 0

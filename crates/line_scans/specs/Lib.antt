@@ -3,3 +3,4 @@ pub mod LineLists
 pub mod LineOps
 pub mod LineSections
 pub mod LineScans
+pub mod LineView

@@ -1,5 +1,5 @@
 -- The first coordinate is the number, and no larger than the vector.
-use Rattle.std.proofs.Common.{rules, ◌^◌, ◌∙◌, FitsSigned, ap, w64, lit<}
+use Rattle.std.proofs.Common.{rules, ◌^◌, ◌∙◌, FitsSigned, ap, lit<}
 use Rattle.std.specs.Int.{w128}
 use Rattle.integers.proofs.Coded.{fits_within}
 use Rattle.symmetry.specs.Vectors.{multiple}

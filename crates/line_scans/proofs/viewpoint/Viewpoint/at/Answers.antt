@@ -1,5 +1,4 @@
 -- The step is the quotient.
-use Rattle.std.proofs.Common.{◌*ℤ◌}
 use Rattle.line_scans.proofs.FoundOps.{some_quotient, step_fits, step_found}
 use Rattle.line_scans.proofs.viewpoint.Viewpoint.at.Goals as goal
 

@@ -1,7 +1,5 @@
 -- The sign is told by the number by which a is multiplied.
-use Rattle.std.proofs.Common.{rules, ◌∙◌, FitsSigned, w64, ap, inl, inr, sym}
-use Rattle.symmetry.specs.Frames.{Basis}
-use Rattle.symmetry.specs.Vectors.{multiple}
+use Rattle.std.proofs.Common.{rules, ◌∙◌, FitsSigned, w64, inl, inr}
 use Rattle.motions.specs.BasisView.{basis_of}
 use Rattle.motions.specs.Views.{motion_of, row_of}
 use Rattle.plane_lattice.specs.FrameView.{basis_of_frame}
