@@ -1,4 +1,3 @@
 pub mod LineOrigins
 pub mod LineTexts
-pub mod SmallLineScans
 pub mod WrittenView

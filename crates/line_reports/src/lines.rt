@@ -1,8 +1,8 @@
 // Lines of operations and of vectors, each put behind what stands in a text.
 ghost use Rattle.std.specs.Prelude.{◌≡◌, ◌++◌, OnOk, codes, map, flat_map, string_bytes};
 ghost use Rattle.plane_motions.specs.PlaneMotions.{parts2, plane_of};
-ghost use Rattle.line_scans.specs.LineScanView.{two_fractions_of};
 ghost use Rattle.line_reports.specs.LineTexts.{fractions_text, operation_line, vector_text};
+ghost use Rattle.line_reports.specs.WrittenView.{two_fractions_of};
 
 use crate::text::NoMemory;
 use crate::written::{InEdges, InParts};

@@ -11,7 +11,7 @@ ghost use Rattle.motions.specs.PlaneSizes.{IsPairWithin};
 ghost use Rattle.plane_lattice.specs.Bounds.{largest_entry, largest_period};
 ghost use Rattle.plane_motions.specs.PlaneMotions.{parts2};
 ghost use Rattle.line_reports.specs.LineOrigins.{lowest_point2, origin_along, origin_at_height};
-ghost use Rattle.line_reports.specs.SmallLineScans.{IsSmallLineHeight, IsSmallLineScan, IsSmallPeriod};
+ghost use Rattle.line_scans.specs.SmallLineScans.{IsSmallLineHeight, IsSmallLineScan, IsSmallPeriod};
 ghost use Rattle.line_reports.specs.WrittenView.{edges_of, parts_of};
 
 use crate::written::{InEdges, InParts};

@@ -2,9 +2,9 @@
 ghost use Rattle.std.specs.Prelude.{◌≡◌, ◌++◌, OnOk, string_bytes};
 ghost use Rattle.plane_motions.specs.PlaneMotions.{parts2};
 ghost use Rattle.line_types.specs.FriezeRows.{frieze_row};
-ghost use Rattle.line_scans.specs.LineScanView.{line_scan_of, section_of, two_fractions_of};
+ghost use Rattle.line_scans.specs.LineView.{line_scan_of, line_section_of};
 ghost use Rattle.line_reports.specs.LineTexts.{basis_line, number_line, origin_line, section_lines};
-ghost use Rattle.line_reports.specs.WrittenView.{edges_of, parts_of};
+ghost use Rattle.line_reports.specs.WrittenView.{edges_of, parts_of, two_fractions_of};
 
 use crate::lines::write_operations;
 use crate::named::symbol;
@@ -22,7 +22,7 @@ pub(crate) fn write_section(
     behind: &str,
 ) -> Result<(), NoMemory>
     ensures { OnOk result (string_bytes text.new ≡ string_bytes text.old
-        ++ section_lines (line_scan_of scan.now) (edges_of origin) behind.now (section_of section.now)) }
+        ++ section_lines (line_scan_of scan.now) (edges_of origin) behind.now (line_section_of section.now)) }
 {
     write_type(text, scan, &section.found, origin, behind)?;
     write_operations(text, &section.ops)

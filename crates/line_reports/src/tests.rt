@@ -2,7 +2,7 @@
 ghost use Rattle.std.specs.Prelude.{IfOk};
 ghost use Rattle.fractions.specs.FractionOf.{fraction_of};
 ghost use Rattle.integers.specs.Size.{IsWithin};
-ghost use Rattle.line_reports.specs.SmallLineScans.{IsSmallLineHeight, IsSmallLineScan};
+ghost use Rattle.line_scans.specs.SmallLineScans.{IsSmallLineHeight, IsSmallLineScan};
 
 use crate::lines_text;
 use fractions::{Part, Ratio, UNIT};

@@ -1,8 +1,8 @@
 // Values as they are written.
 ghost use Rattle.std.specs.Prelude.{◌≡◌};
 ghost use Rattle.plane_motions.specs.PlaneMotions.{parts2};
-ghost use Rattle.line_scans.specs.LineScanView.{line_scan_of, two_fractions_of};
-ghost use Rattle.line_reports.specs.WrittenView.{edges_of, indices_of, parts_of};
+ghost use Rattle.line_scans.specs.LineView.{line_scan_of};
+ghost use Rattle.line_reports.specs.WrittenView.{edges_of, indices_of, parts_of, two_fractions_of};
 
 use fractions::{Part, Ratio};
 use line_scans::LineScan;
