@@ -1,5 +1,5 @@
 -- The group of a list of flat operations is a plane group.
-use Rattle.std.proofs.Common.{◌≡◌, ◌⊎◌, inl, inr, ℕ, zero, suc, ◌<◌, ℤ, pos, negsuc, ◌+ℤ◌, ◌*ℤ◌, List, [], ◌∷◌, ◌++◌, get_or, length, map, refl, sym, ap, subst, ◌∙◌, arith}
+use Rattle.std.proofs.Common.{◌≡◌, inl, inr, zero, suc, ◌<◌, ℤ, pos, negsuc, ◌+ℤ◌, ◌*ℤ◌, List, [], length, map, refl, sym, ap, subst, ◌∙◌, arith}
 use Rattle.std.specs.Prelude.{All, Contains, unsigned_abs}
 use Rattle.std.proofs.lemmas.List.{get_or-map, length-map}
 use Rattle.fractions.specs.declared.part.Part.{Part}
@@ -8,9 +8,9 @@ use Rattle.motions.specs.declared.motion.Motion3.{Motion3}
 use Rattle.std.proofs.lemmas.Int.{ints}
 use Rattle.fractions.specs.declared.part.TheConstants.{UNIT}
 use Rattle.integers.specs.Size.{Divides}
-use Rattle.symmetry.specs.Vectors.{Vector, minus, multiple, plus, unit_matrix}
+use Rattle.symmetry.specs.Vectors.{Vector, multiple, plus, unit_matrix}
 use Rattle.symmetry.specs.Motions.{Motion}
-use Rattle.symmetry.specs.Groups.{Listing, Generates, IsInLattice, SameModulo, added, edges, subtracted, zero_vector}
+use Rattle.symmetry.specs.Groups.{Listing, Generates, IsInLattice, added, edges, subtracted, zero_vector}
 use Rattle.closure.specs.Groups.{IsGroupOf, group_listing}
 use Rattle.closure.specs.declared.group.Group.{Group}
 use Rattle.plane_motions.specs.PlaneMotions.{IsFlat}

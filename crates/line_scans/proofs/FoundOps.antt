@@ -1,12 +1,11 @@
 -- What the code finds of a motion along a line is what the motion is there.
-use Rattle.std.proofs.Common.{◌≡◌, ◌⊎◌, inl, inr, ℤ, pos, negsuc, ◌*ℤ◌, ◌≤ℤ◌, ◌<ℤ◌, ◌*◌, ◌^◌, FitsSigned, w64, to_z, of_z, unsigned_abs, refl, sym, ap, subst, ◌∙◌, arith, lit<, [], ◌∷◌}
-use Rattle.std.specs.Int.{w128}
+use Rattle.std.proofs.Common.{◌≡◌, ◌⊎◌, inl, inr, ℤ, pos, ◌*ℤ◌, ◌≤ℤ◌, ◌*◌, FitsSigned, w64, to_z, of_z, unsigned_abs, sym, ap, subst, ◌∙◌, arith, lit<, [], ◌∷◌}
 use Rattle.std.proofs.lemmas.Int.{ints, to_z-of_z}
 use Rattle.fractions.specs.declared.part.TheConstants.{UNIT}
 use Rattle.integers.specs.Size.{IsWithin}
 use Rattle.integers.proofs.Coded.{again, again_is, code_is, code_within, fits_within}
 use Rattle.integers.proofs.Order.{mul_left_cancel_pos}
-use Rattle.integers.proofs.Solver.{Expr, Expr.{var, num, ◌⊗◌}, linear, given}
+use Rattle.integers.proofs.Solver.{Expr.{var, num, ◌⊗◌}, linear}
 use Rattle.symmetry.specs.Vectors.{Vector, image, multiple, row_times}
 use Rattle.symmetry.specs.Motions.{Motion}
 use Rattle.symmetry.specs.Frames.{Basis}

@@ -1,17 +1,16 @@
 -- A plane group in the frame of an orientation of its lines.
-use Rattle.std.proofs.Common.{◌≡◌, ◌↔◌, ◌⊎◌, inl, inr, ℕ, ◌<◌, ℤ, pos, negsuc, ◌+ℤ◌, ◌-ℤ◌, ◌*ℤ◌, ◌≤ℤ◌, ◌<ℤ◌, neg_ℤ, List, [], ◌∷◌, length, map, refl, sym, ap, subst, ◌∙◌, arith}
-use Rattle.std.specs.Prelude.{All, Contains}
+use Rattle.std.proofs.Common.{◌≡◌, ◌↔◌, ◌⊎◌, inl, inr, ℕ, ◌<◌, ℤ, pos, negsuc, ◌+ℤ◌, ◌*ℤ◌, ◌≤ℤ◌, ◌<ℤ◌, List, [], ◌∷◌, length, map, refl, sym, ap, subst, ◌∙◌, arith}
 use Rattle.std.proofs.lemmas.Int.{ints}
 use Rattle.std.proofs.lemmas.List.{get_or_default, length-map}
 use Rattle.integers.proofs.Ring.{mul_assoc, mul_zero}
 use Rattle.fractions.specs.declared.part.TheConstants.{UNIT}
-use Rattle.integers.proofs.Order.{mul_left_cancel_pos, mul_right_cancel_pos, one-le-mul, small_multiple}
-use Rattle.integers.proofs.Solver.{Expr, Expr.{var, num, neg, ◌⊕◌, ◌⊝◌, ◌⊗◌}, linear, given}
+use Rattle.integers.proofs.Order.{mul_right_cancel_pos, small_multiple}
+use Rattle.integers.proofs.Solver.{Expr.{var, num, neg, ◌⊕◌, ◌⊗◌}, linear, given}
 use Rattle.symmetry.specs.Vectors.{Vector, dot, image, multiple, opposite, plus, row_times}
 use Rattle.symmetry.specs.Motions.{Motion, identity}
-use Rattle.symmetry.specs.Planes.{Height, IsCoprime}
-use Rattle.symmetry.specs.Groups.{Listing, InAll, IsGroup, IsMember, SameModulo}
-use Rattle.symmetry.specs.Frames.{Basis, DiffersInPlane, IsAtHome, IsFrame, mean_of, total_up}
+use Rattle.symmetry.specs.Planes.{IsCoprime}
+use Rattle.symmetry.specs.Groups.{Listing, IsGroup, IsMember, SameModulo}
+use Rattle.symmetry.specs.Frames.{Basis, DiffersInPlane, IsAtHome, IsFrame, total_up}
 use Rattle.symmetry.specs.Lists.{AreScanning, IsFirstPlace, IsListOf, ListsInPlane, motion_at}
 use Rattle.symmetry.specs.Lists as lists
 use Rattle.symmetry.proofs.Coprime.{not_opposite}
@@ -21,7 +20,7 @@ use Rattle.symmetry.proofs.ListLaws.{lists_in_plane}
 use Rattle.symmetry.proofs.MatrixLaws.{row_times-unit}
 use Rattle.symmetry.proofs.Means.{image-total_up}
 use Rattle.symmetry.proofs.PlaneRows.{all_by_row}
-use Rattle.motions.specs.PlaneMatrices.{Pair, dot2, image2, plus2}
+use Rattle.motions.specs.PlaneMatrices.{Pair, dot2, image2}
 use Rattle.motions.specs.Signs.{sign_value}
 use Rattle.motions.specs.declared.motion.Sign.{Sign}
 use Rattle.motions.specs.declared.motion.Sign.TheVariants.{Plus, Minus}

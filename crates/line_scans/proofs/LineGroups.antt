@@ -1,31 +1,30 @@
 -- The section of a set of motions along a line is a group modulo a, and what the list of it stands for.
 use Rattle.std.proofs.Common.{◌≡◌, ◌↔◌, ℕ, ◌<◌, ℤ, pos, negsuc, ◌+ℤ◌, ◌-ℤ◌, ◌*ℤ◌, ◌≤ℤ◌, List, [], ◌∷◌, length, map, slice_index_or, refl, sym, ap, subst, ◌∙◌, arith}
-use Rattle.std.specs.Prelude.{All, Contains}
+use Rattle.std.specs.Prelude.{Contains}
 use Rattle.std.proofs.lemmas.Int.{ints}
-use Rattle.std.proofs.lemmas.List.{get_or-map, get_or_default, length-map}
+use Rattle.std.proofs.lemmas.List.{get_or_default}
 use Rattle.integers.proofs.Order.{mul_left_cancel_pos}
 use Rattle.integers.proofs.Ring.{mul_zero}
-use Rattle.integers.proofs.Solver.{Expr, Expr.{var, num, neg, ◌⊕◌, ◌⊝◌, ◌⊗◌}, linear, ring, given}
-use Rattle.fractions.specs.Fraction.{Fraction, SameFraction}
+use Rattle.integers.proofs.Solver.{Expr.{var, num, neg, ◌⊕◌, ◌⊝◌, ◌⊗◌}, linear, ring, given}
 use Rattle.quotient.specs.Kind.{IsSame}
 use Rattle.quotient.specs.Lists.{IsListed}
 use Rattle.quotient.specs.Groups as groups
 use Rattle.motions.specs.PlaneMatrices.{Pair, dot2, image2, minus2, unit2}
 use Rattle.motions.specs.Signs.{sign_product, sign_value}
-use Rattle.motions.specs.declared.motion.Sign.TheVariants.{Plus, Minus}
+use Rattle.motions.specs.declared.motion.Sign.TheVariants.{Plus}
 use Rattle.motions.specs.FriezeMotions.{FriezeOperation, frieze_followed_by, frieze_identity}
 use Rattle.motions.specs.Laws.FriezeLaws.{frieze_path}
 use Rattle.plane_motions.specs.PlaneMotions.{PlaneMotion, plane_followed_by, plane_identity}
 use Rattle.friezes.specs.declared.line_op.LineOp.{LineOp}
-use Rattle.friezes.specs.Lines.{IsLineShift, edge, line_kind, line_of}
+use Rattle.friezes.specs.Lines.{edge, line_kind, line_of}
 use Rattle.friezes.specs.RationalLines.{IsListedLine, IsRationalLine, RationalLine}
-use Rattle.friezes.specs.Sections.{IsSection, IsTurnOrShift}
+use Rattle.friezes.specs.Sections.{IsSection}
 use Rattle.friezes.specs.Laws.ShiftLaws.{ByEdges, keeps, same_from}
 use Rattle.friezes.proofs.SectionShape.{contains_line, motion_of_line}
 use Rattle.line_frames.specs.Lines.{times2}
 use Rattle.line_scans.specs.Lines.{PlanePoint}
 use Rattle.line_scans.specs.LineLists.{DiffersAlong, ExactlyOne, plane_at}
-use Rattle.line_scans.specs.LineSections.{ActsAlong, ActsFrom}
+use Rattle.line_scans.specs.LineSections.{ActsFrom}
 use Rattle.line_scans.proofs.LineActions.{Acts, acts_differs, acts_identity, acts_product, acts_same, across_once, along_once, less, pair_path, rational_line, shift_once}
 
 -- a group of motions that holds each that differs by a multiple of a from one of its own, and whose translations are these

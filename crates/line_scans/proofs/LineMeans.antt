@@ -1,22 +1,21 @@
 -- The scanning operations of a plane group and their mean, in the plane and in space.
-use Rattle.std.proofs.Common.{◌≡◌, ℕ, suc, zero, ◌<◌, ℤ, pos, negsuc, ◌+ℤ◌, ◌*ℤ◌, ◌≤ℤ◌, Bool, true, false, cond, List, [], ◌∷◌, length, map, inl, inr, refl, sym, ap, subst, ◌∙◌, arith}
-use Rattle.std.specs.Prelude.{◌&&◌, slice_index_or}
+use Rattle.std.proofs.Common.{◌≡◌, ℕ, suc, ◌<◌, ℤ, pos, negsuc, ◌+ℤ◌, ◌*ℤ◌, Bool, true, false, cond, List, [], ◌∷◌, length, map, inl, inr, refl, sym, ap, subst, ◌∙◌, arith}
+use Rattle.std.specs.Prelude.{◌&&◌}
 use Rattle.std.specs.Ordering.{int_eq}
 use Rattle.std.proofs.lemmas.Int.{ints}
 use Rattle.std.proofs.lemmas.List.{get_or-map, length-map}
-use Rattle.fractions.specs.declared.part.TheConstants.{UNIT}
-use Rattle.integers.proofs.Solver.{Expr, Expr.{var, num, neg, ◌⊕◌, ◌⊝◌, ◌⊗◌}, linear, given}
-use Rattle.symmetry.specs.Vectors.{Vector, dot, image, multiple, plus, row_times}
+use Rattle.integers.proofs.Solver.{Expr.{var, num, ◌⊕◌, ◌⊗◌}, linear, given}
+use Rattle.symmetry.specs.Vectors.{dot, image, multiple, plus, row_times}
 use Rattle.symmetry.specs.Motions.{Motion, identity}
 use Rattle.symmetry.specs.Groups.{Listing, IsMember, SameModulo}
 use Rattle.symmetry.specs.Frames.{KeepsOrientation, same_vector, sign_at, total_up}
 use Rattle.symmetry.specs.Lists.{AreScanning, motion_at}
 use Rattle.symmetry.proofs.VectorLaws.{vector_path}
-use Rattle.motions.specs.PlaneMatrices.{Pair, image2, minus2, plus2, row_times2, same_pair}
+use Rattle.motions.specs.PlaneMatrices.{Pair, image2, plus2, row_times2}
 use Rattle.plane_motions.specs.PlaneMotions.{PlaneMotion, plane_block, plane_identity}
 use Rattle.line_frames.specs.Lines.{first_two, in_space, times2}
 use Rattle.line_scans.specs.Lines.{IsPlaneMember, KeepsLines}
-use Rattle.line_scans.specs.LineLists.{AreLineScanning, ExactlyOne, SameInPlane, plane_at}
+use Rattle.line_scans.specs.LineLists.{AreLineScanning, SameInPlane, plane_at}
 use Rattle.line_scans.specs.LineSections.{line_total, sign_of_lines}
 use Rattle.line_scans.proofs.PlaneBridges.{IsFlatMatrix, IsFlatModulo, block_matrix_flat, block_member, block_of_pair, image_below, pair_member, pair_motion, same_by_plane}
 

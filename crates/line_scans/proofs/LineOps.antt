@@ -1,14 +1,13 @@
 -- What members of a plane group do along a line, from the points of it that the section is taken at.
-use Rattle.std.proofs.Common.{◌≡◌, ℕ, ◌<◌, ℤ, pos, negsuc, ◌+ℤ◌, ◌-ℤ◌, ◌*ℤ◌, ◌≤ℤ◌, List, [], ◌∷◌, length, inl, refl, sym, ap, subst, ◌∙◌, arith, lit<}
+use Rattle.std.proofs.Common.{◌≡◌, ℤ, pos, ◌+ℤ◌, ◌-ℤ◌, ◌*ℤ◌, ◌≤ℤ◌, [], ◌∷◌, inl, refl, sym, ap, subst, ◌∙◌, arith, lit<}
 use Rattle.std.proofs.lemmas.Int.{ints}
 use Rattle.fractions.specs.declared.part.TheConstants.{UNIT}
 use Rattle.fractions.specs.Fraction.{SameFraction}
 use Rattle.integers.proofs.Order.{mul_left_cancel_pos}
-use Rattle.integers.proofs.Solver.{Expr, Expr.{var, num, neg, ◌⊕◌, ◌⊝◌, ◌⊗◌}, linear, ring, given}
-use Rattle.symmetry.specs.Vectors.{Vector, dot, image, minus, multiple, plus, row_times}
-use Rattle.symmetry.specs.Motions.{Motion}
+use Rattle.integers.proofs.Solver.{Expr, Expr.{var, num, ◌⊕◌, ◌⊝◌, ◌⊗◌}, linear, ring, given}
+use Rattle.symmetry.specs.Vectors.{Vector, dot, image, minus, multiple, plus}
 use Rattle.symmetry.specs.Planes.{Height, IsCoprime, IsHeight}
-use Rattle.symmetry.specs.Groups.{Listing, IsGroup, IsInLattice, IsMember}
+use Rattle.symmetry.specs.Groups.{Listing, IsGroup, IsInLattice}
 use Rattle.symmetry.specs.Frames.{Basis}
 use Rattle.symmetry.proofs.LatticeLaws.{lattice-made, lattice-minus, lattice-plus}
 use Rattle.symmetry.proofs.VectorLaws.{vector_path}
@@ -24,7 +23,7 @@ use Rattle.line_frames.specs.Lines.{IsAlong, IsInPlaneLattice, first_two, in_spa
 use Rattle.line_scans.specs.Lines.{InLineStabiliser, IsPlaneMember, PlanePoint}
 use Rattle.line_scans.specs.LineOps.{HasLineOp, IsLineOp}
 use Rattle.line_scans.specs.LineSections.{ActsAlong, in_edges2, point_at2}
-use Rattle.line_scans.proofs.LineActions.{image_times, pair_path, rational_line, times_one}
+use Rattle.line_scans.proofs.LineActions.{image_times, pair_path, rational_line}
 use Rattle.line_scans.proofs.LineStabilisers.{Follows, dot_turned, image_in_lattice, stabiliser_follows, turned_along}
 use Rattle.line_scans.proofs.PlaneBridges.{IsFlatModulo, block_matrix_flat, dot_in_space, flat_minus, image_below}
 

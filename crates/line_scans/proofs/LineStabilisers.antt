@@ -1,24 +1,24 @@
 -- The members that map a line to itself are a group, as are those that map every line to itself.
-use Rattle.std.proofs.Common.{◌≡◌, ◌↔◌, ◌⊎◌, inl, inr, ℤ, pos, negsuc, ◌+ℤ◌, ◌-ℤ◌, ◌*ℤ◌, ◌≤ℤ◌, List, [], ◌∷◌, refl, sym, ap, subst, ◌∙◌, arith}
+use Rattle.std.proofs.Common.{◌≡◌, ◌↔◌, ◌⊎◌, inl, inr, ℤ, pos, negsuc, ◌+ℤ◌, ◌*ℤ◌, ◌≤ℤ◌, [], ◌∷◌, refl, sym, ap, subst, ◌∙◌, arith}
 use Rattle.std.proofs.lemmas.Int.{ints}
 use Rattle.fractions.specs.declared.part.TheConstants.{UNIT}
 use Rattle.integers.proofs.Order.{mul_left_cancel_pos}
 use Rattle.integers.proofs.Ring.{mul-eq-one, mul_zero}
-use Rattle.integers.proofs.Solver.{Expr, Expr.{var, num, neg, ◌⊕◌, ◌⊝◌, ◌⊗◌}, linear, ring, given}
-use Rattle.symmetry.specs.Vectors.{Vector, dot, image, minus, multiple, opposite, origin, plus, row_times, unit_matrix}
+use Rattle.integers.proofs.Solver.{Expr.{var, num, neg, ◌⊕◌, ◌⊗◌}, linear, given}
+use Rattle.symmetry.specs.Vectors.{Vector, dot, image, minus, multiple, plus, row_times}
 use Rattle.symmetry.specs.Motions.{Motion, followed_by, identity, translation}
 use Rattle.symmetry.specs.Planes.{Height, IsCoprime, IsHeight, KeepsRow, TurnsRow}
-use Rattle.symmetry.specs.Groups.{Listing, InRowStabiliser, InStabiliser, IsGroup, IsInLattice, IsMember}
+use Rattle.symmetry.specs.Groups.{Listing, IsGroup, IsInLattice, IsMember}
 use Rattle.symmetry.specs.Frames.{DiffersInPlane}
 use Rattle.symmetry.specs.HeightMotions.{IsSign}
 use Rattle.symmetry.proofs.Coprime.{not_opposite}
 use Rattle.symmetry.proofs.GroupLaws.{member_keeps, member_translation}
-use Rattle.symmetry.proofs.MatrixLaws.{image-unit, row_times-dot, row_times-multiple, row_times-product, row_times-unit}
-use Rattle.symmetry.proofs.PlaneLattice.{differs_all, differs_stabiliser}
+use Rattle.symmetry.proofs.MatrixLaws.{row_times-dot, row_times-multiple, row_times-product, row_times-unit}
+use Rattle.symmetry.proofs.PlaneLattice.{differs_stabiliser}
 use Rattle.symmetry.proofs.PlaneRows.{stabiliser_by_row}
 use Rattle.symmetry.proofs.Signs.{row_times-followed_by, sign_twice}
 use Rattle.symmetry.proofs.VectorLaws.{dot-origin, dot-plus, multiple-dot, multiple-one, vector_path}
-use Rattle.motions.specs.PlaneMatrices.{Matrix2, Pair, dot2, image2, minus2, unit2}
+use Rattle.motions.specs.PlaneMatrices.{Pair, dot2, image2, minus2, unit2}
 use Rattle.motions.specs.Signs.{sign_product, sign_value}
 use Rattle.motions.specs.declared.motion.Sign.{Sign}
 use Rattle.motions.specs.declared.motion.Sign.TheVariants.{Plus, Minus}
@@ -27,9 +27,9 @@ use Rattle.plane_motions.proofs.PlaneBlocks.{plane_block_product}
 use Rattle.line_frames.specs.Lines.{IsAlong, IsInPlaneLattice, first_two, in_space, times2}
 use Rattle.line_scans.specs.Lines.{InAllLines, InLineStabiliser, IsPlaneMember}
 use Rattle.line_scans.specs.LineLists.{DiffersAlong}
-use Rattle.line_scans.proofs.LineActions.{image_product2, image_times, image_unit2, pair_path, sign_of_product, times_one, times_times}
+use Rattle.line_scans.proofs.LineActions.{image_product2, image_times, image_unit2, sign_of_product, times_one, times_times}
 use Rattle.line_scans.proofs.LineGroups.{IsLineGroup}
-use Rattle.line_scans.proofs.PlaneBridges.{IsFlatModulo, all_by_lines, block_is, block_member, dot_in_space, flat_minus, pair_member, pair_motion, stabiliser_by_line}
+use Rattle.line_scans.proofs.PlaneBridges.{IsFlatModulo, block_is, block_member, dot_in_space, flat_minus, pair_member, pair_motion, stabiliser_by_line}
 
 -- (hkl) W = e (hkl), and e s + (hkl).w = s
 pub record Follows (r : Vector) (s : Height) (m : Motion) : Type 0 where

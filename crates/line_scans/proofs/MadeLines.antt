@@ -1,5 +1,5 @@
 -- The scan of the lines that is made of the scan of the planes (h k 0).
-use Rattle.std.proofs.Common.{◌≡◌, ◌↔◌, ℕ, zero, suc, ◌<◌, ℤ, pos, ◌*ℤ◌, ◌≤ℤ◌, List, [], ◌∷◌, get_or, length, map, refl, sym, ap, subst, ◌∙◌, arith}
+use Rattle.std.proofs.Common.{◌≡◌, ℕ, zero, suc, ◌<◌, ℤ, pos, ◌*ℤ◌, List, [], ◌∷◌, get_or, length, map, refl, sym, ap, subst, ◌∙◌, arith}
 use Rattle.std.specs.Prelude.{All, AllPairs}
 use Rattle.std.specs.List.{AllZip}
 use Rattle.std.proofs.lemmas.Int.{ints}
@@ -10,17 +10,16 @@ use Rattle.fractions.specs.FractionOf.{fraction_of}
 use Rattle.fractions.specs.Fractions.{fraction_at}
 use Rattle.fractions.specs.declared.part.TheConstants.{UNIT}
 use Rattle.fractions.specs.declared.ratio.Ratio.{Ratio}
-use Rattle.symmetry.specs.Vectors.{Vector, dot, multiple}
+use Rattle.symmetry.specs.Vectors.{dot, multiple}
 use Rattle.symmetry.specs.Motions.{Motion}
-use Rattle.symmetry.specs.Planes.{Height, IsCoprime, IsHeight}
-use Rattle.symmetry.specs.Groups.{Listing, InAll, InStabiliser, SameModulo}
-use Rattle.symmetry.specs.Frames.{Basis, IsAtHome, IsFrame, total_up}
+use Rattle.symmetry.specs.Planes.{Height, IsCoprime}
+use Rattle.symmetry.specs.Groups.{Listing, InAll, InStabiliser}
+use Rattle.symmetry.specs.Frames.{Basis, IsFrame, total_up}
 use Rattle.symmetry.specs.Lists.{AreScanning}
 use Rattle.symmetry.specs.Scans as scans
 use Rattle.symmetry.specs.Scans.{IsInPeriod, IsLower, IsScan, SpecialHeight, special_at}
-use Rattle.symmetry.specs.Sizes.{IsSmall}
 use Rattle.symmetry.proofs.VectorLaws.{vector_path}
-use Rattle.motions.specs.PlaneMatrices.{Pair, dot2}
+use Rattle.motions.specs.PlaneMatrices.{Pair}
 use Rattle.motions.specs.Views.{motion_of, parts, row_of}
 use Rattle.closure.specs.Groups.{IsGroupOf, group_listing}
 use Rattle.closure.specs.declared.group.Group.{Group}
@@ -28,13 +27,12 @@ use Rattle.plane_lattice.specs.FrameView.{basis_of_frame}
 use Rattle.plane_lattice.specs.Sections.{height_in_steps}
 use Rattle.plane_lattice.specs.declared.frame.Frame.{Frame}
 use Rattle.plane_motions.specs.PlaneMotions.{PlaneMotion, plane_block, plane_of}
-use Rattle.friezes.specs.declared.line_op.LineOp.{LineOp}
 use Rattle.scanning.specs.HeightView.{heights_of_specials, special_of, specials_of}
-use Rattle.scanning.specs.ScanView.{IsScanOf, scan_of}
+use Rattle.scanning.specs.ScanView.{scan_of}
 use Rattle.scanning.specs.declared.height.Height.{Height as CodeHeight}
 use Rattle.scanning.specs.declared.scan.Scan.{Scan}
 use Rattle.line_frames.specs.LineFrames.{IsLineFrameOf}
-use Rattle.line_frames.specs.Lines.{IsFlatGroup, first_two, in_space, times2}
+use Rattle.line_frames.specs.Lines.{IsFlatGroup, first_two, in_space}
 use Rattle.line_scans.specs.Lines.{InAllLines, InLineStabiliser}
 use Rattle.line_scans.specs.LineLists.{IsLineList}
 use Rattle.line_scans.specs.LineOps.{AreLineMotions, IsLineOp, IsSectionOf, IsStep}

@@ -1,22 +1,19 @@
 -- Multiples of the first vector of a basis, as the code finds them.
-use Rattle.std.proofs.Common.{◌≡◌, ◌⊎◌, inl, inr, ℕ, ◌*◌, ◌≤◌, ◌<◌, ◌^◌, ℤ, pos, ◌+ℤ◌, ◌-ℤ◌, ◌*ℤ◌, ◌≤ℤ◌, ◌<ℤ◌, List, [], ◌∷◌, nat_abs, FitsSigned, w64, to_z, of_z, refl, sym, ap, subst, ◌∙◌, arith, lit<}
+use Rattle.std.proofs.Common.{◌≡◌, ℕ, ◌*◌, ◌≤◌, ℤ, pos, ◌+ℤ◌, ◌*ℤ◌, ◌≤ℤ◌, [], ◌∷◌, nat_abs, FitsSigned, w64, sym, ap, subst, ◌∙◌, arith}
 use Rattle.std.specs.Int.{w128}
-use Rattle.std.specs.Prelude.{unsigned_abs}
 use Rattle.std.proofs.lemmas.Int.{ints, to_z-of_z}
 use native.Mathlib.Decide.{dec_lt}
-use Rattle.fractions.specs.declared.part.TheConstants.{UNIT}
 use Rattle.integers.specs.Size.{IsWithin}
-use Rattle.integers.proofs.Coded.{again, again_is, code_is, fits_within}
-use Rattle.integers.proofs.Order.{mul_left_cancel_pos}
-use Rattle.integers.proofs.Ring.{abs-mul, IsWithin-more}
-use Rattle.integers.proofs.Solver.{Expr, Expr.{var, num, neg, ◌⊕◌, ◌⊝◌, ◌⊗◌}, linear, given}
+use Rattle.integers.proofs.Coded.{again}
+use Rattle.integers.proofs.Ring.{abs-mul}
+use Rattle.integers.proofs.Solver.{Expr.{var, num, ◌⊕◌, ◌⊝◌, ◌⊗◌}, linear, given}
 use Rattle.symmetry.specs.Vectors.{Vector, cross, dot, multiple, plus}
 use Rattle.symmetry.specs.Frames.{Basis, combination}
 use Rattle.symmetry.specs.Sizes.{IsVectorWithin}
 use Rattle.symmetry.proofs.VectorLaws.{vector_path}
 use Rattle.plane_lattice.specs.Coordinates.{IsCombination, volume}
 use Rattle.plane_lattice.proofs.Cramer.{combination_once}
-use Rattle.plane_lattice.proofs.Wide.{wide, wide_is}
+use Rattle.plane_lattice.proofs.Wide.{wide}
 
 no_smaller : (p q : ℕ) → 1 ≤ q → p ≤ p * q
 no_smaller p q h = grind arith

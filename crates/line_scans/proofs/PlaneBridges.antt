@@ -1,18 +1,18 @@
 -- A plane group as a group of space: its points, motions and members.
-use Rattle.std.proofs.Common.{◌≡◌, ◌↔◌, ℤ, pos, negsuc, ◌+ℤ◌, ◌-ℤ◌, ◌*ℤ◌, [], ◌∷◌, refl, sym, ap, subst, ◌∙◌, arith, inl, lit<}
+use Rattle.std.proofs.Common.{◌≡◌, ◌↔◌, ℤ, pos, negsuc, ◌+ℤ◌, ◌-ℤ◌, ◌*ℤ◌, refl, sym, ap, subst, ◌∙◌, arith, inl, lit<}
 use Rattle.std.specs.Prelude.{Contains}
 use Rattle.std.proofs.lemmas.Int.{ints}
 use Rattle.fractions.specs.declared.part.TheConstants.{UNIT}
-use Rattle.symmetry.specs.Vectors.{Vector, Matrix, dot, image, minus, multiple, plus, row_times}
-use Rattle.symmetry.specs.Motions.{Motion, Point, followed_by, identity, moved}
+use Rattle.symmetry.specs.Vectors.{Vector, Matrix, dot, image, minus, multiple, plus}
+use Rattle.symmetry.specs.Motions.{Motion, Point, moved}
 use Rattle.symmetry.specs.Planes.{Height, IsOn, KeepsPlane}
-use Rattle.symmetry.specs.Groups.{Listing, Generates, InAll, InStabiliser, IsInLattice, IsMember, SameModulo, edges}
+use Rattle.symmetry.specs.Groups.{Listing, InAll, InStabiliser, IsInLattice, IsMember, SameModulo}
 use Rattle.symmetry.specs.Listings.{AreAlike}
 use Rattle.symmetry.specs.Frames.{IsSpecial}
 use Rattle.symmetry.proofs.LatticeLaws.{lattice-made, lattice-minus, lattice-plus, same_refl}
 use Rattle.symmetry.proofs.VectorLaws.{vector_path}
 use Rattle.symmetry.proofs.MatrixLaws.{matrix_path}
-use Rattle.motions.specs.PlaneMatrices.{Matrix2, Pair, dot2, image2, minus2, plus2, row_times2}
+use Rattle.motions.specs.PlaneMatrices.{Pair, dot2, image2, minus2, plus2}
 use Rattle.plane_lattice.proofs.FrameTestFacts.{lattice-multiple}
 use Rattle.plane_motions.specs.PlaneMotions.{IsFlat, PlaneMotion, plane_block}
 use Rattle.line_frames.specs.Lines.{IsFlatGroup, IsInPlaneLattice, first_two, in_space, times2}

@@ -1,5 +1,5 @@
 -- The sections of a plane group along its lines, and their first changes onto frieze types.
-use Rattle.std.proofs.Common.{◌≡◌, ◌↔◌, ℕ, ◌<◌, ℤ, pos, ◌*ℤ◌, ◌≤ℤ◌, List, [], ◌∷◌, get_or, length, map, refl, sym, ap, subst, ◌∙◌, arith, zero, suc}
+use Rattle.std.proofs.Common.{◌≡◌, ◌↔◌, ℕ, ◌<◌, ℤ, pos, ◌*ℤ◌, ◌≤ℤ◌, List, [], ◌∷◌, get_or, length, map, refl, sym, subst, ◌∙◌, arith, zero, suc}
 use Rattle.std.specs.List.{AllZip}
 use Rattle.std.specs.Prelude.{All}
 use Rattle.std.proofs.lemmas.Int.{ints}
@@ -15,7 +15,7 @@ use Rattle.symmetry.specs.Frames.{Basis, DiffersInPlane, IsAtHome}
 use Rattle.symmetry.specs.Lists.{IsListOf, motion_at}
 use Rattle.symmetry.specs.Sizes.{IsSmall}
 use Rattle.symmetry.proofs.PlaneLattice.{differs_all, differs_stabiliser}
-use Rattle.motions.specs.PlaneMatrices.{Pair, image2}
+use Rattle.motions.specs.PlaneMatrices.{Pair}
 use Rattle.plane_lattice.specs.Sections.{height_in_steps}
 use Rattle.plane_motions.specs.PlaneMotions.{IsFlat, PlaneMotion, plane_block}
 use Rattle.friezes.specs.declared.line_op.LineOp.{LineOp}

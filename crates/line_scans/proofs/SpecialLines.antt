@@ -1,15 +1,14 @@
 -- What a scan of the planes (h k 0) of a plane group tells of its lines.
-use Rattle.std.proofs.Common.{◌≡◌, ℕ, zero, suc, ◌<◌, ℤ, pos, negsuc, ◌+ℤ◌, ◌*ℤ◌, ◌≤ℤ◌, ◌<ℤ◌, List, [], ◌∷◌, get_or, length, map, refl, sym, ap, subst, ◌∙◌, arith}
+use Rattle.std.proofs.Common.{◌≡◌, ℕ, zero, suc, ◌<◌, ℤ, pos, negsuc, ◌*ℤ◌, ◌≤ℤ◌, ◌<ℤ◌, List, [], ◌∷◌, length, map, refl, ap, subst, arith}
 use Rattle.std.specs.Prelude.{All}
 use Rattle.std.specs.List.{AllZip}
-use Rattle.std.proofs.lemmas.Int.{ints}
 use Rattle.std.proofs.lemmas.List.{get_or-map, length-map}
 use Rattle.std.proofs.lemmas.List.Elements.{All-weaker}
 use Rattle.fractions.specs.Fraction.{SameFraction}
 use Rattle.fractions.specs.FractionOf.{fraction_of}
 use Rattle.fractions.specs.declared.part.TheConstants.{UNIT}
 use Rattle.integers.proofs.Order.{mul_left_cancel_pos}
-use Rattle.integers.proofs.Solver.{Expr, Expr.{var, num, neg, ◌⊕◌, ◌⊝◌, ◌⊗◌}, linear, ring, given}
+use Rattle.integers.proofs.Solver.{Expr.{var, num, neg, ◌⊕◌, ◌⊗◌}, linear, ring, given}
 use Rattle.symmetry.specs.Vectors.{Vector, dot}
 use Rattle.symmetry.specs.Motions.{Motion}
 use Rattle.symmetry.specs.Planes.{Height}
@@ -20,10 +19,9 @@ use Rattle.symmetry.specs.Scans as scans
 use Rattle.symmetry.specs.Scans.{IsInPeriod, IsScan, SpecialHeight, raised_height, special_at}
 use Rattle.symmetry.specs.Sizes.{IsSmall}
 use Rattle.symmetry.proofs.Heights.{at_in_period}
-use Rattle.motions.specs.Views.{motion_of}
 use Rattle.closure.specs.Operations.{HasSmallEntries}
 use Rattle.plane_lattice.specs.Sections.{height_in_steps}
-use Rattle.scanning.specs.HeightView.{heights_of_specials, special_of, specials_of}
+use Rattle.scanning.specs.HeightView.{special_of, specials_of}
 use Rattle.scanning.specs.ScanView.{scan_of}
 use Rattle.scanning.specs.declared.height.Height.{Height as CodeHeight}
 use Rattle.scanning.specs.declared.scan.Scan.{Scan}

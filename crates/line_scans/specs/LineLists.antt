@@ -1,5 +1,5 @@
 -- Lists of the motions that map a line to itself.
-use Rattle.std.specs.Prelude.{◌≡◌, ℕ, ◌<◌, ℤ, pos, ◌*ℤ◌, ◌≤ℤ◌, ◌<ℤ◌, List, length, slice_index_or}
+use Rattle.std.specs.Prelude.{◌≡◌, ℕ, ◌<◌, ℤ, pos, ◌≤ℤ◌, ◌<ℤ◌, List, length, slice_index_or}
 use Rattle.symmetry.specs.Groups.{Listing}
 use Rattle.symmetry.specs.Lists.{IsFirstPlace}
 use Rattle.motions.specs.PlaneMatrices.{Pair, minus2, plus2}

@@ -1,7 +1,7 @@
 -- What the motions that map a line to itself do along it, and the first change onto a frieze type.
-use Rattle.std.specs.Prelude.{◌≡◌, ℤ, pos, negsuc, ◌*ℤ◌, ◌&&◌, if◌then◌else◌, Bool, List, [], ◌∷◌, length}
+use Rattle.std.specs.Prelude.{◌≡◌, ℤ, pos, negsuc, ◌*ℤ◌, if◌then◌else◌, List, [], ◌∷◌, length}
 use Rattle.fractions.specs.declared.part.TheConstants.{UNIT}
-use Rattle.symmetry.specs.Planes.{Height, IsHeight}
+use Rattle.symmetry.specs.Planes.{Height}
 use Rattle.symmetry.specs.Groups.{Listing}
 use Rattle.motions.specs.PlaneMatrices.{Pair, image2, minus2, origin2, plus2, row_times2, same_pair}
 use Rattle.motions.specs.Signs.{sign_value}

@@ -1,6 +1,5 @@
 -- What a LineScan of the code says.
-use Rattle.std.specs.Prelude.{◌≡◌, ℤ, List, map}
-use Rattle.fractions.specs.Fraction.{Fraction}
+use Rattle.std.specs.Prelude.{◌≡◌, ℤ, map}
 use Rattle.fractions.specs.FractionOf.{fraction_of}
 use Rattle.fractions.specs.Fractions.{fraction_at}
 use Rattle.symmetry.specs.Vectors.{Vector}
