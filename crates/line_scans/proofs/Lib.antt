@@ -12,3 +12,4 @@ pub mod SectionTypes
 pub mod SpecialLines
 pub mod MadeLines
 pub mod FlatListings
+pub mod SmallLines

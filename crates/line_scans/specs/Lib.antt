@@ -4,3 +4,4 @@ pub mod LineOps
 pub mod LineSections
 pub mod LineScans
 pub mod LineView
+pub mod SmallLineScans

@@ -11,6 +11,7 @@ ghost use Rattle.line_frames.specs.Lines.{IsFlatGroup, first_two};
 ghost use Rattle.line_scans.specs.LineOps.{AreLineMotions, IsStep};
 ghost use Rattle.line_scans.specs.LineScans.{IsLineScan};
 ghost use Rattle.line_scans.specs.LineView.{IsLineHeightOf, line_scan_of};
+ghost use Rattle.line_scans.specs.SmallLineScans.{IsSmallLineScan};
 
 use crate::scan::{LineHeight, LineScan};
 use crate::section::{NoMemory, line_section};
@@ -30,12 +31,14 @@ use std::alloc::Global;
 /// a, at home in the frame of the lines, and in the order of the group's operations. Each section has its first change
 /// onto a frieze type (International Tables, Volume E, frieze groups).
 ///
-/// Each operation of the group is flat, and each vector of its lattice has a whole third entry.
+/// Each operation of the group is flat, and each vector of its lattice has a whole third entry. The vectors, the period and
+/// the heights are so small that the origins of the sections can be computed with them (`IsSmallLineScan`).
 pub fn lines(alloc: Global, group: &Group, plane: Miller) -> Result<LineScan, NoMemory>
     requires group { IsFlatGroup (group_listing group.now) }
     requires line { plane.l ≡ pos 0 }
-    ensures { (g : Listing) → IsGroupOf g group.now →
+    ensures is { (g : Listing) → IsGroupOf g group.now →
         IfOk result (λ scan. IsLineScan g (record { x = plane.h; y = plane.k }) (line_scan_of scan)) }
+    ensures small { IfOk result IsSmallLineScan }
 {
     let frame = line_frame(group, plane);
     lines_in(alloc, group, &frame)
@@ -46,8 +49,9 @@ fn lines_in(alloc: Global, group: &Group, frame: &Frame) -> Result<LineScan, NoM
     requires group { IsFlatGroup (group_listing group.now) }
     requires line { frame.now.plane.l ≡ pos 0 }
     requires frame { (g : Listing) → IsGroupOf g group.now → IsLineFrameOf g frame.now.plane frame.now }
-    ensures { (g : Listing) → IsGroupOf g group.now →
+    ensures is { (g : Listing) → IsGroupOf g group.now →
         IfOk result (λ scan. IsLineScan g (first_two (row_of frame.now.plane)) (line_scan_of scan)) }
+    ensures small { IfOk result IsSmallLineScan }
 {
     let scan = Scan::make(alloc, group, frame)?;
     let origin = Viewpoint {

@@ -21,7 +21,7 @@ lines_in-requires-clause-frame c = λ g of.
     let made = c.line_frame-frame.ensures g of in
     subst (λ p. IsLineFrameOf g p c.line_frame-frame.result) (sym made.plane) made
 
-pub returns : goal.returns
-returns c = λ g of.
+pub returns-clause-is : goal.returns-clause-is
+returns-clause-is c = λ g of.
     let made = c.line_frame-frame.ensures g of in
-    subst (λ (p : Miller). IfOk c.lines_in.result (λ scan. IsLineScan g (first_two (row_of p)) (line_scan_of scan))) made.plane (c.lines_in.ensures g of)
+    subst (λ (p : Miller). IfOk c.lines_in.result (λ scan. IsLineScan g (first_two (row_of p)) (line_scan_of scan))) made.plane (c.lines_in.ensures.is g of)

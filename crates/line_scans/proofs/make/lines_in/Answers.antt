@@ -8,11 +8,13 @@ use Rattle.closure.specs.Groups.{group_listing}
 use Rattle.closure.proofs.OwnLattice.{own_listing}
 use Rattle.plane_lattice.specs.FrameView.{basis_of_frame}
 use Rattle.scanning.specs.declared.height.Height.{Height}
+use Rattle.scanning.proofs.Shifts.{period_within}
 use Rattle.line_scans.specs.LineOps.{AreLineMotions, IsStep}
 use Rattle.line_scans.specs.LineOps.{IsSectionOf}
 use Rattle.line_scans.specs.LineView.{IsLineHeightOf}
 use Rattle.std.specs.List.{AllZip}
 use Rattle.line_scans.proofs.MadeLines.{general_ready, motions_ready, steps_ready, told_is, told_so}
+use Rattle.line_scans.proofs.SmallLines.{small_line_heights}
 use Rattle.line_scans.proofs.make.lines_in.Goals as goal
 
 pub make-requires : goal.make-requires
@@ -50,8 +52,8 @@ line_heights-requires-clause-motions c =
     (sym c.deref-2.ensures.value)
     (motions_ready group frame c.requires.group c.requires.line g own (c.requires.frame g own) c.in_ok-scan.scan made.frame_is made.is)
 
-pub returns : goal.returns
-returns c g of =
+pub returns-clause-is : goal.returns-clause-is
+returns-clause-is c g of =
     let group = c.args.group.now in
     let frame = c.args.frame.now in
     let made = c.in_ok-scan.ensures g of in
@@ -62,3 +64,13 @@ returns c g of =
     told_so g frame c.in_plane.result h k c.in_plane.ensures.first c.in_plane.ensures.second
     (told_is group frame c.requires.group c.requires.line g of (c.requires.frame g of) c.in_ok-scan.scan made.frame_is made.is c.in_ok-general.general general
     c.in_ok-heights.heights.items heights)
+
+pub returns-clause-small : goal.returns-clause-small
+returns-clause-small c =
+    let frame = c.args.frame.now in
+    record {
+      a = record { x = frame.a_in_range.x; y = frame.a_in_range.y };
+      tau = record { x = frame.tau_in_range.x; y = frame.tau_in_range.y };
+      period = record { within = period_within frame; above = frame.above };
+      heights = small_line_heights (row_of frame.plane) (basis_of_frame frame) frame.period.0 frame.above (period_within frame) _ c.in_ok-heights.heights.items c.in_ok-heights.ensures;
+    }
