@@ -1,5 +1,5 @@
 // Translations from one line to another.
-ghost use Rattle.std.specs.Prelude.{◌≡◌, ◌≢◌, ◌*◌, ◌*ℤ◌, ◌^◌, ℤ, pos, MatchOption, unsigned_abs};
+ghost use Rattle.std.specs.Prelude.{◌≡◌, ◌≢◌, ◌*◌, ◌*ℤ◌, ◌^◌, ◌≤ℤ◌, ℤ, pos, MatchOption, unsigned_abs};
 ghost use Rattle.fractions.specs.declared.part.TheConstants.{UNIT};
 ghost use Rattle.integers.specs.Size.{IsWithin};
 ghost use Rattle.symmetry.specs.Vectors.{Vector};
@@ -19,12 +19,21 @@ fn quotient(num: i64, den: i64) -> Option<i64>
     requires den_small { IsWithin (2 ^ 32) den }
     ensures { MatchOption result ((q : ℤ) → ¬ (den *ℤ q ≡ num)) (λ q. den *ℤ q ≡ num) }
 {
-    let quotient = if den > 0 {
-        whole_quotient(num as i128, den as i128)
-    } else {
-        whole_quotient(-(num as i128), -(den as i128))
-    };
-    Some(quotient? as i64)
+    if den < 0 {
+        return quotient_by_positive(-num, -den);
+    }
+    quotient_by_positive(num, den)
+}
+
+/// The same, by a positive number.
+fn quotient_by_positive(num: i64, den: i64) -> Option<i64>
+    requires den { pos 1 ≤ℤ den }
+    requires small { IsWithin (2 ^ 32) num }
+    requires den_small { IsWithin (2 ^ 32) den }
+    ensures { MatchOption result ((q : ℤ) → ¬ (den *ℤ q ≡ num)) (λ q. den *ℤ q ≡ num) }
+{
+    let quotient = whole_quotient(num as i128, den as i128)?;
+    Some(quotient as i64)
 }
 
 /// The first coordinate in which (k, -h) is not 0.
