@@ -1,5 +1,7 @@
 pub mod Along
 pub mod Counters
+pub mod Forward
+pub mod Listed
 pub mod Points
 pub mod Quotients
 pub mod Reducing

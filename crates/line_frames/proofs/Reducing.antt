@@ -16,13 +16,13 @@ use Rattle.line_frames.proofs.Points.{coordinate_x, coordinate_y, zero_or_not}
 use Rattle.line_frames.proofs.Repeats.{edges_inside}
 
 -- a vector without a multiple of another
-abbrev without : Vector → ℤ → Vector → Vector
+abbrev pub without : Vector → ℤ → Vector → Vector
 without v q a = minus v (multiple q a)
 
 less : (x q y : ℤ) → x +ℤ negsuc 0 *ℤ (q *ℤ y) ≡ x -ℤ q *ℤ y
 less x q y = ring (x ∷ q ∷ y ∷ []) (var 0 ⊕ num (negsuc 0) ⊗ (var 1 ⊗ var 2)) (var 0 ⊝ var 1 ⊗ var 2) tt
 
-dot-without : (r v : Vector) (q : ℤ) (a : Vector) → dot r (without v q a) ≡ dot r v -ℤ q *ℤ dot r a
+pub dot-without : (r v : Vector) (q : ℤ) (a : Vector) → dot r (without v q a) ≡ dot r v -ℤ q *ℤ dot r a
 dot-without r v q a =
     dot-plus r v (opposite (multiple q a)) ∙ ap (λ x. dot r v +ℤ x) (dot-multiple r (negsuc 0) (multiple q a) ∙ ap (λ x. negsuc 0 *ℤ x) (dot-multiple r q a))
     ∙ less (dot r v) q (dot r a)
