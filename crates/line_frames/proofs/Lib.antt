@@ -1,5 +1,6 @@
 pub mod Along
 pub mod Counters
+pub mod Bases
 pub mod Forward
 pub mod Listed
 pub mod Points
