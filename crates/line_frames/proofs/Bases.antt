@@ -12,11 +12,12 @@ use Rattle.symmetry.specs.Planes.{IsCoprime}
 use Rattle.symmetry.specs.Frames.{Basis, combination, IsFrame}
 use Rattle.symmetry.proofs.LatticeLaws.{lattice-made, lattice-minus}
 use Rattle.symmetry.proofs.VectorLaws.{vector_path}
+use Rattle.symmetry.proofs.Signs.{IsSign, sign-square}
 use Rattle.plane_lattice.proofs.FrameTestFacts.{lattice-multiple, tests_make_frame}
 use Rattle.line_frames.specs.LineFrames.{third_edge}
 use Rattle.line_frames.specs.Searches.{along_lines, IsFirstAbove, IsRepeat}
 use Rattle.line_frames.proofs.Along.{dot-along_lines}
-use Rattle.line_frames.proofs.Forward.{IsUnit, a_inside, multiple_of_a, unit_squared}
+use Rattle.line_frames.proofs.Forward.{a_inside, multiple_of_a}
 use Rattle.line_frames.proofs.Reducing.{dot-without, without}
 
 -- the third edge times -e
@@ -26,7 +27,7 @@ across e = multiple (pos 0 -ℤ e) third_edge
 third_inside : (g : Listing) → IsInLattice g third_edge
 third_inside g = lattice-made g third_edge (inl (2, lit< tt, refl))
 
-module _ (g : Listing) (r : Vector) (coprime : IsCoprime r) (line : r.z ≡ pos 0) (n e : ℤ) (repeat : IsRepeat g r n) (sign : IsUnit e)
+module _ (g : Listing) (r : Vector) (coprime : IsCoprime r) (line : r.z ≡ pos 0) (n e : ℤ) (repeat : IsRepeat g r n) (sign : IsSign e)
     (tau : Vector) (first : IsFirstAbove g r (along_lines r (e *ℤ n)) tau)
     (heights : (t : Vector) → IsInLattice g t → Divides (unsigned_abs UNIT) t.z) where
   abbrev pub a : Vector
@@ -56,12 +57,12 @@ module _ (g : Listing) (r : Vector) (coprime : IsCoprime r) (line : r.z ≡ pos 
       go_x : (x : ℤ) → (e *ℤ n) *ℤ (pos 0 -ℤ x) *ℤ ((pos 0 -ℤ e) *ℤ UNIT) -ℤ pos 0 *ℤ ((pos 0 -ℤ e) *ℤ pos 0) ≡ n *ℤ UNIT *ℤ x
       go_x x =
           linear (e ∷ n ∷ x ∷ []) (var 0 ⊗ var 1 ⊗ (num (pos 0) ⊝ var 2) ⊗ ((num (pos 0) ⊝ var 0) ⊗ num UNIT) ⊝ num (pos 0) ⊗ ((num (pos 0) ⊝ var 0) ⊗ num (pos 0)))
-          (var 1 ⊗ num UNIT ⊗ var 2) (given (num UNIT ⊗ var 1 ⊗ var 2) (var 0 ⊗ var 0) (num (pos 1)) ∷ []) tt (unit_squared e sign, tt)
+          (var 1 ⊗ num UNIT ⊗ var 2) (given (num UNIT ⊗ var 1 ⊗ var 2) (var 0 ⊗ var 0) (num (pos 1)) ∷ []) tt (sign-square e sign, tt)
 
       go_y : (y : ℤ) → pos 0 *ℤ ((pos 0 -ℤ e) *ℤ pos 0) -ℤ e *ℤ n *ℤ y *ℤ ((pos 0 -ℤ e) *ℤ UNIT) ≡ n *ℤ UNIT *ℤ y
       go_y y =
           linear (e ∷ n ∷ y ∷ []) (num (pos 0) ⊗ ((num (pos 0) ⊝ var 0) ⊗ num (pos 0)) ⊝ var 0 ⊗ var 1 ⊗ var 2 ⊗ ((num (pos 0) ⊝ var 0) ⊗ num UNIT))
-          (var 1 ⊗ num UNIT ⊗ var 2) (given (num UNIT ⊗ var 1 ⊗ var 2) (var 0 ⊗ var 0) (num (pos 1)) ∷ []) tt (unit_squared e sign, tt)
+          (var 1 ⊗ num UNIT ⊗ var 2) (given (num UNIT ⊗ var 1 ⊗ var 2) (var 0 ⊗ var 0) (num (pos 1)) ∷ []) tt (sign-square e sign, tt)
 
       go_z : (x y : ℤ) → e *ℤ n *ℤ y *ℤ ((pos 0 -ℤ e) *ℤ pos 0) -ℤ e *ℤ n *ℤ (pos 0 -ℤ x) *ℤ ((pos 0 -ℤ e) *ℤ pos 0) ≡ n *ℤ UNIT *ℤ pos 0
       go_z x y =
@@ -121,7 +122,7 @@ module _ (g : Listing) (r : Vector) (coprime : IsCoprime r) (line : r.z ≡ pos 
       go_third p q m u t h k =
           linear (p ∷ q ∷ m ∷ u ∷ t ∷ e ∷ []) (var 0 ⊗ num (pos 0) ⊕ var 1 ⊗ (num (pos 0) ⊝ var 5) ⊗ ((num (pos 0) ⊝ var 5) ⊗ num UNIT) ⊕ var 2 ⊗ var 3) (var 4)
           (given (var 1 ⊗ num UNIT) (var 5 ⊗ var 5) (num (pos 1)) ∷ given (num (negsuc 0)) (var 4) (var 1 ⊗ num UNIT) ∷ given (var 2) (var 3) (num (pos 0)) ∷ [])
-          tt (unit_squared e sign, (h, (k, tt)))
+          tt (sign-square e sign, (h, (k, tt)))
 
   pub frame : IsFrame g r basis
   frame = tests_make_frame g r basis (record {

@@ -11,22 +11,15 @@ use Rattle.integers.proofs.Solver.{Expr.{var, num, ◌⊝◌, ◌⊗◌}, linear
 use Rattle.symmetry.specs.Vectors.{Vector, multiple, dot}
 use Rattle.symmetry.specs.Groups.{Listing, IsInLattice}
 use Rattle.symmetry.specs.Planes.{IsCoprime}
+use Rattle.symmetry.proofs.Signs.{IsSign, sign-square}
 use Rattle.plane_lattice.proofs.FrameTestFacts.{lattice-multiple}
 use Rattle.line_frames.specs.Searches.{along_lines, coordinate, IsForwardAlong, IsRepeat, IsSense, across_y, along_y}
 use Rattle.line_frames.proofs.Along.{along_of, dot-along_lines, multiple-along_lines}
 use Rattle.line_frames.proofs.Points.{coordinate_x, coordinate_y}
 use Rattle.line_frames.proofs.Repeats.{multiple_of_repeat}
 
--- 1 or -1
-abbrev pub IsUnit : ℤ → Type 0
-IsUnit e = (e ≡ pos 1) ⊎ (e ≡ negsuc 0)
-
-pub unit_squared : (e : ℤ) → IsUnit e → e *ℤ e ≡ pos 1
-unit_squared e (inl is) = λ i. is i *ℤ is i
-unit_squared e (inr is) = λ i. is i *ℤ is i
-
 -- a number of parts times an index with a sign, where that is positive
-module _ (n e x : ℤ) (from : pos 1 ≤ℤ n) (most : n ≤ℤ UNIT) (sign : IsUnit e) (small : IsWithin (unsigned_abs INDEX) x) (forward : pos 0 <ℤ (e *ℤ x)) where
+module _ (n e x : ℤ) (from : pos 1 ≤ℤ n) (most : n ≤ℤ UNIT) (sign : IsSign e) (small : IsWithin (unsigned_abs INDEX) x) (forward : pos 0 <ℤ (e *ℤ x)) where
   apart : e *ℤ n *ℤ x ≡ n *ℤ (e *ℤ x)
   apart = ring (e ∷ n ∷ x ∷ []) (var 0 ⊗ var 1 ⊗ var 2) (var 1 ⊗ (var 0 ⊗ var 2)) tt
 
@@ -36,7 +29,7 @@ module _ (n e x : ℤ) (from : pos 1 ≤ℤ n) (most : n ≤ℤ UNIT) (sign : Is
   unit_within : IsWithin 1 e
   unit_within = by sign
     where
-      by : IsUnit e → IsWithin 1 e
+      by : IsSign e → IsWithin 1 e
       by (inl is) = record { most = omega (arith, ints, is) }
       by (inr is) = record { most = omega (arith, ints, is) }
 
@@ -47,7 +40,7 @@ module _ (n e x : ℤ) (from : pos 1 ≤ℤ n) (most : n ≤ℤ UNIT) (sign : Is
       let m = w.most in
       omega (arith, ints, m)
 
-module _ (g : Listing) (r : Vector) (n e : ℤ) (repeat : IsRepeat g r n) (sign : IsUnit e) where
+module _ (g : Listing) (r : Vector) (n e : ℤ) (repeat : IsRepeat g r n) (sign : IsSign e) where
   abbrev pub a : Vector
   a = along_lines r (e *ℤ n)
 
@@ -64,7 +57,7 @@ module _ (g : Listing) (r : Vector) (n e : ℤ) (repeat : IsRepeat g r n) (sign 
       twice : (q : ℤ) → q *ℤ n ≡ q *ℤ e *ℤ (e *ℤ n)
       twice q =
           linear (q ∷ n ∷ e ∷ []) (var 0 ⊗ var 1) (var 0 ⊗ var 2 ⊗ (var 2 ⊗ var 1)) (given (num (pos 0) ⊝ var 0 ⊗ var 1) (var 2 ⊗ var 2) (num (pos 1)) ∷ []) tt
-          (unit_squared e sign, tt)
+          (sign-square e sign, tt)
 
   pub a_forward : IsSense r e → IsWithin (unsigned_abs INDEX) r.x → IsWithin (unsigned_abs INDEX) r.y → IsForwardAlong g r a
   a_forward sense x_small y_small = record {

@@ -1,8 +1,11 @@
 pub mod Along
-pub mod Counters
 pub mod Bases
+pub mod Counters
 pub mod Forward
+pub mod Halves
+pub mod LineFacts
 pub mod Listed
+pub mod MirroredMeans
 pub mod Points
 pub mod Quotients
 pub mod Reducing

@@ -7,6 +7,8 @@ use Rattle.closure.specs.Groups.{group_listing}
 use Rattle.line_frames.specs.Searches.{along_lines, IsForwardAlong, IsFirstAbove}
 use Rattle.line_frames.proofs.Bases.{basis, frame}
 use Rattle.line_frames.proofs.Forward.{a_forward}
+use Rattle.line_frames.proofs.LineFacts.{line_frame}
+use Rattle.line_frames.proofs.MirroredMeans.{image_tau}
 use Rattle.line_frames.proofs.frame.line_frame.Goals as goal
 
 pub first_above-tau-requires-clause-a : goal.first_above-tau-requires-clause-a
@@ -30,4 +32,4 @@ pub invariant_of-result : goal.invariant_of-result
 invariant_of-result c = ?
 
 pub returns : goal.returns
-returns c g of = let f = frame in ?
+returns c g of = let f = frame in let l = line_frame in let k = image_tau in ?
