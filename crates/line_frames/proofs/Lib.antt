@@ -1,3 +1,4 @@
+pub mod AlikeLines
 pub mod Along
 pub mod Bases
 pub mod Counters
@@ -5,6 +6,7 @@ pub mod Forward
 pub mod Halves
 pub mod LineFacts
 pub mod Listed
+pub mod MadeFrames
 pub mod MirroredMeans
 pub mod Points
 pub mod Quotients
@@ -12,3 +14,4 @@ pub mod Reducing
 pub mod Repeats
 pub mod Senses
 pub mod Sizes
+pub mod TauSizes
