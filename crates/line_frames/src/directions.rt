@@ -27,11 +27,13 @@ pub(crate) fn sense(plane: &Miller) -> i64
     ensures sign { (result ≡ pos 1) ⊎ (result ≡ negsuc 0) }
     ensures forward { IsSense (row_of plane.now) result }
 {
-    if plane.k > 0 || (plane.k == 0 && plane.h < 0) {
-        1
-    } else {
-        -1
+    if plane.k > 0 {
+        return 1;
     }
+    if plane.k < 0 {
+        return -1;
+    }
+    if plane.h < 0 { 1 } else { -1 }
 }
 
 /// The least n from 1 on for which n (k, -h), counted in parts, is a translation.

@@ -7,7 +7,7 @@ ghost use Rattle.line_frames.specs.Lines.{IsFlatGroup};
 
 use crate::directions::{along_lines, repeat_along, sense};
 use crate::means::mean;
-use crate::members::first_above;
+use crate::members::{first_above, height_of};
 use closure::Group;
 use fractions::{Part, UNIT};
 use motions::Miller;
@@ -30,7 +30,7 @@ pub fn line_frame(group: &Group, plane: Miller) -> Frame
     let a = along_lines(&plane, sense * repeat_along(group, &plane));
     let b = [Part(0), Part(0), Part(-sense * UNIT)];
     let tau = first_above(group, &plane, &a);
-    let period = Part(plane.h * tau[0].0 + plane.k * tau[1].0);
+    let period = height_of(&plane, &tau);
     let c = mean(group.ops(), &plane, &tau);
     Frame {
         plane,

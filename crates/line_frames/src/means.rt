@@ -1,5 +1,5 @@
 // The vector c', the mean of e W tau over the scanning operations.
-ghost use Rattle.std.specs.Prelude.{◌≡◌, ◌+ℤ◌, ◌*ℤ◌, pos, All, IfSome, MatchOption, map};
+ghost use Rattle.std.specs.Prelude.{◌≡◌, ◌↔◌, ◌+ℤ◌, ◌*ℤ◌, pos, All, IfSome, IsTrue, MatchOption, map};
 ghost use Rattle.fractions.specs.Fraction.{SameFraction};
 ghost use Rattle.fractions.specs.FractionOf.{fraction_of};
 ghost use Rattle.fractions.specs.declared.part.TheConstants.{UNIT};
@@ -41,6 +41,13 @@ fn opposite(v: &[Part; 3]) -> [Part; 3]
     [Part(-v[0].0), Part(-v[1].0), Part(-v[2].0)]
 }
 
+/// Whether two vectors are equal.
+fn is_same(v: &[Part; 3], w: &[Part; 3]) -> bool
+    ensures { IsTrue result ↔ (parts v.now ≡ parts w.now) }
+{
+    v[0] == w[0] && v[1] == w[1] && v[2] == w[2]
+}
+
 /// The first vector e W tau that is not tau; tau, where there is none.
 fn other_up(ops: &[Motion3], plane: &Miller, tau: &[Part; 3]) -> [Part; 3]
     requires operations { All IsSmall (map motion_of ops.now) }
@@ -50,7 +57,7 @@ fn other_up(ops: &[Motion3], plane: &Miller, tau: &[Part; 3]) -> [Part; 3]
 {
     for m in ops {
         if let Some(up) = up_by(m, plane, tau) {
-            if up != *tau {
+            if !is_same(&up, tau) {
                 return up;
             }
         }

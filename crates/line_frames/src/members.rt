@@ -1,11 +1,13 @@
 // Translations from one line to another.
-ghost use Rattle.std.specs.Prelude.{◌≡◌, ◌≢◌, ◌*◌, ◌*ℤ◌, ◌^◌, ℤ, pos, MatchOption, unsigned_abs};
+ghost use Rattle.std.specs.Prelude.{◌≡◌, ◌≢◌, ◌*◌, ◌*ℤ◌, ◌^◌, ◌≤ℤ◌, ℤ, pos, MatchOption, unsigned_abs};
 ghost use Rattle.fractions.specs.declared.part.TheConstants.{UNIT};
 ghost use Rattle.integers.specs.Size.{IsWithin};
-ghost use Rattle.symmetry.specs.Vectors.{Vector};
+ghost use Rattle.symmetry.specs.Sizes.{IsVectorWithin};
+ghost use Rattle.symmetry.specs.Vectors.{Vector, dot};
 ghost use Rattle.motions.specs.Views.{parts, row_of};
 ghost use Rattle.motions.specs.declared.index.TheConstants.{INDEX};
 ghost use Rattle.closure.specs.Groups.{group_listing};
+ghost use Rattle.plane_lattice.specs.Bounds.{largest_entry};
 ghost use Rattle.line_frames.specs.Searches.{coordinate, IsAt, IsFirstAbove, IsForwardAlong, IsPointAt, IsReducedAt};
 
 use closure::Group;
@@ -19,12 +21,21 @@ fn quotient(num: i64, den: i64) -> Option<i64>
     requires den_small { IsWithin (2 ^ 32) den }
     ensures { MatchOption result ((q : ℤ) → ¬ (den *ℤ q ≡ num)) (λ q. den *ℤ q ≡ num) }
 {
-    let quotient = if den > 0 {
-        whole_quotient(num as i128, den as i128)
-    } else {
-        whole_quotient(-(num as i128), -(den as i128))
-    };
-    Some(quotient? as i64)
+    if den < 0 {
+        return quotient_by_positive(-num, -den);
+    }
+    quotient_by_positive(num, den)
+}
+
+/// The same, by a positive number.
+fn quotient_by_positive(num: i64, den: i64) -> Option<i64>
+    requires den { pos 1 ≤ℤ den }
+    requires small { IsWithin (2 ^ 32) num }
+    requires den_small { IsWithin (2 ^ 32) den }
+    ensures { MatchOption result ((q : ℤ) → ¬ (den *ℤ q ≡ num)) (λ q. den *ℤ q ≡ num) }
+{
+    let quotient = whole_quotient(num as i128, den as i128)?;
+    Some(quotient as i64)
 }
 
 /// The first coordinate in which (k, -h) is not 0.
@@ -32,6 +43,16 @@ fn coordinate(plane: &Miller, v: &[Part; 3]) -> i64
     ensures { result ≡ coordinate (row_of plane.now) (parts v.now) }
 {
     if plane.k == 0 { v[1].0 } else { v[0].0 }
+}
+
+/// The number (hk).v of parts.
+#[tactic(auto, unfolding(symmetry::specs::Vectors::dot))]
+pub(crate) fn height_of(plane: &Miller, v: &[Part; 3]) -> Part
+    requires line { plane.now.l ≡ pos 0 }
+    requires vector { IsVectorWithin largest_entry (parts v.now) }
+    ensures { result.0 ≡ dot (row_of plane.now) (parts v.now) }
+{
+    Part(plane.h * v[0].0 + plane.k * v[1].0)
 }
 
 /// The vector of the plane at the height d with the coordinate t. None comes exactly where there is none.
