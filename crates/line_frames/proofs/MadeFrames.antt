@@ -24,7 +24,8 @@ use Rattle.plane_lattice.specs.Coordinates.{vectors}
 use Rattle.plane_lattice.specs.Scanning.{scanning_ops, IsPointOf}
 use Rattle.plane_lattice.proofs.ScanningFacts.{scanning_ops_are, some_scanning}
 use Rattle.line_frames.specs.LineFrames.{third_edge}
-use Rattle.line_frames.specs.Lines.{first_two, IsFlatGroup, IsLineFrame}
+use Rattle.line_frames.specs.Lines.{first_two, IsLineFrame}
+use Rattle.plane_groups.specs.PlaneGroups.{IsFlatGroup}
 use Rattle.line_frames.specs.Searches.{along_lines, IsFirstAbove, IsForwardAlong, IsMeanUp, IsRepeat, IsSense}
 use Rattle.line_frames.proofs.Bases.{across, frame}
 use Rattle.line_frames.proofs.Forward.{a_forward}

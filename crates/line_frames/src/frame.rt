@@ -3,7 +3,7 @@ ghost use Rattle.std.specs.Prelude.{◌≡◌, pos};
 ghost use Rattle.symmetry.specs.Groups.{Listing};
 ghost use Rattle.closure.specs.Groups.{group_listing, IsGroupOf};
 ghost use Rattle.line_frames.specs.LineFrames.{IsLineFrameOf};
-ghost use Rattle.line_frames.specs.Lines.{IsFlatGroup};
+ghost use Rattle.plane_groups.specs.PlaneGroups.{IsFlatGroup};
 
 use crate::directions::{along_lines, repeat_along, sense};
 use crate::means::mean;

@@ -15,7 +15,7 @@ use Rattle.closure.specs.Groups.{IsGroupOf, group_listing}
 use Rattle.closure.specs.declared.group.Group.{Group}
 use Rattle.plane_motions.specs.PlaneMotions.{IsFlat}
 use Rattle.quotient.proofs.Firsts.{Contains-from_firsts}
-use Rattle.line_frames.specs.Lines.{IsFlatGroup}
+use Rattle.plane_groups.specs.PlaneGroups.{IsFlatGroup}
 
 abbrev pub IsWholeThird : Vector → Type 0
 IsWholeThird v = Divides (unsigned_abs UNIT) v.z

@@ -32,7 +32,8 @@ use Rattle.scanning.specs.ScanView.{scan_of}
 use Rattle.scanning.specs.declared.height.Height.{Height as CodeHeight}
 use Rattle.scanning.specs.declared.scan.Scan.{Scan}
 use Rattle.line_frames.specs.LineFrames.{IsLineFrameOf}
-use Rattle.line_frames.specs.Lines.{IsFlatGroup, first_two, in_space}
+use Rattle.line_frames.specs.Lines.{first_two, in_space}
+use Rattle.plane_groups.specs.PlaneGroups.{IsFlatGroup}
 use Rattle.line_scans.specs.Lines.{InAllLines, InLineStabiliser}
 use Rattle.line_scans.specs.LineLists.{IsLineList}
 use Rattle.line_scans.specs.LineOps.{AreLineMotions, IsLineOp, IsSectionOf, IsStep}

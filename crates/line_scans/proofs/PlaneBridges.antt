@@ -15,7 +15,8 @@ use Rattle.symmetry.proofs.MatrixLaws.{matrix_path}
 use Rattle.motions.specs.PlaneMatrices.{Pair, dot2, image2, minus2, plus2}
 use Rattle.plane_lattice.proofs.FrameTestFacts.{lattice-multiple}
 use Rattle.plane_motions.specs.PlaneMotions.{IsFlat, PlaneMotion, plane_block}
-use Rattle.line_frames.specs.Lines.{IsFlatGroup, IsInPlaneLattice, first_two, in_space, times2}
+use Rattle.line_frames.specs.Lines.{IsInPlaneLattice, first_two, in_space, times2}
+use Rattle.plane_groups.specs.PlaneGroups.{IsFlatGroup}
 use Rattle.line_scans.specs.Lines.{InAllLines, InLineStabiliser, IsOnLine, IsPlaneMember, IsSameInPlane, IsSpecialLine, KeepsLine, PlanePoint, moved2}
 
 -- ---- points

@@ -11,7 +11,8 @@ ghost use Rattle.motions.specs.PlaneMatrices.{Pair};
 ghost use Rattle.closure.specs.Groups.{IsGroupOf, group_listing};
 ghost use Rattle.closure.specs.declared.group.Group.{Group};
 ghost use Rattle.plane_motions.specs.PlaneMotions.{IsFlat, PlaneMotion, plane_block};
-ghost use Rattle.line_frames.specs.Lines.{IsFlatGroup, first_two, in_space};
+ghost use Rattle.line_frames.specs.Lines.{first_two, in_space};
+ghost use Rattle.plane_groups.specs.PlaneGroups.{IsFlatGroup};
 ghost use Rattle.line_scans.specs.Lines.{InAllLines, InLineStabiliser, IsOnLine, IsPlaneMember, IsSpecialLine, KeepsLine};
 
 /// The point (X,Y,Z) over n lies on the plane (h k 0) of a height exactly where (X,Y) over n lies on the line of it. A motion

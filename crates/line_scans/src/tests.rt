@@ -5,7 +5,7 @@ ghost use Rattle.motions.specs.Views.{motion_of};
 ghost use Rattle.closure.specs.Groups.{group_listing};
 ghost use Rattle.closure.specs.declared.limits.TheConstants.{MAX_ENTRY};
 ghost use Rattle.plane_motions.specs.PlaneMotions.{IsFlat};
-ghost use Rattle.line_frames.specs.Lines.{IsFlatGroup};
+ghost use Rattle.plane_groups.specs.PlaneGroups.{IsFlatGroup};
 
 use crate::make::lines;
 use crate::scan::{LineHeight, LineScan};

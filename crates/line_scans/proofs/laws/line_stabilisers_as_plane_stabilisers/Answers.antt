@@ -1,6 +1,6 @@
 use Rattle.symmetry.specs.Groups.{Listing}
 use Rattle.symmetry.proofs.Alike.{alike_refl}
-use Rattle.line_frames.specs.Lines.{IsFlatGroup}
+use Rattle.plane_groups.specs.PlaneGroups.{IsFlatGroup}
 use Rattle.line_scans.proofs.PlaneBridges.{IsFlatModulo, all_by_lines, block_member, flat_modulo, special_by_line, stabiliser_by_line}
 use Rattle.line_scans.proofs.laws.line_stabilisers_as_plane_stabilisers.Goals as goal
 
