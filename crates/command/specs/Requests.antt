@@ -8,6 +8,7 @@ use Rattle.command.specs.At.{at_words}
 use Rattle.command.specs.Slabs.{slab_words}
 use Rattle.command.specs.Layers.{layers_words}
 use Rattle.command.specs.Images.{images_words}
+use Rattle.command.specs.Surveys.{survey_words}
 use Rattle.command.specs.Rods.{rod_words}
 use Rattle.command.specs.Lines.{lines_words}
 use Rattle.command.specs.Types.{types_words}
@@ -21,6 +22,7 @@ command_words (name ∷ arguments) =
     if bytes_eq name (codes "slab") then slab_words arguments else
     if bytes_eq name (codes "layers") then layers_words arguments else
     if bytes_eq name (codes "images") then images_words arguments else
+    if bytes_eq name (codes "survey") then survey_words arguments else
     if bytes_eq name (codes "rod") then rod_words arguments else
     if bytes_eq name (codes "lines") then lines_words arguments else
     if bytes_eq name (codes "types") then types_words arguments else

@@ -15,6 +15,7 @@ mod rod;
 mod run;
 mod samples;
 mod slab;
+mod survey;
 #[cfg(test)]
 mod tests;
 mod types;

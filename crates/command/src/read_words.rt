@@ -11,6 +11,7 @@ use crate::lines::read_lines;
 use crate::rod::read_rod;
 use crate::samples::read_sample;
 use crate::slab::read_slab;
+use crate::survey::read_survey;
 use crate::types::read_types;
 use requests::{Refusal, Request};
 
@@ -25,6 +26,7 @@ fn read_command(words: &[String]) -> Option<Result<Request, Refusal>>
             "slab" => read_slab(arguments),
             "layers" => read_layers(arguments),
             "images" => read_images(arguments),
+            "survey" => read_survey(arguments),
             "rod" => read_rod(arguments),
             "lines" => read_lines(arguments),
             "types" => read_types(arguments),

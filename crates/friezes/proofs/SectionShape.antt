@@ -21,11 +21,11 @@ some_motion : LineOp
 some_motion = record { f = Plus; e = Plus; t = pos 0 }
 
 -- a motion of the list is an operation of its meanings, and the other way round
-contains_line : (list : List LineOp) (m : LineOp) → Contains list m → Contains (map line_of list) (line_of m)
+pub contains_line : (list : List LineOp) (m : LineOp) → Contains list m → Contains (map line_of list) (line_of m)
 contains_line list m (k, within, is) =
     (k, subst (λ l. k < l) (sym (length-map list line_of)) within, get_or-map line_of list k m (line_of m) within ∙ ap line_of is)
 
-motion_of_line : (list : List LineOp) (o : FriezeOperation) → Contains (map line_of list) o → (m : LineOp) × Contains list m × (line_of m ≡ o)
+pub motion_of_line : (list : List LineOp) (o : FriezeOperation) → Contains (map line_of list) o → (m : LineOp) × Contains list m × (line_of m ≡ o)
 motion_of_line list o (k, within, is) =
     let below : k < length list = subst (λ l. k < l) (length-map list line_of) within in
     let m = slice_index_or list k some_motion in

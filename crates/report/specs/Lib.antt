@@ -10,6 +10,7 @@ pub mod SectionTypes
 pub mod SectionView
 pub mod Shown
 pub mod SlabTexts
+pub mod SurveyTexts
 pub mod SmallHeights
 pub mod Texts
 pub mod TypeNumbers

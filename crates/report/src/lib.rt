@@ -1,9 +1,9 @@
 // What the programs write: the operations at a height, those of a slab, the report of an orientation of planes, the images of
-// an orientation, the rod along a line, the types, and the line of a frame.
+// an orientation, the survey of a group, the rod along a line, the types, and the line of a frame.
 //
-// Promises to the crates above: `at_text`, `slab_text`, `images_text`, `rod_text`, `type_text` and `frame_line` write exactly
-// these texts; `Report::make` gives the report of a group in a frame, `Report::text` writes its text, and `Report::json` its
-// JSON. `report_says` is what a report says of every height, and `rod_says` what a rod says of its line.
+// Promises to the crates above: `at_text`, `slab_text`, `images_text`, `survey_text`, `rod_text`, `type_text` and `frame_line`
+// write exactly these texts; `Report::make` gives the report of a group in a frame, `Report::text` writes its text, and
+// `Report::json` its JSON. `report_says` is what a report says of every height, and `rod_says` what a rod says of its line.
 #![tactic(auto)]
 
 mod at;
@@ -29,6 +29,7 @@ mod rod_tests;
 mod rods;
 mod section;
 mod slab;
+mod survey;
 #[cfg(test)]
 mod tests;
 mod text;
@@ -44,4 +45,5 @@ pub use report::Report;
 pub use rods::rod_text;
 pub use section::{HeightSection, Section};
 pub use slab::slab_text;
+pub use survey::survey_text;
 pub use types::type_text;

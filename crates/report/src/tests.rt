@@ -1,12 +1,40 @@
 // Worked texts, by hand.
-use super::{Kind, images_text, type_text};
+use super::{Kind, images_text, survey_text, type_text};
+use motions::Miller;
 use std::alloc::AllocError;
+use std::test::Fail;
+use surveys::Surveyed;
 
 #[test]
 fn the_images_of_a_face_of_a_fourfold_axis(rt: HostRuntime) -> Result<(), AllocError> {
     let images = [[1, 0, 0], [-1, 0, 0], [0, -1, 0], [0, 1, 0]];
     let text = images_text(rt.alloc(), &images)?;
     let expected = "image 1 0 0\nimage -1 0 0\nimage 0 -1 0\nimage 0 1 0\nend\n";
+    assert_eq!(rt; text.as_slice(), expected.as_bytes());
+    Ok(())
+}
+
+#[test]
+fn the_faces_of_a_cube_in_three_classes(rt: HostRuntime) -> Result<(), Fail> {
+    let list = [
+        Surveyed {
+            plane: Miller::make(1, 1, 1)?,
+            images: 8,
+            special: 2,
+        },
+        Surveyed {
+            plane: Miller::make(1, 1, 0)?,
+            images: 12,
+            special: 2,
+        },
+        Surveyed {
+            plane: Miller::make(1, 0, 0)?,
+            images: 6,
+            special: 2,
+        },
+    ];
+    let text = survey_text(rt.alloc(), &list)?;
+    let expected = "plane 1 1 1 images 8 special 2\nplane 1 1 0 images 12 special 2\nplane 1 0 0 images 6 special 2\nend\n";
     assert_eq!(rt; text.as_slice(), expected.as_bytes());
     Ok(())
 }

@@ -12,5 +12,6 @@ pub mod GroupAnswers
 mod SlabAnswers
 pub mod Reading
 mod InputGroups
+mod PlaneGroups
 pub mod Pieces
 pub mod RunFacts

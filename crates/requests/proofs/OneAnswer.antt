@@ -11,7 +11,7 @@ use Rattle.requests.specs.declared.format.Format.{Format}
 use Rattle.requests.specs.declared.refusal.Refusal.{Refusal}
 use Rattle.requests.specs.declared.obstacle.Obstacle.TheVariants as obstacles
 use Rattle.requests.specs.Obstacles.{IsFairFrame, RefusesFrame, refusal_of_frame}
-use Rattle.requests.specs.Questions.{Asked, Question, at_height, between_heights, all_heights, image_rows, along_line, all_lines, IsRequest, IsWordsRefusal}
+use Rattle.requests.specs.Questions.{Asked, Question, at_height, between_heights, all_heights, image_rows, survey_within, along_line, all_lines, IsRequest, IsWordsRefusal}
 use Rattle.requests.specs.Inputs.{obstacle_of}
 use Rattle.requests.specs.Answers.{Answers, AnswersInput, IsFair, IsFairInput, RefusesInput, RefusesQuestion}
 use Rattle.requests.proofs.OneCause.{no_group_and_cause, one_cause}
@@ -43,6 +43,7 @@ one_question_refusal g (at_height row basis s) r r' p q = one_frame_refusal g ro
 one_question_refusal g (between_heights row basis low high) r r' p q = one_frame_refusal g row basis r r' p q
 one_question_refusal g (all_heights row basis form) r r' p q = one_frame_refusal g row basis r r' p q
 one_question_refusal g (image_rows row) r r' p q = p.1 ∙ sym q.1
+one_question_refusal g (survey_within n) r r' p q = absurd p
 one_question_refusal g (along_line u a b point) r r' p q = one_rod_refusal g u a b r r' p q
 one_question_refusal g (all_lines row) r r' p q = absurd p
 
@@ -51,6 +52,7 @@ fair_and_question_refusal g (at_height row basis s) r fair p = frame_holds g row
 fair_and_question_refusal g (between_heights row basis low high) r fair p = frame_holds g row basis p.0 fair p.1
 fair_and_question_refusal g (all_heights row basis form) r fair p = frame_holds g row basis p.0 fair p.1
 fair_and_question_refusal g (image_rows row) r fair p = fair p.0
+fair_and_question_refusal g (survey_within n) r fair p = p
 fair_and_question_refusal g (along_line u a b point) r fair p = rod_frame_holds g u a b p.0 fair p.1
 fair_and_question_refusal g (all_lines row) r fair p = p
 
@@ -60,6 +62,7 @@ answered_fair g (at_height row basis s) text answer = answer.frame
 answered_fair g (between_heights row basis low high) text answer = answer.frame
 answered_fair g (all_heights row basis form) text answer = answer.frame
 answered_fair g (image_rows row) text answer = answer.not_wide
+answered_fair g (survey_within n) text answer = tt
 answered_fair g (along_line u a b point) text answer = answered_rod_fair g u a b point text answer
 answered_fair g (all_lines row) text answer = tt
 

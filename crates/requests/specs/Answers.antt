@@ -9,13 +9,14 @@ use Rattle.sample.specs.declared.counts.Counts.{Counts}
 use Rattle.requests.specs.declared.format.Format.{Format}
 use Rattle.requests.specs.declared.refusal.Refusal.{Refusal}
 use Rattle.requests.specs.declared.refusal.Refusal.TheVariants.{Wide}
-use Rattle.requests.specs.Questions.{Asked, Question, Table, about, tabulate, at_height, between_heights, all_heights, image_rows, along_line, all_lines, of_type, of_sample}
+use Rattle.requests.specs.Questions.{Asked, Question, Table, about, tabulate, at_height, between_heights, all_heights, image_rows, survey_within, along_line, all_lines, of_type, of_sample}
 use Rattle.requests.specs.Obstacles.{IsFairFrame, RefusesFrame}
 use Rattle.requests.specs.Inputs.{IsRefusedInput, IsShort, ListsGroup, ListsSome}
 use Rattle.requests.specs.At.{IsHeightAnswer}
 use Rattle.requests.specs.Slabs.{IsSlabAnswer}
 use Rattle.requests.specs.Layers.{IsReportAnswer}
 use Rattle.requests.specs.Images.{IsImagesAnswer}
+use Rattle.requests.specs.Surveys.{IsSurveyAnswer}
 use Rattle.requests.specs.Rods.{IsFairRod, IsRodAnswer, RefusesRod}
 use Rattle.requests.specs.PlaneLines.{IsLinesAnswer}
 
@@ -27,15 +28,17 @@ Answers g (at_height row basis s) text = IsHeightAnswer g row basis s text
 Answers g (between_heights row basis low high) text = IsSlabAnswer g row basis low high text
 Answers g (all_heights row basis form) text = IsReportAnswer g row basis form text
 Answers g (image_rows row) text = IsImagesAnswer g row text
+Answers g (survey_within n) text = IsSurveyAnswer g n text
 Answers g (along_line u a b p) text = IsRodAnswer g u a b p text
 Answers g (all_lines row) text = IsLinesAnswer g row text
 
--- the question may be asked of the group
+-- the question may be asked of the group: a survey always
 abbrev pub IsFair : Listing → Question → Type 0
 IsFair g (at_height row basis s) = IsFairFrame g row basis
 IsFair g (between_heights row basis low high) = IsFairFrame g row basis
 IsFair g (all_heights row basis form) = IsFairFrame g row basis
 IsFair g (image_rows row) = ¬ IsWide g row
+IsFair g (survey_within n) = Unit {0}
 IsFair g (along_line u a b p) = IsFairRod g u a b
 IsFair g (all_lines row) = Unit {0}
 
@@ -45,6 +48,7 @@ RefusesQuestion g (at_height row basis s) refusal = RefusesFrame g row basis ref
 RefusesQuestion g (between_heights row basis low high) refusal = RefusesFrame g row basis refusal
 RefusesQuestion g (all_heights row basis form) refusal = RefusesFrame g row basis refusal
 RefusesQuestion g (image_rows row) refusal = IsWide g row × (refusal ≡ Wide)
+RefusesQuestion g (survey_within n) refusal = ⊥
 RefusesQuestion g (along_line u a b p) refusal = RefusesRod g u a b refusal
 RefusesQuestion g (all_lines row) refusal = ⊥
 

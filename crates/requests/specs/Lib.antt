@@ -10,6 +10,7 @@ pub mod At
 pub mod Slabs
 pub mod Layers
 pub mod Images
+pub mod Surveys
 pub mod Rods
 pub mod PlaneLines
 pub mod Inputs

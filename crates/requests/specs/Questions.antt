@@ -1,5 +1,5 @@
 -- What is asked.
-use Rattle.std.specs.Prelude.{◌≡◌, ◌≤◌, ℕ, pos, Result, Ok, Err}
+use Rattle.std.specs.Prelude.{◌≡◌, ◌≤◌, ℕ, ℤ, pos, ◌≤ℤ◌, Result, Ok, Err}
 use Rattle.fractions.specs.Fraction.{Fraction}
 use Rattle.symmetry.specs.Vectors.{Vector}
 use Rattle.symmetry.specs.Frames.{Basis}
@@ -13,13 +13,15 @@ use Rattle.requests.specs.declared.refusal.Refusal.{Refusal}
 use Rattle.requests.specs.Limits.{IsHeightInRange}
 use Rattle.requests.specs.SlabLimits.{IsSlabInRange}
 
--- what is asked of a group: the operations at one height, those of a slab, those at all heights, the images of an orientation,
--- the operations along a line through a point, or those of all lines (h k 0) of a plane group
+-- what is asked of a group: the operations at one height, those of a slab, those at all heights, the images of an orientation, the
+-- survey of the orientations with indices at most n in size, the operations along a line through a point, or those of all lines
+-- (h k 0) of a plane group
 pub data Question : Type 0 where
   at_height : (row : Vector) (basis : Basis) (height : Fraction) → Question
   between_heights : (row : Vector) (basis : Basis) (low high : Fraction) → Question
   all_heights : (row : Vector) (basis : Basis) (form : Form) → Question
   image_rows : (row : Vector) → Question
+  survey_within : (n : ℤ) → Question
   along_line : (direction a b point : Vector) → Question
   all_lines : (row : Vector) → Question
 
@@ -33,10 +35,16 @@ pub data Asked : Type 0 where
   about : (format : Format) (question : Question) → Asked
   tabulate : (table : Table) → Asked
 
--- the height is within its limits, or those of the slab, or each coordinate of the point; a line of a plane group has two indices
+-- the size of a survey is 1 to 5
+abbrev pub IsSurveyInRange : ℤ → Type 0
+IsSurveyInRange n = (pos 1 ≤ℤ n) × (n ≤ℤ pos 5)
+
+-- the height is within its limits, or those of the slab, or the size of the survey, or each coordinate of the point; a line of a plane
+-- group has two indices
 abbrev pub IsQuestionInRange : Question → Type 0
 IsQuestionInRange (at_height row basis height) = IsHeightInRange height
 IsQuestionInRange (between_heights row basis low high) = IsSlabInRange low high
+IsQuestionInRange (survey_within n) = IsSurveyInRange n
 IsQuestionInRange (along_line direction a b point) = IsVectorWithin largest_entry point
 IsQuestionInRange (all_lines row) = row.z ≡ pos 0
 IsQuestionInRange _ = Unit {0}

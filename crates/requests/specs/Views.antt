@@ -23,7 +23,7 @@ use Rattle.requests.specs.declared.request.Request.TheVariants as requests
 use Rattle.requests.specs.Words.{Fractions, FrameWords, Indices, Placed}
 use Rattle.requests.specs.Limits.{PlaneWords, Planes}
 use Rattle.requests.specs.SlabLimits.{SlabWords}
-use Rattle.requests.specs.Questions.{Question, Table, Asked, at_height, between_heights, all_heights, image_rows, along_line, all_lines, of_type, of_sample, about, tabulate}
+use Rattle.requests.specs.Questions.{Question, Table, Asked, at_height, between_heights, all_heights, image_rows, survey_within, along_line, all_lines, of_type, of_sample, about, tabulate}
 
 -- a ratio, and the place behind it
 abbrev pub placed : Ratio × ℕ → Placed
@@ -64,6 +64,7 @@ question_of (questions.At plane basis s) = at_height (row_of plane) (basis_of ba
 question_of (questions.Slab plane basis low high) = between_heights (row_of plane) (basis_of basis) (fraction_of low) (fraction_of high)
 question_of (questions.Layers plane basis form) = all_heights (row_of plane) (basis_of basis) form
 question_of (questions.Images plane) = image_rows (row_of plane)
+question_of (questions.Survey n) = survey_within n
 question_of (questions.Rod direction basis point) = along_line (direction_of direction) (parts basis.a) (parts basis.b) (parts point)
 
 -- what a table asks

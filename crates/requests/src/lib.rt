@@ -27,6 +27,7 @@ mod rod_words;
 mod run;
 mod slab;
 mod slab_limits;
+mod survey;
 mod tables;
 mod words;
 

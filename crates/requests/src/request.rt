@@ -32,6 +32,10 @@ pub enum Question {
     Images {
         plane: Miller,
     },
+    /// One orientation of each class of equivalent ones, of those with indices at most `n` in size, which is 1 to 5.
+    Survey {
+        n: i64,
+    },
     /// The operations that map the line through the point to itself, and their rod type, in the rod frame given.
     Rod {
         direction: Direction,

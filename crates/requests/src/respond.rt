@@ -14,6 +14,7 @@ use crate::obstacle::Obstacle;
 use crate::request::Question;
 use crate::rod::along_line_text;
 use crate::slab::between_heights_text;
+use crate::survey::orientations_within_text;
 use closure::Group;
 use std::alloc::Global;
 
@@ -34,6 +35,7 @@ pub fn respond(alloc: Global, question: &Question, group: &Group) -> Result<Vec<
         } => between_heights_text(alloc, group, plane, basis, low, high),
         Question::Layers { plane, basis, form } => heights_text(alloc, group, plane, basis, form),
         Question::Images { plane } => orientations_text(alloc, group, plane),
+        Question::Survey { n } => orientations_within_text(alloc, group, n),
         Question::Rod {
             direction,
             basis,

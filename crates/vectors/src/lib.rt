@@ -18,6 +18,7 @@ mod reports;
 mod rods;
 mod samples;
 mod slabs;
+mod surveys;
 mod topic;
 mod types;
 mod unusual_reports;

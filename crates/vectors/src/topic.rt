@@ -2,7 +2,7 @@
 use crate::case::Case;
 use crate::{
     cif, generators, heights, images, refused_frames, refused_groups, refused_lines, refused_words,
-    reports, rods, samples, slabs, types, unusual_reports,
+    reports, rods, samples, slabs, surveys, types, unusual_reports,
 };
 
 /// What a case is about.
@@ -20,6 +20,8 @@ pub enum Topic {
     Generators,
     /// The images of an orientation.
     Images,
+    /// One orientation of each class of equivalent ones.
+    Surveys,
     /// What maps a line to itself, and lines that are refused.
     Rods,
     /// The operations of a type, by its number.
@@ -39,13 +41,14 @@ pub enum Topic {
 }
 
 /// Every topic.
-pub const TOPICS: [Topic; 14] = [
+pub const TOPICS: [Topic; 15] = [
     Topic::Heights,
     Topic::Slabs,
     Topic::Reports,
     Topic::UnusualReports,
     Topic::Generators,
     Topic::Images,
+    Topic::Surveys,
     Topic::Rods,
     Topic::Types,
     Topic::Samples,
@@ -67,6 +70,7 @@ pub fn cases(topic: Topic) -> &'static [Case] {
         Topic::UnusualReports => unusual_reports::all(),
         Topic::Generators => generators::all(),
         Topic::Images => images::all(),
+        Topic::Surveys => surveys::all(),
         Topic::Rods => rods::all(),
         Topic::Types => types::all(),
         Topic::Samples => samples::all(),

@@ -5,6 +5,7 @@ use Rattle.triplets.specs.Texts.{IsGroupText}
 use Rattle.requests.specs.declared.format.Format.TheVariants.{GroupText}
 use Rattle.requests.specs.Inputs.{IsShort}
 use Rattle.requests.proofs.InputGroups.{group_listed, group_generated}
+use Rattle.requests.proofs.PlaneGroups.{generated_in, made_in}
 use Rattle.requests.proofs.Reading.{generators_obstacle, group_obstacle}
 use Rattle.requests.proofs.input.group_of_text.Goals as goal
 
@@ -39,3 +40,11 @@ returns-in_ok-make-clause-group g c input is =
     let listing = listing_of c.in_ok-listed.listed in
     group_listed c.args.notation input c.in_ok-make.field-0 text.0 listing (subst (λ (b : Bool). IsGroupText c.args.notation input b listing) c.if-listed.false text.1)
     c.in_ok-make.ensures.limits c.in_ok-make.ensures.made
+
+pub returns-in_ok-generated-clause-flat : goal.returns-in_ok-generated-clause-flat
+returns-in_ok-generated-clause-flat g c =
+    generated_in c.args.notation (listing_of c.in_ok-listed.listed) c.in_ok-generated.field-0 c.in_ok-listed.ensures.flat c.in_ok-generated.ensures.listing
+
+pub returns-in_ok-make-clause-flat : goal.returns-in_ok-make-clause-flat
+returns-in_ok-make-clause-flat g c =
+    made_in c.args.notation (listing_of c.in_ok-listed.listed) c.in_ok-make.field-0 c.in_ok-listed.ensures.flat c.in_ok-make.ensures.made

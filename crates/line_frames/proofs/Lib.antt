@@ -1,0 +1,17 @@
+pub mod AlikeLines
+pub mod Along
+pub mod Bases
+pub mod Counters
+pub mod Forward
+pub mod Halves
+pub mod LineFacts
+pub mod Listed
+pub mod MadeFrames
+pub mod MirroredMeans
+pub mod Points
+pub mod Quotients
+pub mod Reducing
+pub mod Repeats
+pub mod Senses
+pub mod Sizes
+pub mod TauSizes

@@ -1,0 +1,2 @@
+pub mod OriginSizes
+pub mod TextLines

@@ -1,0 +1,11 @@
+use Rattle.std.proofs.Common.{◌∙◌, arith}
+use Rattle.std.specs.Prelude.{string_bytes}
+use Rattle.plane_motions.specs.PlaneMotions.{plane_of}
+use Rattle.line_reports.specs.LineTexts.{operation_line}
+use Rattle.line_reports.proofs.TextLines.{one_line_more}
+use Rattle.line_reports.proofs.lines.write_operations.Goals as goal
+
+pub loop-m-preserved : goal.loop-m-preserved
+loop-m-preserved c =
+    c.in_ok-write_operation.ensures
+    ∙ one_line_more operation_line plane_of (string_bytes c.args.text.now) (string_bytes c.loop-m.text) c.args.ops.now c.loop-m.m-index _ (omega arith) c.loop-m.invariant

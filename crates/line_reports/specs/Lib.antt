@@ -1,0 +1,3 @@
+pub mod LineOrigins
+pub mod LineTexts
+pub mod WrittenView

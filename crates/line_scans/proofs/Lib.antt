@@ -1,0 +1,15 @@
+pub mod FoundOps
+pub mod LineActions
+pub mod LineContexts
+pub mod LineGroups
+pub mod LineMeans
+pub mod LineOps
+pub mod LineStabilisers
+pub mod Multiples
+pub mod PlaneBridges
+pub mod SectionLists
+pub mod SectionTypes
+pub mod SpecialLines
+pub mod MadeLines
+pub mod FlatListings
+pub mod SmallLines

@@ -1,0 +1,84 @@
+-- Multiples of the first vector of a basis, as the code finds them.
+use Rattle.std.proofs.Common.{◌≡◌, ℕ, ◌*◌, ◌≤◌, ℤ, pos, ◌+ℤ◌, ◌*ℤ◌, ◌≤ℤ◌, [], ◌∷◌, nat_abs, FitsSigned, w64, sym, ap, subst, ◌∙◌, arith}
+use Rattle.std.specs.Int.{w128}
+use Rattle.std.proofs.lemmas.Int.{ints, to_z-of_z}
+use native.Mathlib.Decide.{dec_lt}
+use Rattle.integers.specs.Size.{IsWithin}
+use Rattle.integers.proofs.Coded.{again}
+use Rattle.integers.proofs.Ring.{abs-mul}
+use Rattle.integers.proofs.Solver.{Expr.{var, num, ◌⊕◌, ◌⊝◌, ◌⊗◌}, linear, given}
+use Rattle.symmetry.specs.Vectors.{Vector, cross, dot, multiple, plus}
+use Rattle.symmetry.specs.Frames.{Basis, combination}
+use Rattle.symmetry.specs.Sizes.{IsVectorWithin}
+use Rattle.symmetry.proofs.VectorLaws.{vector_path}
+use Rattle.plane_lattice.specs.Coordinates.{IsCombination, volume}
+use Rattle.plane_lattice.proofs.Cramer.{combination_once}
+use Rattle.plane_lattice.proofs.Wide.{wide}
+
+no_smaller : (p q : ℕ) → 1 ≤ q → p ≤ p * q
+no_smaller p q h = grind arith
+
+factor_within : (n : ℕ) (k x v : ℤ) → k *ℤ x ≡ v → IsWithin n v → 1 ≤ nat_abs x → IsWithin n k
+factor_within n k x v e within above =
+    let size : nat_abs k * nat_abs x ≡ nat_abs v = sym (abs-mul k x) ∙ ap nat_abs e in
+    let less = no_smaller (nat_abs k) (nat_abs x) above in
+    record { most = omega (arith, within.most, less, size) }
+
+-- x a
+abbrev only_a : ℤ → Vector
+only_a k = record { x = k; y = pos 0; z = pos 0 }
+
+multiple_of_first : (f : Basis) (k : ℤ) → combination f (only_a k) ≡ multiple k f.a
+unfolding plus multiple
+multiple_of_first f k = vector_path (entry k f.a.x f.b.x f.tau.x) (entry k f.a.y f.b.y f.tau.y) (entry k f.a.z f.b.z f.tau.z)
+  where
+    entry : (k x y z : ℤ) → k *ℤ x +ℤ pos 0 *ℤ y +ℤ pos 0 *ℤ z ≡ k *ℤ x
+    entry k x y z = omega (arith, ints)
+
+none_of_none : (f : Basis) → f.a.x ≡ pos 0 → f.a.y ≡ pos 0 → f.a.z ≡ pos 0 → volume f ≡ pos 0
+unfolding dot cross
+none_of_none f p q s =
+    linear (f.a.x ∷ f.a.y ∷ f.a.z ∷ f.b.x ∷ f.b.y ∷ f.b.z ∷ f.tau.x ∷ f.tau.y ∷ f.tau.z ∷ [])
+    ((var 1 ⊗ var 5 ⊝ var 2 ⊗ var 4) ⊗ var 6 ⊕ (var 2 ⊗ var 3 ⊝ var 0 ⊗ var 5) ⊗ var 7 ⊕ (var 0 ⊗ var 4 ⊝ var 1 ⊗ var 3) ⊗ var 8) (num (pos 0))
+    (given (var 4 ⊗ var 8 ⊝ var 5 ⊗ var 7) (var 0) (num (pos 0)) ∷ given (var 5 ⊗ var 6 ⊝ var 3 ⊗ var 8) (var 1) (num (pos 0))
+    ∷ given (var 3 ⊗ var 7 ⊝ var 4 ⊗ var 6) (var 2) (num (pos 0)) ∷ []) tt (p, (q, (s, tt)))
+
+module _ (f : Basis) (above : pos 1 ≤ℤ volume f) where
+  not_flat : ¬ (volume f ≡ pos 0)
+  not_flat e = absurd (omega (arith, ints, above, e))
+
+  -- a vector by which a is multiplied only by one number
+  pub first_once : (k l : ℤ) → multiple k f.a ≡ multiple l f.a → k ≡ l
+  first_once k l e =
+      ap (λ (c : Vector). c.x) (combination_once f not_flat (only_a k) (only_a l) (multiple_of_first f k ∙ e ∙ sym (multiple_of_first f l)))
+
+  module _ (v : Vector) (some : (k : ℤ) × (multiple k f.a ≡ v)) where
+    pub is_combination : IsCombination f v
+    is_combination = (only_a some.0, multiple_of_first f some.0 ∙ some.1)
+
+    pub first_is : (c : Vector) → combination f c ≡ v → multiple c.x f.a ≡ v
+    first_is c e =
+        let one : c ≡ only_a some.0 = combination_once f not_flat c (only_a some.0) (e ∙ sym some.1 ∙ sym (multiple_of_first f some.0)) in
+        ap (λ (k : Vector). multiple k.x f.a) one ∙ some.1
+
+    pub first_within : (n : ℕ) → IsVectorWithin n v → (c : Vector) → combination f c ≡ v → IsWithin n c.x
+    unfolding multiple
+    first_within n within c e =
+        let is = first_is c e in
+        elim (dec_lt 0 (nat_abs f.a.x)) [
+          | yes h ↦ factor_within n c.x f.a.x v.x (λ i. (is i).x) within.x h
+          | no x ↦ elim (dec_lt 0 (nat_abs f.a.y)) [
+            | yes h ↦ factor_within n c.x f.a.y v.y (λ i. (is i).y) within.y h
+            | no y ↦ elim (dec_lt 0 (nat_abs f.a.z)) [
+              | yes h ↦ factor_within n c.x f.a.z v.z (λ i. (is i).z) within.z h
+              | no z ↦ absurd (not_flat (none_of_none f (omega (arith, ints, x)) (omega (arith, ints, y)) (omega (arith, ints, z))))
+            ]
+          ]
+        ]
+
+-- a number that fits 64 bits goes through 128
+pub narrow_fits : (z : ℤ) → FitsSigned w128 z → FitsSigned w64 z → FitsSigned w64 (wide z)
+narrow_fits z f h = let P : ℤ → Type 0 = FitsSigned w64 in subst P (sym (to_z-of_z w128 z f)) h
+
+pub narrow_is : (z : ℤ) → FitsSigned w128 z → FitsSigned w64 z → again (wide z) ≡ z
+narrow_is z f h = ap again (to_z-of_z w128 z f) ∙ to_z-of_z w64 z h

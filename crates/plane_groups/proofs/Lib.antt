@@ -1,0 +1,2 @@
+mod Upright
+mod FlatGroups

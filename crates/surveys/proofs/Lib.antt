@@ -1,0 +1,13 @@
+pub mod Equivalence
+pub mod Divisors
+pub mod Greatest
+pub mod GreaterImages
+pub mod RowSizes
+pub mod Sets
+pub mod ImageLists
+pub mod ShiftLists
+pub mod LatticeNumbers
+pub mod SpecialCounts
+pub mod Digits
+pub mod PlacedPlanes
+pub mod PartialSurveys
