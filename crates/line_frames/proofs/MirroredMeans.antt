@@ -162,7 +162,7 @@ module _ (g : Listing) (r : Vector) (coprime : IsCoprime r) (line : r.z ≡ pos 
         let k = length ms in (
           s *ℤ y +ℤ z,
           (λ i. plus (up_is m keeps y is i) (rest i))
-          ∙ vector_path (more k (s *ℤ y) z tau.x a.x) (more k (s *ℤ y) z tau.y a.y) (more k (s *ℤ y) z tau.z a.z),
+              ∙ vector_path (more k (s *ℤ y) z tau.x a.x) (more k (s *ℤ y) z tau.y a.y) (more k (s *ℤ y) z tau.z a.z),
         )
       where
         more : (k : ℕ) (y z t x : ℤ) → t +ℤ y *ℤ x +ℤ (pos k *ℤ t +ℤ z *ℤ x) ≡ pos (suc k) *ℤ t +ℤ (y +ℤ z) *ℤ x

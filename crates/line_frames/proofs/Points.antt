@@ -38,8 +38,8 @@ module _ (r : Vector) (coprime : IsCoprime r) (line : r.z ≡ pos 0) where
   first_squared y =
       let (u, one) = unit_column r coprime in
       go r.x u.x (mul-eq-one u.x r.x (linear (r.x ∷ r.y ∷ r.z ∷ u.x ∷ u.y ∷ u.z ∷ []) (var 3 ⊗ var 0) (num (pos 1))
-        (given (num (pos 1)) (var 0 ⊗ var 3 ⊕ var 1 ⊗ var 4 ⊕ var 2 ⊗ var 5) (num (pos 1)) ∷ given (num (pos 0) ⊝ var 4) (var 1) (num (pos 0)) ∷ given (num (pos 0) ⊝ var 5) (var 2) (num (pos 0)) ∷ [])
-        tt (one, (y, (line, tt)))))
+      (given (num (pos 1)) (var 0 ⊗ var 3 ⊕ var 1 ⊗ var 4 ⊕ var 2 ⊗ var 5) (num (pos 1)) ∷ given (num (pos 0) ⊝ var 4) (var 1) (num (pos 0)) ∷ given (num (pos 0) ⊝ var 5) (var 2) (num (pos 0)) ∷ [])
+      tt (one, (y, (line, tt)))))
     where
       go : (x u : ℤ) → (x ≡ pos 1) ⊎ (x ≡ negsuc 0) → x *ℤ x ≡ pos 1
       go x u (inl e) = λ i. e i *ℤ e i

@@ -57,9 +57,9 @@ pub returns-in_err-y : goal.returns-in_err-y
 returns-in_err-y c =
     let r = c.args.plane.now in
     rw c.from_residual.ensures (λ v p.
-      c.in_err-y.ensures v.y (ap (λ x. x *ℤ v.y) (by r.k r.h c.args.t c.args.d r.in_range.y r.in_range.x c.requires.t c.requires.d)
-      ∙ quotient_of_point (row_of r) r.coprime c.requires.line c.args.t c.args.d v (λ e. c.if-plane-eq0.false (ap (of_z w64) e)) p
-      ∙ sym (divided r.k r.h c.args.t c.args.d r.in_range.y r.in_range.x c.requires.t c.requires.d)))
+    c.in_err-y.ensures v.y (ap (λ x. x *ℤ v.y) (by r.k r.h c.args.t c.args.d r.in_range.y r.in_range.x c.requires.t c.requires.d)
+    ∙ quotient_of_point (row_of r) r.coprime c.requires.line c.args.t c.args.d v (λ e. c.if-plane-eq0.false (ap (of_z w64) e)) p
+    ∙ sym (divided r.k r.h c.args.t c.args.d r.in_range.y r.in_range.x c.requires.t c.requires.d)))
 
 pub returns : goal.returns
 returns c =
