@@ -1,5 +1,5 @@
 -- The group of a list of flat operations is a plane group.
-use Rattle.std.proofs.Common.{◌≡◌, inl, inr, zero, suc, ◌<◌, ℤ, pos, negsuc, ◌+ℤ◌, ◌*ℤ◌, List, [], length, map, refl, sym, ap, subst, ◌∙◌, arith}
+use Rattle.std.proofs.Common.{◌≡◌, inl, inr, zero, suc, ◌<◌, ℤ, pos, negsuc, ◌+ℤ◌, ◌*ℤ◌, List, [], length, map, refl, sym, subst, ◌∙◌, arith}
 use Rattle.std.specs.Prelude.{All, Contains, unsigned_abs}
 use Rattle.std.proofs.lemmas.List.{get_or-map, length-map}
 use Rattle.fractions.specs.declared.part.Part.{Part}

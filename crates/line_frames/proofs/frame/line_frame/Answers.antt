@@ -1,12 +1,10 @@
 -- The frame of the lines is made, and it is the frame by each listing of the group.
-use Rattle.std.proofs.Common.{map, sym, ap, subst, ◌∙◌, ℤ, pos, ◌≤ℤ◌, List, arith, refl}
+use Rattle.std.proofs.Common.{sym, ap, subst, pos, ◌≤ℤ◌, List, arith, refl}
 use Rattle.std.proofs.lemmas.Int.{ints}
-use Rattle.symmetry.specs.Frames.{IsPeriod}
 use Rattle.symmetry.specs.Motions.{Motion}
-use Rattle.symmetry.specs.Vectors.{Vector, dot}
-use Rattle.symmetry.proofs.Alike.{frame_from, period_from}
+use Rattle.symmetry.specs.Vectors.{Vector}
+use Rattle.symmetry.proofs.Alike.{frame_from}
 use Rattle.symmetry.proofs.AlikeScans.{scanning_from}
-use Rattle.symmetry.proofs.FrameLaws.{frame_period}
 use Rattle.motions.specs.Views.{parts, row_of}
 use Rattle.closure.specs.Groups.{group_listing}
 use Rattle.closure.proofs.OwnLattice.{own_fine}
@@ -15,9 +13,7 @@ use Rattle.plane_lattice.specs.Scanning.{scanning_ops}
 use Rattle.plane_lattice.proofs.FrameTestFacts.{frame_passes_tests, volume_positive}
 use Rattle.plane_lattice.proofs.LatticeTests.{edges_held, fine_as}
 use Rattle.plane_lattice.proofs.ScanningFacts.{scanning_ops_are}
-use Rattle.line_frames.specs.Lines.{first_two, IsLineFrame}
 use Rattle.line_frames.specs.Searches.{IsMeanUp}
-use Rattle.line_frames.proofs.AlikeLines.{line_frame_from}
 use Rattle.line_frames.proofs.MadeFrames.{line_frame_by, made_frame, made_mean, parts_forward, period_by, tau_small, third_across, third_parts, third_within}
 use Rattle.line_frames.proofs.frame.line_frame.Goals as goal
 
