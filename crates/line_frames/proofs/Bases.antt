@@ -6,7 +6,7 @@ use Rattle.fractions.specs.declared.part.TheConstants.{UNIT}
 use Rattle.integers.specs.Size.{Divides}
 use Rattle.integers.proofs.Division.{floor}
 use Rattle.integers.proofs.Solver.{Expr.{var, num, ◌⊕◌, ◌⊝◌, ◌⊗◌}, linear, given, ring}
-use Rattle.symmetry.specs.Vectors.{Vector, plus, minus, multiple, dot, cross}
+use Rattle.symmetry.specs.Vectors.{Vector, plus, multiple, dot, cross}
 use Rattle.symmetry.specs.Groups.{Listing, IsInLattice}
 use Rattle.symmetry.specs.Planes.{IsCoprime}
 use Rattle.symmetry.specs.Frames.{Basis, combination, IsFrame}

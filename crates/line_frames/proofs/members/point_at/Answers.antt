@@ -1,5 +1,5 @@
 -- By the index k, and where it is 0 by h.
-use Rattle.std.proofs.Common.{◌≡◌, ℕ, ◌*◌, ◌^◌, ℤ, pos, ◌-ℤ◌, ◌*ℤ◌, List, [], ◌∷◌, refl, sym, ap, subst, ◌∙◌, of_z, to_z, w64, lit<, lit≤}
+use Rattle.std.proofs.Common.{◌≡◌, ℕ, ◌*◌, ℤ, pos, ◌-ℤ◌, ◌*ℤ◌, List, [], ◌∷◌, refl, sym, ap, subst, ◌∙◌, of_z, to_z, w64, lit<, lit≤}
 use Rattle.std.specs.Prelude.{unsigned_abs}
 use Rattle.fractions.specs.declared.part.TheConstants.{UNIT}
 use Rattle.motions.specs.declared.index.TheConstants.{INDEX}
@@ -7,7 +7,7 @@ use Rattle.motions.specs.Views.{row_of}
 use Rattle.integers.specs.Size.{IsWithin}
 use Rattle.integers.proofs.Coded.{again, again_is, code_fits, code_is, bound, code_within, coded}
 use Rattle.integers.proofs.Ring.{IsWithin-more}
-use Rattle.integers.proofs.Solver.{Expr, Expr.{var, num, ◌⊝◌, ◌⊗◌}}
+use Rattle.integers.proofs.Solver.{Expr, Expr.{var, ◌⊝◌, ◌⊗◌}}
 use Rattle.line_frames.proofs.Points.{point_by_quotient, point_without_second, quotient_of_point}
 use Rattle.line_frames.proofs.Sizes.{factor_within}
 use Rattle.line_frames.proofs.members.point_at.Goals as goal
