@@ -4,7 +4,9 @@ ghost use Rattle.requests.specs.Questions.{IsAskedInRange, result_map};
 ghost use Rattle.requests.specs.Views.{asked_of, indices_of};
 ghost use Rattle.command.specs.Lines.{lines_asked, lines_words};
 
-use requests::{IndexWords, PlaneWords, Planes, Refusal, Request, split_two_indices, within_limits};
+use requests::{
+    IndexWords, PlaneWords, Planes, Refusal, Request, split_two_indices, within_limits,
+};
 
 /// What the words behind `lines` ask for, or the first limit that they pass: `h k`. The group is listed by pairs.
 pub fn read_lines(arguments: &[String]) -> Option<Result<Request, Refusal>>

@@ -1,5 +1,5 @@
 -- Listings of one group have one frame of the lines.
-use Rattle.std.proofs.Common.{◌≡◌, ℤ}
+use Rattle.std.proofs.Common.{ℤ}
 use Rattle.symmetry.specs.Groups.{Listing}
 use Rattle.symmetry.specs.Listings.{AreAlike}
 use Rattle.motions.specs.PlaneMatrices.{Pair}

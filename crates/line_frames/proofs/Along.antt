@@ -1,5 +1,5 @@
 -- Vectors along lines are whole multiples of (k,-h).
-use Rattle.std.proofs.Common.{◌≡◌, ℤ, pos, negsuc, ◌+ℤ◌, ◌-ℤ◌, ◌*ℤ◌, List, [], ◌∷◌, sym, ap, ◌∙◌, arith}
+use Rattle.std.proofs.Common.{◌≡◌, ℤ, pos, negsuc, ◌+ℤ◌, ◌-ℤ◌, ◌*ℤ◌, List, [], ◌∷◌, arith}
 use Rattle.std.proofs.lemmas.Int.{ints}
 use Rattle.integers.proofs.Solver.{Expr, Expr.{var, num, neg, ◌⊕◌, ◌⊝◌, ◌⊗◌}, linear, given, ring}
 use Rattle.symmetry.specs.Vectors.{Vector, plus, minus, multiple, dot}
@@ -46,11 +46,11 @@ module _ (r : Vector) (line : r.z ≡ pos 0) (coprime : IsCoprime r) where
       let of_v : Expr = row_by (var 6) (var 7) (var 8) in (
         u.y *ℤ v.x -ℤ u.x *ℤ v.y,
         vector_path
-        (linear (entries u v) (var 6) (m ⊗ var 1)
-        (given (neg (var 6)) of_u (num (pos 1)) ∷ given (var 3) of_v (num (pos 0)) ∷ given (var 6 ⊗ var 5 ⊝ var 3 ⊗ var 8) (var 2) (num (pos 0)) ∷ [])
-        tt (one, (along, (line, tt))))
-        (linear (entries u v) (var 7) (m ⊗ (num (pos 0) ⊝ var 0))
-        (given (neg (var 7)) of_u (num (pos 1)) ∷ given (var 4) of_v (num (pos 0)) ∷ given (var 7 ⊗ var 5 ⊝ var 4 ⊗ var 8) (var 2) (num (pos 0)) ∷ [])
-        tt (one, (along, (line, tt))))
-        flat,
+            (linear (entries u v) (var 6) (m ⊗ var 1)
+            (given (neg (var 6)) of_u (num (pos 1)) ∷ given (var 3) of_v (num (pos 0)) ∷ given (var 6 ⊗ var 5 ⊝ var 3 ⊗ var 8) (var 2) (num (pos 0)) ∷ [])
+            tt (one, (along, (line, tt))))
+            (linear (entries u v) (var 7) (m ⊗ (num (pos 0) ⊝ var 0))
+            (given (neg (var 7)) of_u (num (pos 1)) ∷ given (var 4) of_v (num (pos 0)) ∷ given (var 7 ⊗ var 5 ⊝ var 4 ⊗ var 8) (var 2) (num (pos 0)) ∷ [])
+            tt (one, (along, (line, tt))))
+            flat,
       )

@@ -6,7 +6,7 @@ use Rattle.fractions.specs.declared.part.TheConstants.{UNIT}
 use Rattle.integers.specs.Size.{Divides}
 use Rattle.integers.proofs.Division.{floor}
 use Rattle.integers.proofs.Solver.{Expr.{var, num, ◌⊕◌, ◌⊝◌, ◌⊗◌}, linear, given, ring}
-use Rattle.symmetry.specs.Vectors.{Vector, plus, minus, multiple, dot, cross}
+use Rattle.symmetry.specs.Vectors.{Vector, plus, multiple, dot, cross}
 use Rattle.symmetry.specs.Groups.{Listing, IsInLattice}
 use Rattle.symmetry.specs.Planes.{IsCoprime}
 use Rattle.symmetry.specs.Frames.{Basis, combination, IsFrame}
@@ -105,7 +105,7 @@ module _ (g : Listing) (r : Vector) (coprime : IsCoprime r) (line : r.z ≡ pos 
       let (p, m, is) = in_plane flat (lattice-minus g t (multiple q third_edge) inside (lattice-multiple g q third_edge (third_inside g))) (go_flat q t.z d.is) in (
         record { x = p; y = q *ℤ (pos 0 -ℤ e); z = m },
         vector_path (go_first p q m a.x tau.x t.x (ap (λ (v : Vector). v.x) is)) (go_first p q m a.y tau.y t.y (ap (λ (v : Vector). v.y) is))
-        (go_third p q m tau.z t.z d.is first.reduced.at.flat),
+            (go_third p q m tau.z t.z d.is first.reduced.at.flat),
       )
     where
       go_flat : (q z : ℤ) → z ≡ q *ℤ UNIT → z +ℤ negsuc 0 *ℤ (q *ℤ UNIT) ≡ pos 0

@@ -1,5 +1,5 @@
 -- Numbers of which one is half of another, as the mean of tau and its mirror image asks.
-use Rattle.std.proofs.Common.{◌≡◌, ◌⊎◌, inl, inr, ℕ, suc, ◌<◌, ℤ, pos, negsuc, ◌+ℤ◌, ◌*ℤ◌, [], ◌∷◌, sym, ap, ◌∙◌, arith}
+use Rattle.std.proofs.Common.{◌≡◌, ◌⊎◌, inl, inr, ℕ, ◌<◌, ℤ, pos, negsuc, ◌+ℤ◌, ◌*ℤ◌, [], ◌∷◌, arith}
 use Rattle.std.proofs.lemmas.Int.{ints}
 use Rattle.fractions.specs.Fraction.{Fraction, SameFraction}
 use Rattle.fractions.specs.declared.part.TheConstants.{UNIT}
@@ -18,8 +18,8 @@ factor_entry k s y z c t x h =
 pub doubled : (k s c y z : ℤ) → IsSign s → IsSign c → ¬ (k *ℤ y ≡ pos 0) → k *ℤ y +ℤ z *ℤ c ≡ s *ℤ z → k *ℤ (s *ℤ y) ≡ pos 2 *ℤ z
 doubled k s c y z (inl p) (inl q) not h =
     absurd (not (linear (k ∷ s ∷ c ∷ y ∷ z ∷ []) (var 0 ⊗ var 3) (num (pos 0))
-      (given (num (pos 1)) (var 0 ⊗ var 3 ⊕ var 4 ⊗ var 2) (var 1 ⊗ var 4) ∷ given (num (pos 0) ⊝ var 4) (var 2) (num (pos 1)) ∷ given (var 4) (var 1) (num (pos 1)) ∷ []) tt
-      (h, (q, (p, tt)))))
+    (given (num (pos 1)) (var 0 ⊗ var 3 ⊕ var 4 ⊗ var 2) (var 1 ⊗ var 4) ∷ given (num (pos 0) ⊝ var 4) (var 2) (num (pos 1)) ∷ given (var 4) (var 1) (num (pos 1)) ∷ []) tt
+    (h, (q, (p, tt)))))
 doubled k s c y z (inl p) (inr q) not h =
     linear (k ∷ s ∷ c ∷ y ∷ z ∷ []) (var 0 ⊗ (var 1 ⊗ var 3)) (num (pos 2) ⊗ var 4)
     (given (num (pos 1)) (var 0 ⊗ var 3 ⊕ var 4 ⊗ var 2) (var 1 ⊗ var 4) ∷ given (num (pos 0) ⊝ var 4) (var 2) (num (negsuc 0)) ∷ given (var 0 ⊗ var 3 ⊕ var 4) (var 1) (num (pos 1)) ∷ []) tt
@@ -30,8 +30,8 @@ doubled k s c y z (inr p) (inl q) not h =
     (h, (q, (p, tt)))
 doubled k s c y z (inr p) (inr q) not h =
     absurd (not (linear (k ∷ s ∷ c ∷ y ∷ z ∷ []) (var 0 ⊗ var 3) (num (pos 0))
-      (given (num (pos 1)) (var 0 ⊗ var 3 ⊕ var 4 ⊗ var 2) (var 1 ⊗ var 4) ∷ given (num (pos 0) ⊝ var 4) (var 2) (num (negsuc 0)) ∷ given (var 4) (var 1) (num (negsuc 0)) ∷ []) tt
-      (h, (q, (p, tt)))))
+    (given (num (pos 1)) (var 0 ⊗ var 3 ⊕ var 4 ⊗ var 2) (var 1 ⊗ var 4) ∷ given (num (pos 0) ⊝ var 4) (var 2) (num (negsuc 0)) ∷ given (var 4) (var 1) (num (negsuc 0)) ∷ []) tt
+    (h, (q, (p, tt)))))
 
 -- a product with a positive number is not 0
 pub some_product : (k : ℕ) (y : ℤ) → 0 < k → ¬ (y ≡ pos 0) → ¬ (pos k *ℤ y ≡ pos 0)

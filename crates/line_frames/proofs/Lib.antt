@@ -2,6 +2,7 @@ pub mod AlikeLines
 pub mod Along
 pub mod Bases
 pub mod Counters
+pub mod FlatListings
 pub mod Forward
 pub mod Halves
 pub mod LineFacts

@@ -1,6 +1,5 @@
 -- The vectors e W tau of a list of operations.
-use Rattle.std.proofs.Common.{◌≡◌, ℕ, ◌<◌, List, [], length, map, get_or, sym, ap, subst, ◌∙◌, refl}
-use Rattle.std.specs.Prelude.{Contains}
+use Rattle.std.proofs.Common.{◌≡◌, ℕ, ◌<◌, List, [], length, map, get_or, sym, ap, subst, ◌∙◌}
 use Rattle.std.proofs.lemmas.List.{get_or-map, length-map}
 use Rattle.symmetry.specs.Frames.{KeepsOrientation, sign_at}
 use Rattle.symmetry.specs.Motions.{Motion}

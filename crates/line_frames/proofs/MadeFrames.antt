@@ -1,5 +1,5 @@
 -- What the code makes of the sign and of the least multiple is the frame of the lines.
-use Rattle.std.proofs.Common.{◌≡◌, ◌⊎◌, inl, inr, ℕ, ◌<◌, ℤ, pos, ◌-ℤ◌, ◌*ℤ◌, ◌≤ℤ◌, List, [], ◌∷◌, length, map, refl, sym, ap, subst, ◌∙◌, arith}
+use Rattle.std.proofs.Common.{◌≡◌, ◌⊎◌, inl, inr, ℤ, pos, ◌-ℤ◌, ◌*ℤ◌, List, [], ◌∷◌, sym, ap, subst, ◌∙◌, arith}
 use Rattle.std.specs.Prelude.{unsigned_abs}
 use Rattle.std.specs.List.{AllPairs}
 use Rattle.std.proofs.lemmas.Int.{ints}
@@ -13,7 +13,9 @@ use Rattle.integers.proofs.Solver.{Expr.{var, num, ◌⊝◌, ◌⊗◌}}
 use Rattle.symmetry.specs.Vectors.{Vector, dot, multiple, opposite}
 use Rattle.symmetry.specs.Groups.{Listing, IsGroup, SameModulo}
 use Rattle.symmetry.specs.Sizes.{IsVectorWithin}
-use Rattle.symmetry.specs.Frames.{Basis, IsFrame, mean_of}
+use Rattle.symmetry.specs.Frames.{Basis, IsFrame, IsPeriod, mean_of}
+use Rattle.symmetry.specs.Listings.{AreAlike}
+use Rattle.symmetry.proofs.Alike.{period_from}
 use Rattle.symmetry.proofs.FrameLaws.{frame_period}
 use Rattle.symmetry.proofs.Signs.{IsSign}
 use Rattle.symmetry.proofs.VectorLaws.{vector_path, multiple-one}
@@ -27,6 +29,7 @@ use Rattle.line_frames.specs.LineFrames.{third_edge}
 use Rattle.line_frames.specs.Lines.{first_two, IsLineFrame}
 use Rattle.plane_groups.specs.PlaneGroups.{IsFlatGroup}
 use Rattle.line_frames.specs.Searches.{along_lines, IsFirstAbove, IsForwardAlong, IsMeanUp, IsRepeat, IsSense}
+use Rattle.line_frames.proofs.AlikeLines.{line_frame_from}
 use Rattle.line_frames.proofs.Bases.{across, frame}
 use Rattle.line_frames.proofs.Forward.{a_forward}
 use Rattle.line_frames.proofs.LineFacts.{line_frame}
@@ -93,7 +96,7 @@ module _ (g : Listing) (plane : Miller) (line : plane.l ≡ pos 0) (n e : ℤ) (
         subst (IsFrame g r) (λ i. record { a = sym a_is i; b = sym (third_is e sign) i; tau = parts tau })
         (frame g r plane.coprime line n e repeat sign (parts tau) first_above flat.heights)
 
-    pub made_line_frame : IsFlatGroup g → IsLineFrame g (first_two r) (first_two (parts a)) (first_two (parts tau)) (dot r (parts tau))
+    made_line_frame : IsFlatGroup g → IsLineFrame g (first_two r) (first_two (parts a)) (first_two (parts tau)) (dot r (parts tau))
     made_line_frame flat =
         subst (λ v. IsLineFrame g (first_two r) (first_two v) (first_two (parts tau)) (dot r (parts tau))) (sym a_is)
         (line_frame g r plane.coprime line n e repeat sign forward (parts tau) first_above (frame_period g r basis (made_frame flat)))
@@ -103,3 +106,13 @@ module _ (g : Listing) (plane : Miller) (line : plane.l ≡ pos 0) (n e : ℤ) (
     made_mean flat group apart c up =
         mean_is g r plane.coprime line group flat.operations n e repeat sign forward (parts tau) first_above.reduced.at.inside first_above.reduced.at.flat
         (scanning_ops r g.ops) (scanning_ops_are g r apart) (some_scanning g r group) c up
+
+    -- and by each listing of the group
+    module _ (flat : IsFlatGroup g) (k : Listing) (alike : AreAlike k g) (d : ℤ) (is : d ≡ dot r (parts tau)) where
+      pub period_by : IsPeriod k r d
+      period_by = subst (IsPeriod k r) (sym is) (period_from k g alike r (dot r (parts tau)) (frame_period g r basis (made_frame flat)))
+
+      pub line_frame_by : IsLineFrame k (first_two r) (first_two (parts a)) (first_two (parts tau)) d
+      line_frame_by =
+          subst (IsLineFrame k (first_two r) (first_two (parts a)) (first_two (parts tau))) (sym is)
+          (line_frame_from k g alike (first_two r) (first_two (parts a)) (first_two (parts tau)) (dot r (parts tau)) (made_line_frame flat))

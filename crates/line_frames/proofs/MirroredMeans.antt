@@ -1,20 +1,20 @@
 -- The mean over the scanning operations is the mean of tau and another vector e W tau.
-use Rattle.std.proofs.Common.{◌≡◌, ◌≢◌, ◌⊎◌, inl, inr, ℕ, suc, ◌<◌, ℤ, pos, negsuc, ◌+ℤ◌, ◌-ℤ◌, ◌*ℤ◌, ◌≤ℤ◌, cond, List, [], ◌∷◌, length, refl, sym, ap, subst, ◌∙◌, arith}
+use Rattle.std.proofs.Common.{◌≡◌, ◌⊎◌, inl, inr, ℕ, suc, ◌<◌, ℤ, pos, negsuc, ◌+ℤ◌, ◌*ℤ◌, ◌≤ℤ◌, cond, List, [], ◌∷◌, length, refl, sym, ap, subst, ◌∙◌, arith}
 use Rattle.std.specs.Prelude.{Contains}
 use Rattle.std.proofs.lemmas.Int.{ints}
 use Rattle.integers.proofs.Ring.{mul-eq-one, mul_right_cancel}
-use Rattle.integers.proofs.Solver.{Expr.{var, num, ◌⊕◌, ◌⊝◌, ◌⊗◌}, linear, given, ring}
-use Rattle.symmetry.specs.Vectors.{Vector, Matrix, origin, plus, minus, multiple, opposite, dot, image, row_times, product, unit_matrix}
-use Rattle.symmetry.specs.Motions.{Motion, identity}
+use Rattle.integers.proofs.Solver.{Expr.{var, num, ◌⊕◌, ◌⊗◌}, linear, given, ring}
+use Rattle.symmetry.specs.Vectors.{Vector, Matrix, plus, minus, multiple, opposite, dot, image, row_times, product, unit_matrix}
+use Rattle.symmetry.specs.Motions.{Motion}
 use Rattle.symmetry.specs.Groups.{Listing, IsGroup, IsInLattice, IsMember}
 use Rattle.symmetry.specs.Planes.{IsCoprime}
 use Rattle.symmetry.specs.Frames.{KeepsOrientation, mean_of, same_vector, sign_at, total_up}
 use Rattle.symmetry.specs.Lists.{motion_at, AreScanning}
 use Rattle.symmetry.proofs.GroupLaws.{member_keeps}
 use Rattle.symmetry.proofs.LatticeLaws.{lattice-minus, listed_member}
-use Rattle.symmetry.proofs.MatrixLaws.{image-multiple, image-plus, image-product, image-unit, row_times-dot, row_times-product, row_times-unit}
+use Rattle.symmetry.proofs.MatrixLaws.{image-multiple, image-plus, image-product, image-unit, row_times-dot}
 use Rattle.symmetry.proofs.Means.{mean_is_kept}
-use Rattle.symmetry.proofs.Signs.{IsSign, row_sign, sign-square, sign_is, sign_twice}
+use Rattle.symmetry.proofs.Signs.{IsSign, row_sign, sign-square, sign_is}
 use Rattle.symmetry.proofs.VectorLaws.{vector_path, dot-multiple, dot-minus_same, multiple-dot, minus-plus, plus_comm}
 use Rattle.plane_motions.specs.PlaneMotions.{IsFlat}
 use Rattle.plane_lattice.proofs.FrameTestFacts.{lattice-multiple}
@@ -162,7 +162,7 @@ module _ (g : Listing) (r : Vector) (coprime : IsCoprime r) (line : r.z ≡ pos 
         let k = length ms in (
           s *ℤ y +ℤ z,
           (λ i. plus (up_is m keeps y is i) (rest i))
-          ∙ vector_path (more k (s *ℤ y) z tau.x a.x) (more k (s *ℤ y) z tau.y a.y) (more k (s *ℤ y) z tau.z a.z),
+              ∙ vector_path (more k (s *ℤ y) z tau.x a.x) (more k (s *ℤ y) z tau.y a.y) (more k (s *ℤ y) z tau.z a.z),
         )
       where
         more : (k : ℕ) (y z t x : ℤ) → t +ℤ y *ℤ x +ℤ (pos k *ℤ t +ℤ z *ℤ x) ≡ pos (suc k) *ℤ t +ℤ (y +ℤ z) *ℤ x

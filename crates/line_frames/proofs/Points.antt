@@ -1,8 +1,7 @@
 -- Vectors of the plane, told by their height and one coordinate.
-use Rattle.std.proofs.Common.{◌≡◌, ◌⊎◌, inl, inr, zero, suc, ℤ, pos, negsuc, ◌+ℤ◌, ◌-ℤ◌, ◌*ℤ◌, Bool, true, false, cond, List, [], ◌∷◌, refl, sym, ap, ◌∙◌, arith}
+use Rattle.std.proofs.Common.{◌≡◌, ◌⊎◌, inl, inr, zero, suc, ℤ, pos, negsuc, ◌-ℤ◌, ◌*ℤ◌, Bool, true, false, cond, [], ◌∷◌, refl, sym, ap, ◌∙◌}
 use Rattle.std.specs.Ordering.{int_eq}
 use Rattle.std.proofs.lemmas.Bool.Decides.{Decides-int_eq}
-use Rattle.std.proofs.lemmas.Int.{ints}
 use Rattle.integers.proofs.Ring.{mul-eq-one, mul_left_cancel}
 use Rattle.integers.proofs.Solver.{Expr.{var, num, ◌⊕◌, ◌⊝◌, ◌⊗◌}, linear, given}
 use Rattle.symmetry.specs.Vectors.{Vector, dot}
@@ -38,8 +37,8 @@ module _ (r : Vector) (coprime : IsCoprime r) (line : r.z ≡ pos 0) where
   first_squared y =
       let (u, one) = unit_column r coprime in
       go r.x u.x (mul-eq-one u.x r.x (linear (r.x ∷ r.y ∷ r.z ∷ u.x ∷ u.y ∷ u.z ∷ []) (var 3 ⊗ var 0) (num (pos 1))
-        (given (num (pos 1)) (var 0 ⊗ var 3 ⊕ var 1 ⊗ var 4 ⊕ var 2 ⊗ var 5) (num (pos 1)) ∷ given (num (pos 0) ⊝ var 4) (var 1) (num (pos 0)) ∷ given (num (pos 0) ⊝ var 5) (var 2) (num (pos 0)) ∷ [])
-        tt (one, (y, (line, tt)))))
+      (given (num (pos 1)) (var 0 ⊗ var 3 ⊕ var 1 ⊗ var 4 ⊕ var 2 ⊗ var 5) (num (pos 1)) ∷ given (num (pos 0) ⊝ var 4) (var 1) (num (pos 0)) ∷ given (num (pos 0) ⊝ var 5) (var 2) (num (pos 0)) ∷ [])
+      tt (one, (y, (line, tt)))))
     where
       go : (x u : ℤ) → (x ≡ pos 1) ⊎ (x ≡ negsuc 0) → x *ℤ x ≡ pos 1
       go x u (inl e) = λ i. e i *ℤ e i

@@ -5,7 +5,7 @@ use Rattle.fractions.specs.declared.part.TheConstants.{UNIT}
 use Rattle.integers.proofs.Division.{floor}
 use Rattle.integers.proofs.Solver.{Expr.{var, num, ◌⊕◌, ◌⊝◌, ◌⊗◌}, linear, given, ring}
 use Rattle.symmetry.specs.Vectors.{Vector, plus, minus, multiple, opposite, dot}
-use Rattle.symmetry.specs.Groups.{Listing, IsInLattice}
+use Rattle.symmetry.specs.Groups.{Listing}
 use Rattle.symmetry.specs.Planes.{IsCoprime}
 use Rattle.symmetry.proofs.Coprime.{unit_column}
 use Rattle.symmetry.proofs.LatticeLaws.{lattice-minus}

@@ -3,7 +3,7 @@ use Rattle.std.proofs.Common.{◌≡◌, inl, zero, suc, ℤ, pos, negsuc, ◌+�
 use Rattle.std.proofs.lemmas.Int.{ints}
 use Rattle.fractions.specs.declared.part.TheConstants.{UNIT}
 use Rattle.integers.proofs.Division.{floor}
-use Rattle.symmetry.specs.Vectors.{Vector, minus, multiple, plus}
+use Rattle.symmetry.specs.Vectors.{Vector, multiple, plus}
 use Rattle.symmetry.specs.Groups.{Listing, IsInLattice}
 use Rattle.symmetry.proofs.LatticeLaws.{lattice-made, lattice-minus, lattice-plus}
 use Rattle.symmetry.proofs.VectorLaws.{vector_path}

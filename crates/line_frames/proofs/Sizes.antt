@@ -1,5 +1,5 @@
 -- How large quotients are.
-use Rattle.std.proofs.Common.{◌≡◌, ℕ, zero, suc, ◌*◌, ◌≤◌, ℤ, pos, ◌*ℤ◌, nat_abs, sym, subst, refl, arith}
+use Rattle.std.proofs.Common.{◌≡◌, ℕ, zero, suc, ◌*◌, ◌≤◌, ℤ, pos, ◌*ℤ◌, nat_abs, subst, refl, arith}
 use Rattle.integers.specs.Size.{IsWithin}
 use Rattle.integers.proofs.Ring.{abs-mul, abs-zero}
 

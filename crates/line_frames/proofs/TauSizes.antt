@@ -1,5 +1,5 @@
 -- How large tau is.
-use Rattle.std.proofs.Common.{◌≡◌, ◌⊎◌, inl, inr, ℕ, zero, suc, ◌+◌, ◌*◌, ◌≤◌, ℤ, pos, ◌+ℤ◌, ◌-ℤ◌, ◌*ℤ◌, ◌≤ℤ◌, ◌<ℤ◌, [], ◌∷◌, nat_abs, refl, sym, ap, subst, ◌∙◌, arith, lit≤, lit<}
+use Rattle.std.proofs.Common.{◌≡◌, ◌⊎◌, inl, inr, ℕ, zero, suc, ◌+◌, ◌*◌, ◌≤◌, ℤ, pos, ◌-ℤ◌, ◌*ℤ◌, ◌≤ℤ◌, ◌<ℤ◌, [], ◌∷◌, nat_abs, refl, subst, arith, lit≤}
 use Rattle.std.specs.Prelude.{unsigned_abs}
 use Rattle.std.proofs.lemmas.Int.{ints}
 use Rattle.std.proofs.Math.Nat.{le_of_mul-le-mul_left}
@@ -65,9 +65,11 @@ module _ (g : Listing) (r : Vector) (coprime : IsCoprime r) (line : r.z ≡ pos 
           let at_x : IsWithin (nat_abs tau.x) tau.x = record { most = omega arith } in
           record {
             x = record { most = omega (arith, ints, from, below, most) };
-            y = record { most = small_quotient (nat_abs r.y) (nat_abs tau.y) (nat_abs tau.x) (λ e. not (abs-zero r.y e))
-                (few_parts tau.x from below)
-                (subst (λ (k : ℕ). k ≤ unsigned_abs UNIT + unsigned_abs INDEX * nat_abs tau.x) (abs-mul r.y tau.y)
-                (subst (IsWithin (unsigned_abs UNIT + unsigned_abs INDEX * nat_abs tau.x)) gives (IsWithin-sub height (IsWithin-mul x_small at_x))).most) };
+            y = record {
+              most = small_quotient (nat_abs r.y) (nat_abs tau.y) (nat_abs tau.x) (λ e. not (abs-zero r.y e))
+                  (few_parts tau.x from below)
+                  (subst (λ (k : ℕ). k ≤ unsigned_abs UNIT + unsigned_abs INDEX * nat_abs tau.x) (abs-mul r.y tau.y)
+                  (subst (IsWithin (unsigned_abs UNIT + unsigned_abs INDEX * nat_abs tau.x)) gives (IsWithin-sub height (IsWithin-mul x_small at_x))).most);
+            };
             z = flat;
           }

@@ -1,5 +1,5 @@
 -- What line_frame gives.
-use Rattle.std.specs.Prelude.{◌≡◌, ◌⊎◌, pos, ◌*ℤ◌, negsuc, List}
+use Rattle.std.specs.Prelude.{◌≡◌, ◌⊎◌, pos, List}
 use Rattle.fractions.specs.declared.part.TheConstants.{UNIT}
 use Rattle.symmetry.specs.Frames.{IsFrame, IsPeriod, mean_of}
 use Rattle.symmetry.specs.Groups.{Listing}

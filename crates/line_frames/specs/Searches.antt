@@ -1,5 +1,5 @@
 -- The vectors that the code looks for.
-use Rattle.std.specs.Prelude.{◌≡◌, ◌≢◌, ◌⊎◌, ℤ, pos, negsuc, ◌+ℤ◌, ◌-ℤ◌, ◌*ℤ◌, ◌≤ℤ◌, ◌<ℤ◌, Contains, if◌then◌else◌, List}
+use Rattle.std.specs.Prelude.{◌≡◌, ◌≢◌, ℤ, pos, ◌-ℤ◌, ◌*ℤ◌, ◌≤ℤ◌, ◌<ℤ◌, Contains, if◌then◌else◌, List}
 use Rattle.std.specs.Ordering.{int_eq}
 use Rattle.fractions.specs.declared.part.TheConstants.{UNIT}
 use Rattle.motions.specs.declared.index.TheConstants.{INDEX}

@@ -13,5 +13,7 @@ mod directions;
 mod frame;
 mod means;
 mod members;
+#[cfg(test)]
+mod tests;
 
 pub use frame::line_frame;

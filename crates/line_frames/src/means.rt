@@ -21,7 +21,7 @@ fn up_by(m: &Motion3, plane: &Miller, tau: &[Part; 3]) -> Option<[Part; 3]>
     requires tau { IsVectorWithin largest_entry (parts tau.now) }
     ensures is { MatchOption result (¬ KeepsOrientation (row_of plane.now) (motion_of m.now))
         (λ up. KeepsOrientation (row_of plane.now) (motion_of m.now)
-            × (parts up ≡ multiple (sign_at (row_of plane.now) (motion_of m.now)) (image (motion_of m.now).matrix (parts tau.now)))) }
+        × (parts up ≡ multiple (sign_at (row_of plane.now) (motion_of m.now)) (image (motion_of m.now).matrix (parts tau.now)))) }
     ensures small { IfSome result (λ up. IsVectorWithin largest_turned (parts up)) }
 {
     let turned = image(m, tau);

@@ -11,5 +11,4 @@ pub mod SectionLists
 pub mod SectionTypes
 pub mod SpecialLines
 pub mod MadeLines
-pub mod FlatListings
 pub mod SmallLines

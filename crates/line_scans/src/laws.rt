@@ -1,16 +1,12 @@
 // Lines of a plane group as planes of a group of space. A call does nothing: its contract is the law.
-ghost use Rattle.std.specs.Prelude.{◌↔◌, Contains, unsigned_abs};
-ghost use Rattle.fractions.specs.declared.part.TheConstants.{UNIT};
-ghost use Rattle.integers.specs.Size.{Divides};
+ghost use Rattle.std.specs.Prelude.{◌↔◌};
 ghost use Rattle.symmetry.specs.Vectors.{Vector};
-ghost use Rattle.symmetry.specs.Motions.{Motion, Point};
+ghost use Rattle.symmetry.specs.Motions.{Point};
 ghost use Rattle.symmetry.specs.Planes.{Height, IsOn, KeepsPlane};
 ghost use Rattle.symmetry.specs.Groups.{InAll, InStabiliser, IsMember, Listing};
 ghost use Rattle.symmetry.specs.Frames.{IsSpecial};
 ghost use Rattle.motions.specs.PlaneMatrices.{Pair};
-ghost use Rattle.closure.specs.Groups.{IsGroupOf, group_listing};
-ghost use Rattle.closure.specs.declared.group.Group.{Group};
-ghost use Rattle.plane_motions.specs.PlaneMotions.{IsFlat, PlaneMotion, plane_block};
+ghost use Rattle.plane_motions.specs.PlaneMotions.{PlaneMotion, plane_block};
 ghost use Rattle.line_frames.specs.Lines.{first_two, in_space};
 ghost use Rattle.plane_groups.specs.PlaneGroups.{IsFlatGroup};
 ghost use Rattle.line_scans.specs.Lines.{InAllLines, InLineStabiliser, IsOnLine, IsPlaneMember, IsSpecialLine, KeepsLine};
@@ -33,11 +29,4 @@ pub fn line_stabilisers_as_plane_stabilisers()
         InAll g (in_space r) (plane_block m) ↔ InAllLines g r m }
     ensures special { (g : Listing) (r : Pair) (s : Height) → IsFlatGroup g →
         IsSpecial g (in_space r) s ↔ IsSpecialLine g r s }
-{}
-
-/// The group of a list of flat operations, whose centring vectors have whole third entries, is a plane group.
-pub fn group_of_flat_listing()
-    ensures { (g : Listing) (group : Group) → IsGroupOf g group →
-        ((m : Motion) → Contains g.ops m → IsFlat m) →
-        ((v : Vector) → Contains g.centrings v → Divides (unsigned_abs UNIT) v.z) → IsFlatGroup (group_listing group) }
 {}

@@ -23,7 +23,7 @@ mod section;
 mod tests;
 mod viewpoint;
 
-pub use laws::{group_of_flat_listing, line_as_plane, line_stabilisers_as_plane_stabilisers};
+pub use laws::{line_as_plane, line_stabilisers_as_plane_stabilisers};
 pub use make::lines;
 pub use scan::{LineHeight, LineScan, LineSection};
 pub use section::NoMemory;

@@ -1,2 +1,2 @@
 mod Upright
-mod FlatGroups
+pub mod FlatGroups

@@ -34,7 +34,8 @@ fn the_faces_of_a_cube_in_three_classes(rt: HostRuntime) -> Result<(), Fail> {
         },
     ];
     let text = survey_text(rt.alloc(), &list)?;
-    let expected = "plane 1 1 1 images 8 special 2\nplane 1 1 0 images 12 special 2\nplane 1 0 0 images 6 special 2\nend\n";
+    let expected =
+        "plane 1 1 1 images 8 special 2\nplane 1 1 0 images 12 special 2\nplane 1 0 0 images 6 special 2\nend\n";
     assert_eq!(rt; text.as_slice(), expected.as_bytes());
     Ok(())
 }

@@ -157,7 +157,7 @@ pub fn split_three_indices(words: &[String]) -> Option<(IndexWords, &[String])>
 
 /// The indices `h k` of a line that the first words are, as those of the plane (h k 0), and the words behind them.
 pub fn split_two_indices(words: &[String]) -> Option<(IndexWords, &[String])>
-    ensures { option_map (λ r. (indices_of r.0, map string_bytes r.1.now)) result
+    ensures is { option_map (λ r. (indices_of r.0, map string_bytes r.1.now)) result
         ≡ two_indices (map string_bytes words.now) }
     ensures line { IfSome result (λ r. r.0.l ≡ pos 0) }
 {

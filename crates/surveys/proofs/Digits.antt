@@ -92,15 +92,18 @@ module _ (n : ℤ) (from : pos 1 ≤ℤ n) (most : n ≤ℤ pos 5) (p : ℕ) (be
   c_digit = let l = mod-lt p {m = s} positive in record { from = omega (arith, ints, c_is); below = omega (arith, ints, c_is, s_is, l) }
 
   a_digit : IsDigit (side n) a
-  a_digit = record { from = omega (arith, ints, a_is); below = elim (cases_lt (p / s / s) s) [
-    | inl l ↦ omega (arith, ints, a_is, s_is, l)
-    | inr le ↦
-        let t = side n in
-        let most_a : t ≤ℤ a = omega (arith, ints, a_is, s_is, le) in
-        let one = mul-le-mul_right t a t (omega (arith, ints, from)) most_a in
-        let two = mul-le-mul_right (t *ℤ t) (a *ℤ t +ℤ b) t (omega (arith, ints, from)) (omega (arith, ints, one, b_digit.from)) in
-        absurd (omega (arith, ints, two, sum, below, c_digit.from))
-  ] }
+  a_digit = record {
+    from = omega (arith, ints, a_is);
+    below = elim (cases_lt (p / s / s) s) [
+      | inl l ↦ omega (arith, ints, a_is, s_is, l)
+      | inr le ↦
+          let t = side n in
+          let most_a : t ≤ℤ a = omega (arith, ints, a_is, s_is, le) in
+          let one = mul-le-mul_right t a t (omega (arith, ints, from)) most_a in
+          let two = mul-le-mul_right (t *ℤ t) (a *ℤ t +ℤ b) t (omega (arith, ints, from)) (omega (arith, ints, one, b_digit.from)) in
+          absurd (omega (arith, ints, two, sum, below, c_digit.from))
+    ];
+  }
 
   entry : (d : ℤ) → IsDigit (side n) d → IsWithin (unsigned_abs n) (n -ℤ d)
   entry d h = record { most = omega (arith, ints, from, h.from, h.below) }

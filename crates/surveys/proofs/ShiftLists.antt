@@ -74,8 +74,8 @@ module _ (r : Vector) (d : ℤ) where
       (λ u is. elim (Contains-push_cases ms m is.turned.op is.turned.listed) [
         | inl before ↦ inl (before_it ms m u is before)
         | inr same ↦ inr (one_rest d u t (neg_ℤ is.turned.periods) (neg_ℤ k) (dot r m.shift) is.from is.below from below
-          (taken_off u (dot r m.shift) is.turned.periods d (is.turned.is ∙ ap (λ (n : Motion). dot r n.shift +ℤ is.turned.periods *ℤ d) (sym same)))
-          (taken_off t (dot r m.shift) k d at))
+            (taken_off u (dot r m.shift) is.turned.periods d (is.turned.is ∙ ap (λ (n : Motion). dot r n.shift +ℤ is.turned.periods *ℤ d) (sym same)))
+            (taken_off t (dot r m.shift) k d at))
       ])
       (lists_with (IsTurnedShift r d ms) ts t us so_far with)
     where

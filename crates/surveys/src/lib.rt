@@ -15,11 +15,11 @@ mod places;
 mod representatives;
 mod rows;
 mod shifts;
-mod surveying;
 mod surveyed;
+mod surveying;
 #[cfg(test)]
 mod tests;
 
 pub use laws::{one_representative, orientation_classes};
-pub use surveying::{NoMemory, survey};
 pub use surveyed::Surveyed;
+pub use surveying::{NoMemory, survey};

@@ -29,7 +29,8 @@ fn has_greater_image(m: &Motion3, plane: &Miller, largest: u64) -> bool
     ensures { IsTrue result ↔ HasGreaterImage largest (row_of plane.now) (motion_of m.now) }
 {
     let image = row_image(m, plane);
-    is_greater_within(&image, plane, largest) || is_greater_within(&opposite_row(&image), plane, largest)
+    is_greater_within(&image, plane, largest)
+        || is_greater_within(&opposite_row(&image), plane, largest)
 }
 
 /// Whether the row is greater than (hkl), with indices at most `largest` in size.

@@ -60,7 +60,11 @@ fn group_of(alloc: Global, ops: &[Motion3]) -> Result<Group, GroupError>
 // The indices of an orientation, how many triples are equivalent to it, and its special heights.
 fn told(surveyed: &Surveyed) -> ([i64; 3], u32, u32) {
     let plane = surveyed.plane;
-    ([plane.h, plane.k, plane.l], surveyed.images, surveyed.special)
+    (
+        [plane.h, plane.k, plane.l],
+        surveyed.images,
+        surveyed.special,
+    )
 }
 
 #[test]

@@ -77,14 +77,24 @@ static BAD_TEXTS: [BadText; 8] = [
 #[test]
 fn the_heading_makes_generators(rt: HostRuntime) {
     for GoodText(text, ops, centrings) in GENERATOR_TEXTS {
-        compare(&rt, rt.alloc(), text, Summary::of_listed(ops, centrings, true));
+        compare(
+            &rt,
+            rt.alloc(),
+            text,
+            Summary::of_listed(ops, centrings, true),
+        );
     }
 }
 
 #[test]
 fn without_the_heading_there_are_none(rt: HostRuntime) {
     for GoodText(text, ops, centrings) in PLAIN_TEXTS {
-        compare(&rt, rt.alloc(), text, Summary::of_listed(ops, centrings, false));
+        compare(
+            &rt,
+            rt.alloc(),
+            text,
+            Summary::of_listed(ops, centrings, false),
+        );
     }
 }
 

@@ -91,7 +91,10 @@ fn a_pair_is_a_triplet_that_leaves_z_as_it_is(rt: HostRuntime) {
             assert_eq!(rt; listed.ops[0].w, [[0, -1, 0], [1, -1, 0], [0, 0, 1]]);
             assert_eq!(rt; listed.ops[0].t, [Part(UNIT / 2), Part(-UNIT / 3), Part(0)]);
             assert_eq!(rt; listed.centrings.len(), 1);
-            assert_eq!(rt; listed.centrings[0], [Part(UNIT / 2), Part(-UNIT / 6), Part(0)]);
+            assert_eq!(rt;
+                listed.centrings[0],
+                [Part(UNIT / 2), Part(-UNIT / 6), Part(0)]
+            );
         }
         Err(_) => assert!(rt; false, "refused"),
     }

@@ -24,11 +24,7 @@ pub enum TextPlace {
 impl TextPlace {
     ghost use Rattle.triplets.specs.HeadingReading.{from_beginning, text_step, text_completed, text_ending, is_heading, IsTextPlaceSmall};
 
-    fn from_beginning(
-        notation: Notation,
-        byte: u8,
-        meaning: Mark,
-    ) -> Result<TextPlace, TextKind>
+    fn from_beginning(notation: Notation, byte: u8, meaning: Mark) -> Result<TextPlace, TextKind>
         requires { meaning ≡ mark notation byte }
         ensures { result ≡ from_beginning notation byte }
     {
@@ -42,12 +38,7 @@ impl TextPlace {
     }
 
     /// Reads one more byte of a line, with its meaning.
-    pub fn step(
-        self,
-        notation: Notation,
-        byte: u8,
-        meaning: Mark,
-    ) -> Result<TextPlace, TextKind>
+    pub fn step(self, notation: Notation, byte: u8, meaning: Mark) -> Result<TextPlace, TextKind>
         requires small { IsTextPlaceSmall self }
         requires meaning { meaning ≡ mark notation byte }
         ensures { result ≡ text_step notation byte self }

@@ -1,5 +1,5 @@
 -- The multiples are as small as the indices make them.
-use Rattle.std.proofs.Common.{ℕ, ℤ, pos, List, [], ◌∷◌, lit≤, refl, subst, sym}
+use Rattle.std.proofs.Common.{ℕ, pos, List, [], ◌∷◌, lit≤, refl}
 use Rattle.std.specs.Prelude.{unsigned_abs}
 use Rattle.fractions.specs.declared.part.TheConstants.{UNIT}
 use Rattle.integers.proofs.Coded.{code_is, code_within}

@@ -1,12 +1,10 @@
 -- The frame of the lines is made, and it is the frame by each listing of the group.
-use Rattle.std.proofs.Common.{map, sym, ap, subst, ◌∙◌, ℤ, pos, ◌≤ℤ◌, List, arith, refl}
+use Rattle.std.proofs.Common.{sym, ap, subst, pos, ◌≤ℤ◌, List, arith, refl}
 use Rattle.std.proofs.lemmas.Int.{ints}
-use Rattle.symmetry.specs.Frames.{IsPeriod}
 use Rattle.symmetry.specs.Motions.{Motion}
-use Rattle.symmetry.specs.Vectors.{Vector, dot}
-use Rattle.symmetry.proofs.Alike.{frame_from, period_from}
+use Rattle.symmetry.specs.Vectors.{Vector}
+use Rattle.symmetry.proofs.Alike.{frame_from}
 use Rattle.symmetry.proofs.AlikeScans.{scanning_from}
-use Rattle.symmetry.proofs.FrameLaws.{frame_period}
 use Rattle.motions.specs.Views.{parts, row_of}
 use Rattle.closure.specs.Groups.{group_listing}
 use Rattle.closure.proofs.OwnLattice.{own_fine}
@@ -15,10 +13,8 @@ use Rattle.plane_lattice.specs.Scanning.{scanning_ops}
 use Rattle.plane_lattice.proofs.FrameTestFacts.{frame_passes_tests, volume_positive}
 use Rattle.plane_lattice.proofs.LatticeTests.{edges_held, fine_as}
 use Rattle.plane_lattice.proofs.ScanningFacts.{scanning_ops_are}
-use Rattle.line_frames.specs.Lines.{first_two, IsLineFrame}
 use Rattle.line_frames.specs.Searches.{IsMeanUp}
-use Rattle.line_frames.proofs.AlikeLines.{line_frame_from}
-use Rattle.line_frames.proofs.MadeFrames.{a_is, made_frame, made_line_frame, made_mean, parts_forward, tau_small, third_across, third_parts, third_within}
+use Rattle.line_frames.proofs.MadeFrames.{line_frame_by, made_frame, made_mean, parts_forward, period_by, tau_small, third_across, third_parts, third_within}
 use Rattle.line_frames.proofs.frame.line_frame.Goals as goal
 
 pub first_above-tau-requires-clause-a : goal.first_above-tau-requires-clause-a
@@ -71,24 +67,22 @@ pub returns : goal.returns
 returns c g of =
     let h = group_listing c.args.group.now in
     let r = row_of c.args.plane in
-    let e = c.sense-sense.result in
-    let n = c.repeat_along.result in
-    let a = c.along_lines-a.result in
-    let tau = c.first_above-tau.result in
-    let sense = c.sense-sense.ensures in
-    let repeat = c.repeat_along.ensures in
-    let a_code = c.along_lines-a.ensures.is in
-    let first = c.first_above-tau.ensures in
     let plane = c.args.plane in
     let line = c.requires.line in
     let flat = c.requires.group in
-    let basis = vectors a (third_parts e) tau in
-    let frame = made_frame h plane line n e repeat sense.sign sense.forward a a_code tau first flat in
-    let period = sym c.height_of-period.ensures in
+    let n = c.repeat_along.result in
+    let repeat = c.repeat_along.ensures in
+    let e = c.sense-sense.result in
+    let sense = c.sense-sense.ensures in
+    let a = c.along_lines-a.result in
+    let a_code = c.along_lines-a.ensures.is in
+    let tau = c.first_above-tau.result in
+    let first = c.first_above-tau.ensures in
+    let period = c.height_of-period.result.0 in
     record {
       plane = refl;
-      is_frame = frame_from g h of.alike r basis frame;
-      period = subst (IsPeriod g r) period (period_from g h of.alike r (dot r (parts tau)) (frame_period h r basis frame));
+      is_frame = frame_from g h of.alike r (vectors a (third_parts e) tau) (made_frame h plane line n e repeat sense.sign sense.forward a a_code tau first flat);
+      period = period_by h plane line n e repeat sense.sign sense.forward a a_code tau first flat g of.alike period c.height_of-period.ensures;
       scanning = scanning_ops r h.ops;
       are_scanning = scanning_from g h of.alike r (scanning_ops r h.ops) (scanning_ops_are h r c.ops.ensures.apart);
       mean = made_mean h plane line n e repeat sense.sign sense.forward a a_code tau first flat c.ops.ensures.group c.ops.ensures.apart c.mean-c.result
@@ -96,7 +90,5 @@ returns c g of =
       a_flat = ap (λ (v : Vector). v.z) a_code;
       tau_flat = first.reduced.at.flat;
       across = third_across e sense.sign;
-      line = subst (IsLineFrame g (first_two r) (first_two (parts a)) (first_two (parts tau))) period
-          (line_frame_from g h of.alike (first_two r) (first_two (parts a)) (first_two (parts tau)) (dot r (parts tau))
-          (made_line_frame h plane line n e repeat sense.sign sense.forward a a_code tau first flat));
+      line = line_frame_by h plane line n e repeat sense.sign sense.forward a a_code tau first flat g of.alike period c.height_of-period.ensures;
     }

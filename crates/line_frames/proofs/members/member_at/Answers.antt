@@ -1,5 +1,5 @@
 -- Coordinate by coordinate; each vector of the height is, but for a multiple of a, one that is reduced.
-use Rattle.std.proofs.Common.{◌≡◌, ℤ, pos, ◌+ℤ◌, refl, sym, subst, to_z, w64, arith, ◌≤ℤ◌, ◌<ℤ◌, lit<}
+use Rattle.std.proofs.Common.{◌≡◌, pos, ◌+ℤ◌, refl, sym, subst, to_z, w64, arith, lit<}
 use Rattle.std.specs.Prelude.{unsigned_abs}
 use Rattle.std.proofs.lemmas.Int.{ints}
 use Rattle.fractions.specs.declared.part.TheConstants.{UNIT}

@@ -1,5 +1,5 @@
 -- By the index k, and where it is 0 by h.
-use Rattle.std.proofs.Common.{◌≡◌, ℕ, ◌*◌, ◌^◌, ℤ, pos, ◌-ℤ◌, ◌*ℤ◌, List, [], ◌∷◌, refl, sym, ap, subst, ◌∙◌, of_z, to_z, w64, lit<, lit≤}
+use Rattle.std.proofs.Common.{◌≡◌, ℕ, ◌*◌, ℤ, pos, ◌-ℤ◌, ◌*ℤ◌, List, [], ◌∷◌, refl, sym, ap, subst, ◌∙◌, of_z, to_z, w64, lit<, lit≤}
 use Rattle.std.specs.Prelude.{unsigned_abs}
 use Rattle.fractions.specs.declared.part.TheConstants.{UNIT}
 use Rattle.motions.specs.declared.index.TheConstants.{INDEX}
@@ -7,7 +7,7 @@ use Rattle.motions.specs.Views.{row_of}
 use Rattle.integers.specs.Size.{IsWithin}
 use Rattle.integers.proofs.Coded.{again, again_is, code_fits, code_is, bound, code_within, coded}
 use Rattle.integers.proofs.Ring.{IsWithin-more}
-use Rattle.integers.proofs.Solver.{Expr, Expr.{var, num, ◌⊝◌, ◌⊗◌}}
+use Rattle.integers.proofs.Solver.{Expr, Expr.{var, ◌⊝◌, ◌⊗◌}}
 use Rattle.line_frames.proofs.Points.{point_by_quotient, point_without_second, quotient_of_point}
 use Rattle.line_frames.proofs.Sizes.{factor_within}
 use Rattle.line_frames.proofs.members.point_at.Goals as goal
@@ -57,9 +57,9 @@ pub returns-in_err-y : goal.returns-in_err-y
 returns-in_err-y c =
     let r = c.args.plane.now in
     rw c.from_residual.ensures (λ v p.
-      c.in_err-y.ensures v.y (ap (λ x. x *ℤ v.y) (by r.k r.h c.args.t c.args.d r.in_range.y r.in_range.x c.requires.t c.requires.d)
-      ∙ quotient_of_point (row_of r) r.coprime c.requires.line c.args.t c.args.d v (λ e. c.if-plane-eq0.false (ap (of_z w64) e)) p
-      ∙ sym (divided r.k r.h c.args.t c.args.d r.in_range.y r.in_range.x c.requires.t c.requires.d)))
+    c.in_err-y.ensures v.y (ap (λ x. x *ℤ v.y) (by r.k r.h c.args.t c.args.d r.in_range.y r.in_range.x c.requires.t c.requires.d)
+    ∙ quotient_of_point (row_of r) r.coprime c.requires.line c.args.t c.args.d v (λ e. c.if-plane-eq0.false (ap (of_z w64) e)) p
+    ∙ sym (divided r.k r.h c.args.t c.args.d r.in_range.y r.in_range.x c.requires.t c.requires.d)))
 
 pub returns : goal.returns
 returns c =

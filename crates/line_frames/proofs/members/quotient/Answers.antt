@@ -1,5 +1,5 @@
 -- The numbers are opposite.
-use Rattle.std.proofs.Common.{◌≡◌, pos, ◌-ℤ◌, ◌^◌, [], ◌∷◌, subst, lit<}
+use Rattle.std.proofs.Common.{◌≡◌, pos, ◌-ℤ◌, ◌^◌, [], ◌∷◌, subst}
 use Rattle.integers.proofs.Coded.{again, code_is}
 use Rattle.integers.proofs.Solver.{Expr.{var, num, ◌⊝◌}}
 use Rattle.line_frames.proofs.Quotients.{IsQuotient, quotient_of_opposites}

@@ -23,8 +23,7 @@ loop-m-preserved c =
     let i = c.loop-m.m-index in
     elim c.match-turned_shift.branch [
       | in-Some+in_ok-add_shift w ↦
-          let (turns, from, below, (k, is)) = w.in-Some.ensures in
-          (
+          let (turns, from, below, (k, is)) = w.in-Some.ensures in (
             taken_more r d ops i _ c.loop-m-test.true c.loop-m.shifts.items c.match-turned_shift.shifts.items c.loop-m.invariant.0 c.requires.most w.in-Some.shift k
                 (subst (λ (v : Vec ℤ Global). IsWith c.loop-m.shifts.items (again w.in-Some.shift) v.items) (sym w.shifts-is) w.in_ok-add_shift.ensures.with) turns from below is,
             omega (arith, ap vec_len w.shifts-is, w.in_ok-add_shift.ensures.few, c.loop-m.invariant.1),

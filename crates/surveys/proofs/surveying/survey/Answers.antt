@@ -30,14 +30,14 @@ loop-place-preserved c =
           let first : IsRepresentative g (unsigned_abs n) (row_of w.in-Some.plane) =
           subst (λ k. IsRepresentative g k (row_of w.in-Some.plane)) w.unsigned_abs.ensures.value (w.if-is_representative.ensures.0 refl) in
           let more = taken n from g p (map surveyed_of c.loop-place.list.items) (surveyed_of w.in_ok-surveyed.field-0) (subst (IsRepresentative g (unsigned_abs n)) (sym is) first)
-              (ap (place_of n) is ∙ w.in-Some.ensures.1) w.in_ok-surveyed.ensures.counts c.loop-place.invariant in
+          (ap (place_of n) is ∙ w.in-Some.ensures.1) w.in_ok-surveyed.ensures.counts c.loop-place.invariant in
           subst so_far (sym (ap (λ (l : Vec Surveyed _). l.items) w.list-is ∙ w.in_ok-push.ensures.items))
           (subst (IsSurveyedTo g n (pos (p + 1))) (sym (map-append surveyed_of c.loop-place.list.items (w.in_ok-surveyed.field-0 ∷ []))) more)
       | in-Some+else-is_representative w ↦
           subst so_far (sym (ap (λ (l : Vec Surveyed _). l.items) w.list-is)) (passed n from g p _ (λ r is here.
-              let same : r ≡ row_of w.in-Some.plane = one_triple n from r (row_of w.in-Some.plane) is.within.size w.in-Some.ensures.0 (here ∙ sym w.in-Some.ensures.1) in
-              let no : false ≡ true =
-              w.if-is_representative.ensures.1 (subst (λ k. IsRepresentative g k (row_of w.in-Some.plane)) (sym w.unsigned_abs.ensures.value) (subst (IsRepresentative g (unsigned_abs n)) same is)) in cc)
+          let same : r ≡ row_of w.in-Some.plane = one_triple n from r (row_of w.in-Some.plane) is.within.size w.in-Some.ensures.0 (here ∙ sym w.in-Some.ensures.1) in
+          let no : false ≡ true =
+          w.if-is_representative.ensures.1 (subst (λ k. IsRepresentative g k (row_of w.in-Some.plane)) (sym w.unsigned_abs.ensures.value) (subst (IsRepresentative g (unsigned_abs n)) same is)) in cc)
           c.loop-place.invariant)
       | in_default w ↦ subst so_far (sym (ap (λ (l : Vec Surveyed _). l.items) w.list-is)) (passed n from g p _ (λ r is. w.in_default.ensures r is.within) c.loop-place.invariant)
     ]
