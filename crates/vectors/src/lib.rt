@@ -10,6 +10,7 @@ mod generators;
 mod heights;
 mod images;
 mod inputs;
+mod plane_lines;
 mod refused_frames;
 mod refused_groups;
 mod refused_lines;

@@ -1,8 +1,8 @@
 // The cases, by topic.
 use crate::case::Case;
 use crate::{
-    cif, generators, heights, images, refused_frames, refused_groups, refused_lines, refused_words,
-    reports, rods, samples, slabs, surveys, types, unusual_reports,
+    cif, generators, heights, images, plane_lines, refused_frames, refused_groups, refused_lines,
+    refused_words, reports, rods, samples, slabs, surveys, types, unusual_reports,
 };
 
 /// What a case is about.
@@ -24,6 +24,8 @@ pub enum Topic {
     Surveys,
     /// What maps a line to itself, and lines that are refused.
     Rods,
+    /// The frieze groups of all lines of a plane group, and texts of pairs that are refused.
+    PlaneLines,
     /// The operations of a type, by its number.
     Types,
     /// Counts of the sample.
@@ -41,7 +43,7 @@ pub enum Topic {
 }
 
 /// Every topic.
-pub const TOPICS: [Topic; 15] = [
+pub const TOPICS: [Topic; 16] = [
     Topic::Heights,
     Topic::Slabs,
     Topic::Reports,
@@ -50,6 +52,7 @@ pub const TOPICS: [Topic; 15] = [
     Topic::Images,
     Topic::Surveys,
     Topic::Rods,
+    Topic::PlaneLines,
     Topic::Types,
     Topic::Samples,
     Topic::CifFiles,
@@ -72,6 +75,7 @@ pub fn cases(topic: Topic) -> &'static [Case] {
         Topic::Images => images::all(),
         Topic::Surveys => surveys::all(),
         Topic::Rods => rods::all(),
+        Topic::PlaneLines => plane_lines::all(),
         Topic::Types => types::all(),
         Topic::Samples => samples::all(),
         Topic::CifFiles => cif::all(),
