@@ -62,11 +62,7 @@ operation_signed (Err k) xs vs e = absurd cc
 
 coordinate_signed : (s : Spot) (v : VectorReader) (xs vs : List Vector) → at_place (coordinate_sign Plus s v) xs ≡ behind vs → length vs ≡ length xs + 1
 coordinate_signed spots.Begin v xs vs e = let z = behind_is _ xs vs e in absurd cc
-coordinate_signed spots.Signed v xs vs e = absurd cc
-coordinate_signed (spots.Digits n m) v xs vs e = absurd cc
-coordinate_signed (spots.Divided m) v xs vs e = absurd cc
-coordinate_signed (spots.Below m d) v xs vs e = absurd cc
-coordinate_signed spots.Behind v xs vs e = absurd cc
+coordinate_signed s v xs vs e = absurd cc
 
 plus_keeps : (nt : Notation) → (p : LinePlace) (xs vs : List Vector) → line_step nt (marks.Signs Plus) (state_of p xs) ≡ behind vs → length vs ≡ length xs + 1
 plus_keeps nt places.Start xs vs e = let z = behind_is _ xs vs e in absurd cc
@@ -190,14 +186,11 @@ record HasWhole (nt : Notation) (q : LineBegun nt) : Type 0 where
 
 has_whole : (nt : Notation) → (q : LineBegun nt) → HasWhole nt q
 has_whole nt (at_start bs) = record { whole = None; rest = blanks_text bs; text = refl; vectors = refl }
-has_whole nt (at_opening bs o) = record { whole = None; rest = line_text nt (at_opening bs o); text = refl; vectors = refl }
-has_whole nt (at_operation l q) = record { whole = None; rest = line_text nt (at_operation l q); text = refl; vectors = refl }
 has_whole nt (at_vector r bs q) = record { whole = r; rest = _; text = refl; vectors = refl }
 has_whole nt (at_closed r bs c d e ks) = record { whole = r; rest = _; text = refl; vectors = refl }
 has_whole nt (at_behind r bs) = record { whole = Some r; rest = blanks_text bs; text = refl; vectors = refl }
-has_whole nt (at_comment (empty bs) cs) = record { whole = None; rest = line_text nt (at_comment (empty bs) cs); text = refl; vectors = refl }
-has_whole nt (at_comment (operation l v w x) cs) = record { whole = None; rest = line_text nt (at_comment (operation l v w x) cs); text = refl; vectors = refl }
 has_whole nt (at_comment (row r bs) cs) = record { whole = Some r; rest = blanks_text bs ++ (35 ∷ cs); text = append_assoc (centrings_text nt r) (blanks_text bs) (35 ∷ cs); vectors = refl }
+has_whole nt q = record { whole = None; rest = line_text nt q; text = refl; vectors = refl }
 
 all_more : (nt : Notation) → (r : Option (Centrings nt)) (c : Centring nt) (rest : List ℕ) → prior_text nt r ++ (centring_text nt c ++ rest) ≡ centrings_text nt (all_of nt r c) ++ rest
 all_more nt None c rest = refl

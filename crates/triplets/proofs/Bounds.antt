@@ -43,8 +43,7 @@ moved_size (negsuc m) Minus v = omega (arith, ints)
 
 entry_room : (n : ℕ) (a : Axis) (v : ℤ) (r : rows.Row) → IsRowWithin n r → IsRowWithin (n + 1) (with_entry a v r)
 entry_room n X v r h = omega arith
-entry_room n Y v r h = omega arith
-entry_room n Z v r h = omega arith
+entry_room n a v r h = omega arith
 
 shift_room : (n : ℕ) (s : Sign) (v : ℕ) (r : rows.Row) → v < 1000 * unit → IsRowWithin n r → IsRowWithin (n + 1) (with_shift s v r)
 shift_room n s v r b h = let most = moved_size r.shift s v in omega arith
@@ -59,12 +58,10 @@ pub within_at : (n : ℕ) (p q : PartReader) → q ≡ p → IsRowWithin n p.row
 within_at n p q e r s = subst (IsPartWithin n) (sym e) (r, s)
 
 within_blank : (spot : Spot) (n : ℕ) (r : rows.Row) (u : Used) (g : Sign) (q : PartReader) → IsRowWithin n r → IsSpotWithin spot → on_blank (at r u g spot) ≡ fine q → IsPartWithin (n + 1) q
-within_blank Begin n r u g q h i w = within_at _ (at r u g Begin) q (ok_is _ q w) (more_room n r h) tt
-within_blank Signed n r u g q h i w = within_at _ (at r u g Signed) q (ok_is _ q w) (more_room n r h) tt
 within_blank (Digits k v) n r u g q h i w = within_at _ _ q (ok_is _ q w) (shift_room n g (unit * v) r (omega (arith, i.1.1.0)) h) tt
 within_blank (Divided v) n r u g q h i w = err_is _ q w
 within_blank (Below v d) n r u g q h i w = within_at _ _ q (ok_is _ q w) (shift_room n g (parts d * v) r (parts_small d v i.0) h) tt
-within_blank Behind n r u g q h i w = within_at _ (at r u g Behind) q (ok_is _ q w) (more_room n r h) tt
+within_blank spot n r u g q h i w = within_at _ (at r u g spot) q (ok_is _ q w) (more_room n r h) tt
 
 pub within_sign : (spot : Spot) (n : ℕ) (r : rows.Row) (u : Used) (g s : Sign) (q : PartReader) → IsRowWithin n r → IsSpotWithin spot → on_sign s (at r u g spot) ≡ fine q → IsPartWithin (n + 1) q
 within_sign Begin n r u g s q h i w = within_at _ _ q (ok_is _ q w) (more_room n r h) tt
@@ -78,9 +75,7 @@ within_letter : (spot : Spot) (n : ℕ) (r : rows.Row) (u : Used) (g : Sign) (a 
 within_letter Begin n r u g a q h w = within_at _ (with_letter a 1 (at r u g Begin)) q (ok_is _ q w) (entry_room n a (signed g 1) r h) tt
 within_letter Signed n r u g a q h w = within_at _ (with_letter a 1 (at r u g Signed)) q (ok_is _ q w) (entry_room n a (signed g 1) r h) tt
 within_letter (Digits k v) n r u g a q h w = within_at _ (with_letter a v (at r u g (Digits k v))) q (ok_is _ q (met _ kinds.Coefficient _ q w).1) (entry_room n a (signed g v) r h) tt
-within_letter (Divided v) n r u g a q h w = err_is _ q w
-within_letter (Below v d) n r u g a q h w = err_is _ q w
-within_letter Behind n r u g a q h w = err_is _ q w
+within_letter spot n r u g a q h w = err_is _ q w
 
 below_three : (n : ℕ) → nat_le 3 n ≡ false → n < 3
 below_three n h = grind (arith, nat_tests)
@@ -104,12 +99,8 @@ within_digit (Below v e) n r u g d q t h i w = within_below n r u g v (Below v e
 within_digit Behind n r u g d q t h i w = err_is _ q w
 
 within_slash : (spot : Spot) (n : ℕ) (r : rows.Row) (u : Used) (g : Sign) (q : PartReader) → IsRowWithin n r → IsSpotWithin spot → on_slash (at r u g spot) ≡ fine q → IsPartWithin (n + 1) q
-within_slash Begin n r u g q h i w = err_is _ q w
-within_slash Signed n r u g q h i w = err_is _ q w
 within_slash (Digits k v) n r u g q h i w = within_at _ (at r u g (Divided v)) q (ok_is _ q w) (more_room n r h) i.1.1.0
-within_slash (Divided v) n r u g q h i w = err_is _ q w
-within_slash (Below v d) n r u g q h i w = err_is _ q w
-within_slash Behind n r u g q h i w = err_is _ q w
+within_slash spot n r u g q h i w = err_is _ q w
 
 pub within_part : (m : Mark) (n : ℕ) (p q : PartReader) → IsMarkInRange m → IsPartWithin n p → part_step m p ≡ fine q → IsPartWithin (n + 1) q
 within_part marks.Blank n p q i h w = within_blank p.spot n p.row p.used p.sign q h.0 h.1 w
@@ -117,11 +108,7 @@ within_part (marks.Signs s) n p q i h w = within_sign p.spot n p.row p.used p.si
 within_part (marks.Letter a) n p q i h w = within_letter p.spot n p.row p.used p.sign a q h.0 (passed _ _ _ q w).1
 within_part (marks.Digit d) n p q i h w = within_digit p.spot n p.row p.used p.sign d q i h.0 h.1 w
 within_part marks.Slash n p q i h w = within_slash p.spot n p.row p.used p.sign q h.0 h.1 w
-within_part marks.Comma n p q i h w = err_is _ q w
-within_part marks.Hash n p q i h w = err_is _ q w
-within_part marks.Open n p q i h w = err_is _ q w
-within_part marks.Close n p q i h w = err_is _ q w
-within_part marks.Other n p q i h w = err_is _ q w
+within_part m n p q i h w = err_is _ q w
 
 pub within_begin : (n : ℕ) → IsPartWithin n begin
 within_begin n = (omega arith, tt)
@@ -142,28 +129,13 @@ within_in_part m n s t i h w =
     subst (λ (x : TripletReader). IsPartWithin (n + 1) x.part) (sym p.state) (within_part m n s.part p.part i h p.part_is)
 
 pub within_by : (nt : Notation) → (m : Mark) (n : ℕ) (s t : TripletReader) → IsMarkInRange m → IsPartWithin n s.part → step nt m s ≡ going t → IsPartWithin (n + 1) t.part
-within_by nt marks.Blank n s t i h w = within_in_part marks.Blank n s t i h w
-within_by nt (marks.Signs g) n s t i h w = within_in_part (marks.Signs g) n s t i h w
-within_by nt (marks.Letter a) n s t i h w = within_in_part (marks.Letter a) n s t i h w
-within_by nt (marks.Digit d) n s t i h w = within_in_part (marks.Digit d) n s t i h w
-within_by nt marks.Slash n s t i h w = within_in_part marks.Slash n s t i h w
 within_by nt marks.Comma n s t i h w = within_comma nt (settled s.part) (n + 1) s t w
 within_by nt marks.Hash n s t i h w = absurd cc
-within_by nt marks.Open n s t i h w = within_in_part marks.Open n s t i h w
-within_by nt marks.Close n s t i h w = within_in_part marks.Close n s t i h w
-within_by nt marks.Other n s t i h w = within_in_part marks.Other n s t i h w
+within_by nt m n s t i h w = within_in_part m n s t i h w
 
 range_of : (nt : Notation) → (m : Mark) (b : ℕ) → IsMark nt b m → IsMarkInRange m
-range_of nt marks.Blank b h = tt
-range_of nt (marks.Signs s) b h = tt
-range_of nt (marks.Letter a) b h = tt
 range_of nt (marks.Digit n) b h = let low = h.0.low in let high = h.0.high in let e = h.2 in omega arith
-range_of nt marks.Slash b h = tt
-range_of nt marks.Comma b h = tt
-range_of nt marks.Hash b h = tt
-range_of nt marks.Open b h = tt
-range_of nt marks.Close b h = tt
-range_of nt marks.Other b h = tt
+range_of nt m b h = tt
 
 pub mark_range : (nt : Notation) → (b : ℕ) → IsMarkInRange (mark nt b)
 mark_range nt b = range_of nt (mark nt b) b (mark_is nt b)
@@ -175,12 +147,10 @@ pub within_start : IsPartWithin 0 begin
 within_start = within_begin 0
 
 small_spot : (spot : Spot) → IsSpotWithin spot → IsSpotSmall spot
-small_spot Begin h = tt
-small_spot Signed h = tt
 small_spot (Digits n v) h = (h.1.0, h.1.1.0)
 small_spot (Divided v) h = h
 small_spot (Below v d) h = h
-small_spot Behind h = tt
+small_spot spot h = tt
 
 roomy_size : (z : ℤ) → nat_abs z ≤ 2 ^ 50 → (neg_ℤ (pos (2 ^ 50)) ≤ℤ z) × (z ≤ℤ pos (2 ^ 50))
 roomy_size (pos m) h = (omega (arith, ints), omega (arith, ints))

@@ -279,8 +279,7 @@ BeginningAfter nt bs = (ks : List Blank) (c : ℕ) → c ≡ length (blanks_text
 
 mark_blank : (nt : Notation) → (k : Blank) → mark nt (blank_byte k) ≡ marks.Blank
 mark_blank nt space = refl
-mark_blank nt tab = refl
-mark_blank nt carriage_return = refl
+mark_blank nt k = refl
 
 no_blank : (nt : Notation) → (b : ℕ) (m : Mark) → mark nt b ≡ m → m ≢ marks.Blank → (k : Blank) → b ≢ blank_byte k
 no_blank nt b m e n k h = n (sym e ∙ (ap (mark nt) h ∙ mark_blank nt k))
@@ -302,15 +301,7 @@ begin_by nt marks.Blank b bs ks c further e i g h =
     let a : blanks_text ks ++ b ∷ [] ≡ blanks_text (ks ++ i.0 ∷ []) = ap (λ x. blanks_text ks ++ x ∷ []) i.1 ∙ blanks_more ks i.0 in
     subst (λ ls. IsGiven nt (text_run nt (Ok (first_kept (c + 1) texts.Beginning)) bs) ls) (ap (λ (x : List ℕ). with_front x (lines_of bs)) (sym a) ∙ front_front (blanks_text ks) (b ∷ []) (lines_of bs))
     (further (ks ++ i.0 ∷ []) (c + 1) (omega (arith, h, ap length a, length-append (blanks_text ks) (b ∷ []))))
-begin_by nt (marks.Signs s) b bs ks c further e i g h = begin_other nt (start_step nt (marks.Signs s)) (marks.Signs s) b bs ks c e (λ z. cc) g h refl
-begin_by nt (marks.Letter a) b bs ks c further e i g h = begin_other nt (start_step nt (marks.Letter a)) (marks.Letter a) b bs ks c e (λ z. cc) g h refl
-begin_by nt (marks.Digit d) b bs ks c further e i g h = begin_other nt (start_step nt (marks.Digit d)) (marks.Digit d) b bs ks c e (λ z. cc) g h refl
-begin_by nt marks.Slash b bs ks c further e i g h = begin_other nt (start_step nt marks.Slash) marks.Slash b bs ks c e (λ z. cc) g h refl
-begin_by nt marks.Comma b bs ks c further e i g h = begin_other nt (start_step nt marks.Comma) marks.Comma b bs ks c e (λ z. cc) g h refl
-begin_by nt marks.Hash b bs ks c further e i g h = begin_other nt (start_step nt marks.Hash) marks.Hash b bs ks c e (λ z. cc) g h refl
-begin_by nt marks.Open b bs ks c further e i g h = begin_other nt (start_step nt marks.Open) marks.Open b bs ks c e (λ z. cc) g h refl
-begin_by nt marks.Close b bs ks c further e i g h = begin_other nt (start_step nt marks.Close) marks.Close b bs ks c e (λ z. cc) g h refl
-begin_by nt marks.Other b bs ks c further e i g h = begin_other nt (start_step nt marks.Other) marks.Other b bs ks c e (λ z. cc) g h refl
+begin_by nt m b bs ks c further e i g h = begin_other nt (start_step nt m) m b bs ks c e (λ z. cc) g h refl
 
 abbrev word_begun : Result TextPlace TextKind
 word_begun = Ok (texts.Heading words.G)

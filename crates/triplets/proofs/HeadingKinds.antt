@@ -30,13 +30,11 @@ record IsInWord (f : LineSeen) : Type 0 where
 
 bare_blank : (f : LineSeen) (k : Blank) → IsBare f → IsBare (line_seen_step f (blank_byte k))
 bare_blank f space h = record { bracket = h.bracket; used = h.used }
-bare_blank f tab h = record { bracket = h.bracket; used = h.used }
-bare_blank f carriage_return h = record { bracket = h.bracket; used = h.used }
+bare_blank f k h = record { bracket = h.bracket; used = h.used }
 
 word_blank : (f : LineSeen) (k : Blank) → IsInWord f → IsInWord (line_seen_step f (blank_byte k))
 word_blank f space h = record { between = between_blank f space h.between; no_end = h.no_end; letter = h.letter }
-word_blank f tab h = record { between = between_blank f tab h.between; no_end = h.no_end; letter = h.letter }
-word_blank f carriage_return h = record { between = between_blank f carriage_return h.between; no_end = h.no_end; letter = h.letter }
+word_blank f k h = record { between = between_blank f k h.between; no_end = h.no_end; letter = h.letter }
 
 word_blanks : (ks : List Blank) (f : LineSeen) → IsInWord f → IsInWord (line_seen f (blanks_text ks))
 word_blanks [] f h = h
@@ -81,16 +79,7 @@ seen_blanks (b ∷ bs) p f hs h g n = seen_blanks bs p (line_seen_step f (blank_
 
 no_comment : (nt : Notation) → (p : HeadingPlace) (b : ℕ) (k : TextKind) → heading_step nt b p ≡ heading_stopped k → IsCommented p → ⊥
 no_comment nt words.Comment b k e h = absurd cc
-no_comment nt words.G b k e h = h
-no_comment nt words.Ge b k e h = h
-no_comment nt words.Gen b k e h = h
-no_comment nt words.Gene b k e h = h
-no_comment nt words.Gener b k e h = h
-no_comment nt words.Genera b k e h = h
-no_comment nt words.Generat b k e h = h
-no_comment nt words.Generato b k e h = h
-no_comment nt words.Generator b k e h = h
-no_comment nt words.Generators b k e h = h
+no_comment nt p b k e h = h
 
 not_fresh : (m n : ℕ) → 97 ≤ m → Fresh m n → ⊥
 not_fresh m n h (inl x) = omega (arith, h, x)

@@ -37,16 +37,7 @@ record IsPartly (hs : List ℕ) : Type 0 where
 
 commented : (nt : Notation) → (p : HeadingPlace) (xs : List ℕ) → heading_run nt (heading_going p) xs ≡ heading_going words.Generators → IsCommented p → ⊥
 commented nt words.Comment xs w h = let z : heading_going words.Comment ≡ heading_going words.Generators = sym (comment_run nt xs) ∙ w in cc
-commented nt words.G xs w h = h
-commented nt words.Ge xs w h = h
-commented nt words.Gen xs w h = h
-commented nt words.Gene xs w h = h
-commented nt words.Gener xs w h = h
-commented nt words.Genera xs w h = h
-commented nt words.Generat xs w h = h
-commented nt words.Generato xs w h = h
-commented nt words.Generator xs w h = h
-commented nt words.Generators xs w h = h
+commented nt p xs w h = h
 
 partly_by : (nt : Notation) → (r : Result HeadingPlace TextKind) (hs more : List ℕ) → heading_run nt (heading_going words.G) hs ≡ r → heading_run nt r more ≡ heading_going words.Generators → IsPartly hs
 partly_by nt (Err k) hs more h w = absurd (let z : heading_stopped k ≡ heading_going words.Generators = sym (run_heading_stopped nt k more) ∙ w in cc)

@@ -92,14 +92,7 @@ behind_more nt marks.Blank hs b q i g h =
     subst (λ x. IsBegun x (hs ++ b ∷ [])) (place_is words.Generators q h)
     (g.0 ++ i.0 ∷ [], longer hs (other_letters ++ blanks_text g.0) b (blank_byte i.0) g.1 i.1 ∙ ap (λ (x : List ℕ). other_letters ++ x) (blanks_more g.0 i.0))
 behind_more nt marks.Hash hs b q i g h = subst (λ x. IsBegun x (hs ++ b ∷ [])) (place_is words.Comment q h) (g.0, [], longer hs (other_letters ++ blanks_text g.0) b 35 g.1 i)
-behind_more nt (marks.Signs s) hs b q i g h = no_place _ q h
-behind_more nt (marks.Letter a) hs b q i g h = no_place _ q h
-behind_more nt (marks.Digit d) hs b q i g h = no_place _ q h
-behind_more nt marks.Slash hs b q i g h = no_place _ q h
-behind_more nt marks.Comma hs b q i g h = no_place _ q h
-behind_more nt marks.Open hs b q i g h = no_place _ q h
-behind_more nt marks.Close hs b q i g h = no_place _ q h
-behind_more nt marks.Other hs b q i g h = no_place _ q h
+behind_more nt m hs b q i g h = no_place _ q h
 
 -- one more byte
 pub begun_more : (nt : Notation) → (p q : HeadingPlace) (hs : List ℕ) (b : ℕ) → IsBegun p hs → heading_step nt b p ≡ heading_going q → IsBegun q (hs ++ b ∷ [])
@@ -140,15 +133,7 @@ pub whole_heading : (bs : List Blank) (p : HeadingPlace) (hs : List ℕ) → IsB
 whole_heading bs words.Generators hs g e =
     record { before = bs; behind = g.0; comment = None; text = ap (λ (x : List ℕ). blanks_text bs ++ (103 ∷ x)) (g.1 ∙ ap (λ (x : List ℕ). other_letters ++ x) (sym (append-nil (blanks_text g.0)))) }
 whole_heading bs words.Comment hs g e = record { before = bs; behind = g.0; comment = Some g.1; text = ap (λ (x : List ℕ). blanks_text bs ++ (103 ∷ x)) g.2 }
-whole_heading bs words.G hs g e = absurd cc
-whole_heading bs words.Ge hs g e = absurd cc
-whole_heading bs words.Gen hs g e = absurd cc
-whole_heading bs words.Gene hs g e = absurd cc
-whole_heading bs words.Gener hs g e = absurd cc
-whole_heading bs words.Genera hs g e = absurd cc
-whole_heading bs words.Generat hs g e = absurd cc
-whole_heading bs words.Generato hs g e = absurd cc
-whole_heading bs words.Generator hs g e = absurd cc
+whole_heading bs p hs g e = absurd cc
 
 itself : (bytes : List ℕ) → IsHeading bytes → IsPrefixIn IsHeading bytes
 itself bytes h = ([], subst IsHeading (sym (append-nil bytes)) h)
@@ -180,16 +165,9 @@ comment_run nt (c ∷ cs) = comment_run nt cs
 
 begun_run : (nt : Notation) → (p : HeadingPlace) (hs : List ℕ) → IsBegun p hs → heading_run nt (heading_going words.G) hs ≡ heading_going p
 begun_run nt words.G hs g = ap (heading_run nt (heading_going words.G)) g
-begun_run nt words.Ge hs g = ap (heading_run nt (heading_going words.G)) g
-begun_run nt words.Gen hs g = ap (heading_run nt (heading_going words.G)) g
-begun_run nt words.Gene hs g = ap (heading_run nt (heading_going words.G)) g
-begun_run nt words.Gener hs g = ap (heading_run nt (heading_going words.G)) g
-begun_run nt words.Genera hs g = ap (heading_run nt (heading_going words.G)) g
-begun_run nt words.Generat hs g = ap (heading_run nt (heading_going words.G)) g
-begun_run nt words.Generato hs g = ap (heading_run nt (heading_going words.G)) g
-begun_run nt words.Generator hs g = ap (heading_run nt (heading_going words.G)) g
 begun_run nt words.Generators hs g = ap (heading_run nt (heading_going words.G)) (g.1 ∙ ap (λ (x : List ℕ). other_letters ++ x) (sym (append-nil (blanks_text g.0)))) ∙ blanks_run nt g.0 []
 begun_run nt words.Comment hs g = ap (heading_run nt (heading_going words.G)) g.2 ∙ (blanks_run nt g.0 (35 ∷ g.1) ∙ comment_run nt g.1)
+begun_run nt p hs g = ap (heading_run nt (heading_going words.G)) g
 
 -- the bytes behind the first letter are read to the end of the heading
 record IsRead (nt : Notation) (hs : List ℕ) : Type 0 where
@@ -205,8 +183,7 @@ word_read nt ks (Some cs) = record { last = words.Comment; run_is = blanks_run n
 
 blank_no_g : (k : Blank) → blank_byte k ≢ 103
 blank_no_g space e = omega arith
-blank_no_g tab e = omega arith
-blank_no_g carriage_return e = omega arith
+blank_no_g k e = omega arith
 
 head_is : (a b : ℕ) (xs ys : List ℕ) → a ∷ xs ≡ b ∷ ys → a ≡ b
 head_is a b xs ys e = cc
@@ -267,8 +244,7 @@ no_vector nt bs hs c rest e =
   where
     blank_no_bracket : (k : Blank) → blank_byte k ≢ opening
     blank_no_bracket space e = omega arith
-    blank_no_bracket tab e = omega arith
-    blank_no_bracket carriage_return e = omega arith
+    blank_no_bracket k e = omega arith
 
 -- ---- the faults of the reader
 
@@ -302,11 +278,7 @@ stopped_by nt p b k h = by_place p h
     behind (marks.Signs s) i e = inr ((λ y. let z : marks.Signs s ≡ marks.Hash = sym i ∙ y in cc), kind_is kinds.UnknownSign e)
     behind (marks.Letter a) i e = inr ((λ y. let z : marks.Letter a ≡ marks.Hash = sym i ∙ y in cc), kind_is kinds.UnknownSign e)
     behind (marks.Digit d) i e = inr ((λ y. let z : marks.Digit d ≡ marks.Hash = sym i ∙ y in cc), kind_is kinds.UnknownSign e)
-    behind marks.Slash i e = inr ((λ y. let z : marks.Slash ≡ marks.Hash = sym i ∙ y in cc), kind_is kinds.UnknownSign e)
-    behind marks.Comma i e = inr ((λ y. let z : marks.Comma ≡ marks.Hash = sym i ∙ y in cc), kind_is kinds.UnknownSign e)
-    behind marks.Open i e = inr ((λ y. let z : marks.Open ≡ marks.Hash = sym i ∙ y in cc), kind_is kinds.UnknownSign e)
-    behind marks.Close i e = inr ((λ y. let z : marks.Close ≡ marks.Hash = sym i ∙ y in cc), kind_is kinds.UnknownSign e)
-    behind marks.Other i e = inr ((λ y. let z : marks.Other ≡ marks.Hash = sym i ∙ y in cc), kind_is kinds.UnknownSign e)
+    behind m i e = inr ((λ y. let z : m ≡ marks.Hash = sym i ∙ y in cc), kind_is kinds.UnknownSign e)
 
     by_place : (p : HeadingPlace) → heading_step nt b p ≡ heading_stopped k → ((b ≡ 35) × (k ≡ kinds.MissingPart)) ⊎ ((mark nt b ≢ marks.Hash) × (k ≡ kinds.UnknownSign))
     by_place words.G e = letter 101 words.Ge e

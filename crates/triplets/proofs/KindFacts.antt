@@ -53,13 +53,11 @@ silent_fault nt f S G b m k e h w = subst (λ x. Tabled nt f S G b x) (sym w) (u
 
 pub no_letter_44 : (a : Axis) → is_letter a 44 ≡ false
 no_letter_44 X = refl
-no_letter_44 Y = refl
-no_letter_44 Z = refl
+no_letter_44 a = refl
 
 pub no_letter_35 : (a : Axis) → is_letter a 35 ≡ false
 no_letter_35 X = refl
-no_letter_35 Y = refl
-no_letter_35 Z = refl
+no_letter_35 a = refl
 
 abbrev pub Whole : (nt : Notation) → TripletReader → Type 0 → Type 0
 Whole nt s G = ((t : Motion3) → value nt s ≡ found t → G) × (value nt s ≡ no_triplet → G → ⊥)
@@ -88,16 +86,11 @@ early_unknown nt f S G m g = inr (λ e. absurd (omega (arith, e.0)), inr (λ e. 
 
 pub early_fault : (nt : Notation) → (spot : Spot) (f : Seen) (S : Axis → Bool) (G : Type 0) → SpotAgrees spot f → (G → ⊥) → Tabled nt f S G 44 (early_comma spot)
 early_fault nt Begin f S G h g = inr (λ e. absurd (omega (arith, e.0)), inr (λ e. g e.1, inl ((refl, h.0), refl)))
-early_fault nt Signed f S G h g = early_unknown nt f S G h.0 g
-early_fault nt (Digits n v) f S G h g = early_unknown nt f S G h.0 g
-early_fault nt (Divided v) f S G h g = early_unknown nt f S G h.0 g
-early_fault nt (Below v d) f S G h g = early_unknown nt f S G h.0 g
-early_fault nt Behind f S G h g = early_unknown nt f S G h.0 g
+early_fault nt spot f S G h g = early_unknown nt f S G h.0 g
 
 pub value_none : (nt : Notation) → (n : Nth) (s : TripletReader) → value_at nt n None s ≡ no_triplet
 value_none nt First s = refl
-value_none nt Second s = refl
-value_none nt Third s = refl
+value_none nt n s = refl
 
 -- a comma stands behind no part that the notation has not
 abbrev pub IsCounted : Notation → Nth → Mark → Type 0
@@ -165,14 +158,11 @@ fault_by nt (marks.Digit d) s f S G b k e i n u h g w =
 fault_by nt marks.Slash s f S G b k e i n u h g w = silent_fault nt f S G b _ k e refl (slash_fault s.part.spot s.part.row s.part.used s.part.sign k (part_stops _ s k w))
 fault_by nt marks.Comma s f S G b k e i n u h g w = subst (λ x. Tabled nt f S G x k) (sym i) (comma_fault nt (settled s.part) s.nth s f S G k n h g refl refl w)
 fault_by nt marks.Hash s f S G b k e i n u h g w = subst (λ x. Tabled nt f S G x k) (sym i) (hash_fault nt (value nt s) s f S G k g refl w)
-fault_by nt marks.Open s f S G b k e i n u h g w = silent_fault nt f S G b _ k e refl (err_kind _ k (part_stops _ s k w))
-fault_by nt marks.Close s f S G b k e i n u h g w = silent_fault nt f S G b _ k e refl (err_kind _ k (part_stops _ s k w))
-fault_by nt marks.Other s f S G b k e i n u h g w = silent_fault nt f S G b _ k e refl (err_kind _ k (part_stops _ s k w))
+fault_by nt m s f S G b k e i n u h g w = silent_fault nt f S G b _ k e refl (err_kind _ k (part_stops _ s k w))
 
 pub stands_used : (bs : List ℕ) (x : Axis) → stands x false bs ≡ uses x (seen nothing_seen bs).used
 stands_used bs X = refl
-stands_used bs Y = refl
-stands_used bs Z = refl
+stands_used bs x = refl
 
 -- the kind is the table's
 pub fault_kind : (nt : Notation) → nt ≡ Triplets → (before : List ℕ) (b : ℕ) (s : TripletReader) (k : TextKind) → run nt (Ok start) before ≡ going s → step nt (mark nt b) s ≡ stopped k → HasKind nt before b k

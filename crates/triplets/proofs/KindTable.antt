@@ -162,10 +162,8 @@ pub new_letter_fault : (nt : Notation) → (spot : Spot) (r : rows.Row) (u : Use
 new_letter_fault nt Begin r u g f a c k axis h w = not_ok _ k w
 new_letter_fault nt Signed r u g f a c k axis h w = not_ok _ k w
 new_letter_fault nt (Digits n v) r u g f a c k axis h w = inl (((a, letter_self a c, axis), omega (arith, h.1, h.3)), unmet _ _ _ k w)
-new_letter_fault nt (Divided v) r u g f a c k axis h w =
-    inr (λ e. omega (arith, e.1, h.1), inr (λ e. apart _ e.0 (letter_bounds a c).3, inr (λ e. apart _ e.0 (letter_bounds a c).3, err_kind _ k w)))
 new_letter_fault nt (Below v d) r u g f a c k axis h w = inl (((a, letter_self a c, axis), h.1), err_kind _ k w)
-new_letter_fault nt Behind r u g f a c k axis h w =
+new_letter_fault nt spot r u g f a c k axis h w =
     inr (λ e. omega (arith, e.1, h.1), inr (λ e. apart _ e.0 (letter_bounds a c).3, inr (λ e. apart _ e.0 (letter_bounds a c).3, err_kind _ k w)))
 
 pub letter_fault_by : (nt : Notation) → (t : Bool) (spot : Spot) (r : rows.Row) (u : Used) (g : Sign) (f : Seen) (S : Axis → Bool) (G : Type 0) (a : Axis) (c : Bool) (k : TextKind) → has_axis nt a ≡ true → ((x : Axis) → S x ≡ uses x u) → SpotAgrees spot f →
@@ -235,25 +233,14 @@ digit_fault nt spot r u g f S G d k h w =
 
 -- a blank, a sign or a slash is no fault of another kind
 pub blank_fault : (spot : Spot) (r : rows.Row) (u : Used) (g : Sign) (k : TextKind) → on_blank (at r u g spot) ≡ part_stopped k → k ≡ kinds.UnknownSign
-blank_fault Begin r u g k w = not_ok _ k w
-blank_fault Signed r u g k w = not_ok _ k w
-blank_fault (Digits n v) r u g k w = not_ok _ k w
 blank_fault (Divided v) r u g k w = err_kind _ k w
-blank_fault (Below v d) r u g k w = not_ok _ k w
-blank_fault Behind r u g k w = not_ok _ k w
+blank_fault spot r u g k w = not_ok _ k w
 
 pub sign_fault : (spot : Spot) (r : rows.Row) (u : Used) (g s : Sign) (k : TextKind) → on_sign s (at r u g spot) ≡ part_stopped k → k ≡ kinds.UnknownSign
-sign_fault Begin r u g s k w = not_ok _ k w
 sign_fault Signed r u g s k w = err_kind _ k w
-sign_fault (Digits n v) r u g s k w = not_ok _ k w
 sign_fault (Divided v) r u g s k w = err_kind _ k w
-sign_fault (Below v d) r u g s k w = not_ok _ k w
-sign_fault Behind r u g s k w = not_ok _ k w
+sign_fault spot r u g s k w = not_ok _ k w
 
 pub slash_fault : (spot : Spot) (r : rows.Row) (u : Used) (g : Sign) (k : TextKind) → on_slash (at r u g spot) ≡ part_stopped k → k ≡ kinds.UnknownSign
-slash_fault Begin r u g k w = err_kind _ k w
-slash_fault Signed r u g k w = err_kind _ k w
 slash_fault (Digits n v) r u g k w = not_ok _ k w
-slash_fault (Divided v) r u g k w = err_kind _ k w
-slash_fault (Below v d) r u g k w = err_kind _ k w
-slash_fault Behind r u g k w = err_kind _ k w
+slash_fault spot r u g k w = err_kind _ k w

@@ -195,15 +195,7 @@ comment_reaches nt l q (Some t) p h e =
 
 in_operation_reaches : (nt : Notation) → (m : Mark) (l : Option Label) (q : Begun nt) (b : ℕ) (p : LinePlace) → IsMark nt b m → operation_step nt m (begun_state nt q) ≡ placed p → Reaches nt (at_operation l q) b p []
 in_operation_reaches nt marks.Hash l q b p i e = subst (λ c. Reaches nt (at_operation l q) c p []) (sym i) (comment_reaches nt l q (value nt (begun_state nt q)) p refl e)
-in_operation_reaches nt marks.Blank l q b p i e = operation_reaches nt l q marks.Blank b p i e
-in_operation_reaches nt (marks.Signs s) l q b p i e = operation_reaches nt l q (marks.Signs s) b p i e
-in_operation_reaches nt (marks.Letter a) l q b p i e = operation_reaches nt l q (marks.Letter a) b p i e
-in_operation_reaches nt (marks.Digit n) l q b p i e = operation_reaches nt l q (marks.Digit n) b p i e
-in_operation_reaches nt marks.Slash l q b p i e = operation_reaches nt l q marks.Slash b p i e
-in_operation_reaches nt marks.Comma l q b p i e = operation_reaches nt l q marks.Comma b p i e
-in_operation_reaches nt marks.Open l q b p i e = operation_reaches nt l q marks.Open b p i e
-in_operation_reaches nt marks.Close l q b p i e = operation_reaches nt l q marks.Close b p i e
-in_operation_reaches nt marks.Other l q b p i e = operation_reaches nt l q marks.Other b p i e
+in_operation_reaches nt m l q b p i e = operation_reaches nt l q m b p i e
 
 -- ---- at the start
 
@@ -219,13 +211,7 @@ start_reaches : (nt : Notation) → (m : Mark) (bs : List Blank) (b : ℕ) (p : 
 start_reaches nt marks.Blank bs b p i e = subst (λ c. Reaches nt (at_start bs) c p []) (sym i.1) (record { to = at_start (bs ++ i.0 ∷ []); text = blanks_more bs i.0; state = at_state p _ [] e })
 start_reaches nt marks.Open bs b p i e = subst (λ c. Reaches nt (at_start bs) c p []) (sym i) (record { to = at_opening bs no_digit; text = refl; state = at_state p _ [] e })
 start_reaches nt marks.Hash bs b p i e = subst (λ c. Reaches nt (at_start bs) c p []) (sym i) (record { to = at_comment (empty bs) []; text = refl; state = at_state p _ [] e })
-start_reaches nt (marks.Signs s) bs b p i e = first_reaches nt (marks.Signs s) bs b p i e
-start_reaches nt (marks.Letter a) bs b p i e = first_reaches nt (marks.Letter a) bs b p i e
-start_reaches nt (marks.Digit n) bs b p i e = first_reaches nt (marks.Digit n) bs b p i e
-start_reaches nt marks.Slash bs b p i e = first_reaches nt marks.Slash bs b p i e
-start_reaches nt marks.Comma bs b p i e = first_reaches nt marks.Comma bs b p i e
-start_reaches nt marks.Close bs b p i e = first_reaches nt marks.Close bs b p i e
-start_reaches nt marks.Other bs b p i e = first_reaches nt marks.Other bs b p i e
+start_reaches nt m bs b p i e = first_reaches nt m bs b p i e
 
 -- ---- in a vector
 
@@ -289,8 +275,7 @@ plain_reaches nt r bs v m b p plain i e =
 
 part_of : (nt : Notation) → (v : VectorBegun nt) → (vector_state nt v).part ≡ partial_state nt (last_part nt v)
 part_of nt (in_one q h) = refl
-part_of nt (in_two c q h) = refl
-part_of nt (in_three i c d q h) = refl
+part_of nt v = refl
 
 plain_step : (nt : Notation) → (r : Option (Centrings nt)) (bs : List Blank) (v : VectorBegun nt) (m : Mark) (b : ℕ) (p : LinePlace) → is_plain m ≡ true → IsMark nt b m → in_coordinate false (vector_state nt v) (part_step m (vector_state nt v).part) ≡ placed p →
     Reaches nt (at_vector r bs v) b p (prior_value nt r)
@@ -298,8 +283,7 @@ plain_step nt r bs v m b p plain i e = plain_reaches nt r bs v m b p plain i (su
 
 label_of : (nt : Notation) → (v : VectorBegun nt) → (vector_state nt v).label ≡ false
 label_of nt (in_one q h) = refl
-label_of nt (in_two c q h) = refl
-label_of nt (in_three i c d q h) = refl
+label_of nt v = refl
 
 -- a sign at the beginning of a coordinate
 sign_reaches : (nt : Notation) → (r : Option (Centrings nt)) (bs : List Blank) (v : VectorBegun nt) (q : Partial nt) (s : Sign) (p : LinePlace) → last_part nt v ≡ q → IsLike nt q → coordinate_sign s (partial_state nt q).spot (vector_state nt v) ≡ placed p →
@@ -311,12 +295,8 @@ sign_reaches nt r bs v (lead (bare cs) good) s p l h e =
       text = bracket_more nt r bs (vector_text nt v) (sign_byte s ∷ []) (vector_text nt (with_last nt v to tt)) (last_text nt v to tt (sign_byte s) (ap (λ (x : Partial nt). partial_text nt x ++ sign_byte s ∷ []) l));
       state = ap (λ (x : LinePlace). state_of x (prior_value nt r)) (placed_is _ p e ∙ ap (λ (x : VectorReader). places.Coordinates x) (last_state nt v to tt (with_sign s (vector_state nt v).part) (ap (with_sign s) (part_of nt v ∙ ap (partial_state nt) l))));
     }
-sign_reaches nt r bs v (lead (sign cs t ds) good) s p l h e = no_place _ p e
 sign_reaches nt r bs v (lead (more k t cs u ds) good) s p l h e = absurd h
-sign_reaches nt r bs v (digits k good d ds short) s p l h e = no_place _ p e
-sign_reaches nt r bs v (divided k good n) s p l h e = no_place _ p e
-sign_reaches nt r bs v (below k good n u) s p l h e = no_place _ p e
-sign_reaches nt r bs v (behind w) s p l h e = no_place _ p e
+sign_reaches nt r bs v q s p l h e = no_place _ p e
 
 -- a comma
 comma_reaches : (nt : Notation) → (v : VectorBegun nt) (o : Option PartReader) (r : Option (Centrings nt)) (bs : List Blank) (p : LinePlace) → settled (partial_state nt (last_part nt v)) ≡ o → coordinate_comma nt o (vector_state nt v) ≡ placed p → Reaches nt (at_vector r bs v) 44 p (prior_value nt r)
@@ -373,7 +353,6 @@ no_label true d x y e = absurd cc
 no_label false d x y e = refl
 
 vector_reaches : (nt : Notation) → (m : Mark) (r : Option (Centrings nt)) (bs : List Blank) (v : VectorBegun nt) (b : ℕ) (p : LinePlace) → IsMark nt b m → vector_step nt m (vector_state nt v) ≡ placed p → Reaches nt (at_vector r bs v) b p (prior_value nt r)
-vector_reaches nt (marks.Letter a) r bs v b p i e = no_place _ p e
 vector_reaches nt (marks.Signs s) r bs v b p i e =
     subst (λ c. Reaches nt (at_vector r bs v) c p (prior_value nt r)) (sym i)
     (sign_reaches nt r bs v (last_part nt v) s p refl (last_like nt v) (subst (λ (x : PartReader). coordinate_sign s x.spot (vector_state nt v) ≡ placed p) (part_of nt v) e))
@@ -388,9 +367,7 @@ vector_reaches nt marks.Close r bs v b p i e =
 vector_reaches nt (marks.Digit n) r bs v b p i e = plain_step nt r bs v (marks.Digit n) b p refl i (subst (λ l. in_coordinate l (vector_state nt v) (part_step (marks.Digit n) (vector_state nt v).part) ≡ placed p) (label_of nt v) e)
 vector_reaches nt marks.Blank r bs v b p i e = plain_step nt r bs v marks.Blank b p refl i e
 vector_reaches nt marks.Slash r bs v b p i e = plain_step nt r bs v marks.Slash b p refl i e
-vector_reaches nt marks.Hash r bs v b p i e = no_place _ p e
-vector_reaches nt marks.Open r bs v b p i e = no_place _ p e
-vector_reaches nt marks.Other r bs v b p i e = no_place _ p e
+vector_reaches nt m r bs v b p i e = no_place _ p e
 
 -- ---- behind an opening bracket
 
@@ -439,7 +416,6 @@ opening_close nt (some_digits d ds short) bs p e = record {
 }
 
 opening_reaches : (nt : Notation) → (m : Mark) (bs : List Blank) (o : Opening) (b : ℕ) (p : LinePlace) → IsMark nt b m → vector_step nt m (open_state nt o) ≡ placed p → Reaches nt (at_opening bs o) b p []
-opening_reaches nt (marks.Letter a) bs o b p i e = no_place _ p e
 opening_reaches nt (marks.Signs s) bs o b p i e = from_vector nt bs o b p (vector_reaches nt (marks.Signs s) None bs (as_vector nt o) b p i (opening_sign o s p e))
   where
     opening_sign : (o : Opening) (s : Sign) (p : LinePlace) → coordinate_sign s (partial_state nt (opening_part nt o)).spot (open_state nt o) ≡ placed p → coordinate_sign s (partial_state nt (opening_part nt o)).spot (vector_state nt (as_vector nt o)) ≡ placed p
@@ -463,9 +439,7 @@ opening_reaches nt marks.Slash bs o b p i e = from_vector nt bs o b p (vector_re
     opening_slash : (x : Result PartReader TextKind) (o : Opening) (p : LinePlace) → in_coordinate false (open_state nt o) x ≡ placed p → in_coordinate false (vector_state nt (as_vector nt o)) x ≡ placed p
     opening_slash (Ok x) o p e = e
     opening_slash (Err k) o p e = no_place _ p e
-opening_reaches nt marks.Hash bs o b p i e = no_place _ p e
-opening_reaches nt marks.Open bs o b p i e = no_place _ p e
-opening_reaches nt marks.Other bs o b p i e = no_place _ p e
+opening_reaches nt m bs o b p i e = no_place _ p e
 
 -- ---- behind a vector
 
@@ -506,15 +480,7 @@ closed_reaches nt (marks.Signs Plus) r bs c d e ks b p i w =
       text = bracket_more nt r bs (closed_text nt c d e (blanks_text ks)) (43 ∷ []) (closed_text nt c d e (blanks_text ks ++ 43 ∷ [])) (closed_more nt c d e (blanks_text ks) (43 ∷ [])) ∙ all_text nt r bs c d e ks;
       state = at_state p _ (prior_value nt r ++ centring_value nt v ∷ []) w ∙ ap (state_of places.Behind) (all_value nt r v);
     })
-closed_reaches nt (marks.Signs Minus) r bs c d e ks b p i w = no_place _ p w
-closed_reaches nt (marks.Letter a) r bs c d e ks b p i w = no_place _ p w
-closed_reaches nt (marks.Digit n) r bs c d e ks b p i w = no_place _ p w
-closed_reaches nt marks.Slash r bs c d e ks b p i w = no_place _ p w
-closed_reaches nt marks.Comma r bs c d e ks b p i w = no_place _ p w
-closed_reaches nt marks.Hash r bs c d e ks b p i w = no_place _ p w
-closed_reaches nt marks.Open r bs c d e ks b p i w = no_place _ p w
-closed_reaches nt marks.Close r bs c d e ks b p i w = no_place _ p w
-closed_reaches nt marks.Other r bs c d e ks b p i w = no_place _ p w
+closed_reaches nt m r bs c d e ks b p i w = no_place _ p w
 
 behind_reaches : (nt : Notation) → (m : Mark) (r : Centrings nt) (bs : List Blank) (b : ℕ) (p : LinePlace) → IsMark nt b m → behind_step m ≡ placed p → Reaches nt (at_behind r bs) b p (centrings_value nt r)
 behind_reaches nt marks.Blank r bs b p i w =
@@ -535,13 +501,7 @@ behind_reaches nt marks.Hash r bs b p i w =
       text = refl;
       state = at_state p _ (centrings_value nt r) w;
     })
-behind_reaches nt (marks.Signs s) r bs b p i w = no_place _ p w
-behind_reaches nt (marks.Letter a) r bs b p i w = no_place _ p w
-behind_reaches nt (marks.Digit n) r bs b p i w = no_place _ p w
-behind_reaches nt marks.Slash r bs b p i w = no_place _ p w
-behind_reaches nt marks.Comma r bs b p i w = no_place _ p w
-behind_reaches nt marks.Close r bs b p i w = no_place _ p w
-behind_reaches nt marks.Other r bs b p i w = no_place _ p w
+behind_reaches nt m r bs b p i w = no_place _ p w
 
 -- ---- any step
 

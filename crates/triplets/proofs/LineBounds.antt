@@ -74,23 +74,16 @@ bounded_close nt false n v q e = bounded_closed nt v.nth (settled v.part) n v q 
 
 bounded_sign : (spot : Spot) (s : Sign) (n : ℕ) (v : VectorReader) (q : LinePlace) → IsPartWithin n v.part → coordinate_sign s spot v ≡ placed q → IsPlaceWithin (n + 1) q
 bounded_sign Begin s n v q h e = bounded (n + 1) _ q e (more_room n v.part.row h.0, tt)
-bounded_sign Signed s n v q h e = not_placed _ q e
-bounded_sign (Digits k w) s n v q h e = not_placed _ q e
-bounded_sign (Divided w) s n v q h e = not_placed _ q e
-bounded_sign (Below w d) s n v q h e = not_placed _ q e
-bounded_sign Behind s n v q h e = not_placed _ q e
+bounded_sign spot s n v q h e = not_placed _ q e
 
 bounded_vector : (nt : Notation) → (m : Mark) (n : ℕ) (v : VectorReader) (q : LinePlace) → IsMarkInRange m → IsPartWithin n v.part → vector_step nt m v ≡ placed q → IsPlaceWithin (n + 1) q
-bounded_vector nt (marks.Letter a) n v q i h e = not_placed _ q e
 bounded_vector nt (marks.Signs s) n v q i h e = bounded_sign v.part.spot s n v q h e
 bounded_vector nt marks.Comma n v q i h e = bounded_comma nt (settled v.part) (n + 1) v q e
 bounded_vector nt marks.Close n v q i h e = bounded_close nt (v.label && is_digits v.part.spot) (n + 1) v q e
 bounded_vector nt (marks.Digit d) n v q i h e = bounded_coordinate (n + 1) (part_step (marks.Digit d) v.part) v.label v q (λ p w. within_part (marks.Digit d) n v.part p i h w) e
 bounded_vector nt marks.Blank n v q i h e = bounded_coordinate (n + 1) (part_step marks.Blank v.part) false v q (λ p w. within_part marks.Blank n v.part p i h w) e
 bounded_vector nt marks.Slash n v q i h e = bounded_coordinate (n + 1) (part_step marks.Slash v.part) false v q (λ p w. within_part marks.Slash n v.part p i h w) e
-bounded_vector nt marks.Hash n v q i h e = not_placed _ q e
-bounded_vector nt marks.Open n v q i h e = not_placed _ q e
-bounded_vector nt marks.Other n v q i h e = not_placed _ q e
+bounded_vector nt m n v q i h e = not_placed _ q e
 
 bounded_step : (nt : Notation) → (m : Mark) (n : ℕ) (t : TripletReader) (q : LinePlace) → IsMarkInRange m → IsPartWithin n t.part → in_operation (step nt m t) ≡ placed q → IsPlaceWithin (n + 1) q
 bounded_step nt m n t q i h e = bounded_operation (n + 1) (step nt m t) q (λ u w. within_by nt m n t u i h w) e
@@ -99,54 +92,26 @@ bounded_start : (nt : Notation) → (m : Mark) (n : ℕ) (q : LinePlace) → IsM
 bounded_start nt marks.Blank n q i e = bounded (n + 1) _ q e tt
 bounded_start nt marks.Open n q i e = bounded (n + 1) _ q e (within_begin (n + 1))
 bounded_start nt marks.Hash n q i e = bounded (n + 1) _ q e tt
-bounded_start nt (marks.Letter a) n q i e = bounded_step nt (marks.Letter a) n start q i (within_begin n) e
-bounded_start nt (marks.Signs s) n q i e = bounded_step nt (marks.Signs s) n start q i (within_begin n) e
-bounded_start nt (marks.Digit d) n q i e = bounded_step nt (marks.Digit d) n start q i (within_begin n) e
-bounded_start nt marks.Slash n q i e = bounded_step nt marks.Slash n start q i (within_begin n) e
-bounded_start nt marks.Comma n q i e = bounded_step nt marks.Comma n start q i (within_begin n) e
-bounded_start nt marks.Close n q i e = bounded_step nt marks.Close n start q i (within_begin n) e
-bounded_start nt marks.Other n q i e = bounded_step nt marks.Other n start q i (within_begin n) e
+bounded_start nt m n q i e = bounded_step nt m n start q i (within_begin n) e
 
 bounded_behind_comment : (o : Option Motion3) (n : ℕ) (q : LinePlace) → comment_behind o ≡ placed q → IsPlaceWithin n q
 bounded_behind_comment None n q e = not_placed _ q e
 bounded_behind_comment (Some t) n q e = bounded n _ q e tt
 
 bounded_in_operation : (nt : Notation) → (m : Mark) (n : ℕ) (t : TripletReader) (q : LinePlace) → IsMarkInRange m → IsPartWithin n t.part → operation_step nt m t ≡ placed q → IsPlaceWithin (n + 1) q
-bounded_in_operation nt marks.Blank n t q i h e = bounded_step nt marks.Blank n t q i h e
-bounded_in_operation nt marks.Open n t q i h e = bounded_step nt marks.Open n t q i h e
 bounded_in_operation nt marks.Hash n t q i h e = bounded_behind_comment (value nt t) (n + 1) q e
-bounded_in_operation nt (marks.Letter a) n t q i h e = bounded_step nt (marks.Letter a) n t q i h e
-bounded_in_operation nt (marks.Signs s) n t q i h e = bounded_step nt (marks.Signs s) n t q i h e
-bounded_in_operation nt (marks.Digit d) n t q i h e = bounded_step nt (marks.Digit d) n t q i h e
-bounded_in_operation nt marks.Slash n t q i h e = bounded_step nt marks.Slash n t q i h e
-bounded_in_operation nt marks.Comma n t q i h e = bounded_step nt marks.Comma n t q i h e
-bounded_in_operation nt marks.Close n t q i h e = bounded_step nt marks.Close n t q i h e
-bounded_in_operation nt marks.Other n t q i h e = bounded_step nt marks.Other n t q i h e
+bounded_in_operation nt m n t q i h e = bounded_step nt m n t q i h e
 
 bounded_in_closed : (m : Mark) (n : ℕ) (v : List Part) (q : LinePlace) → closed_step m v ≡ placed q → IsPlaceWithin n q
 bounded_in_closed marks.Blank n v q e = bounded n _ q e tt
 bounded_in_closed (marks.Signs Plus) n v q e = bounded n _ q e tt
-bounded_in_closed (marks.Signs Minus) n v q e = not_placed _ q e
-bounded_in_closed marks.Hash n v q e = not_placed _ q e
-bounded_in_closed (marks.Letter a) n v q e = not_placed _ q e
-bounded_in_closed (marks.Digit d) n v q e = not_placed _ q e
-bounded_in_closed marks.Slash n v q e = not_placed _ q e
-bounded_in_closed marks.Comma n v q e = not_placed _ q e
-bounded_in_closed marks.Open n v q e = not_placed _ q e
-bounded_in_closed marks.Close n v q e = not_placed _ q e
-bounded_in_closed marks.Other n v q e = not_placed _ q e
+bounded_in_closed m n v q e = not_placed _ q e
 
 bounded_in_behind : (m : Mark) (n : ℕ) (q : LinePlace) → behind_step m ≡ placed q → IsPlaceWithin n q
 bounded_in_behind marks.Blank n q e = bounded n _ q e tt
 bounded_in_behind marks.Open n q e = bounded n _ q e (within_begin n)
 bounded_in_behind marks.Hash n q e = bounded n _ q e tt
-bounded_in_behind (marks.Signs s) n q e = not_placed _ q e
-bounded_in_behind (marks.Letter a) n q e = not_placed _ q e
-bounded_in_behind (marks.Digit d) n q e = not_placed _ q e
-bounded_in_behind marks.Slash n q e = not_placed _ q e
-bounded_in_behind marks.Comma n q e = not_placed _ q e
-bounded_in_behind marks.Close n q e = not_placed _ q e
-bounded_in_behind marks.Other n q e = not_placed _ q e
+bounded_in_behind m n q e = not_placed _ q e
 
 bounded_place : (nt : Notation) → (p : LinePlace) (b : ℕ) (n : ℕ) (q : LinePlace) → IsPlaceWithin n p → place_step nt (mark nt b) p ≡ placed q → IsPlaceWithin (n + 1) q
 bounded_place nt places.Start b n q h e = bounded_start nt (mark nt b) n q (mark_range nt b) e
@@ -161,9 +126,6 @@ pub place_within : (nt : Notation) → (b n : ℕ) (p q : LinePlace) → IsPlace
 place_within nt b n p q h e = bounded_place nt p b n q h e
 
 pub place_small : (p : LinePlace) (n : ℕ) → n ≤ 16777216 → IsPlaceWithin n p → IsPlaceSmall p
-place_small places.Start n b h = tt
 place_small (places.Operation t) n b h = small n t.part (omega arith) h
 place_small (places.Coordinates v) n b h = small n v.part (omega arith) h
-place_small (places.Closed v) n b h = tt
-place_small places.Behind n b h = tt
-place_small (places.Comment o) n b h = tt
+place_small p n b h = tt

@@ -39,17 +39,14 @@ operation_line nt l q (Some t) a h e =
 
 form_said : (nt : Notation) → (f : Form nt) → lists (record { ops = operations_of (form_operation nt f); centrings = form_vectors nt f }) ≡ lists (form_value nt f)
 form_said nt (empty bs) = refl
-form_said nt (operation l v w x) = refl
-form_said nt (row vs bs) = refl
+form_said nt f = refl
 
 ends_as : (nt : Notation) → (q : LineBegun nt) (a : Listing) → line_value nt (line_state nt q) ≡ lists a → IsLine nt (line_text nt q) a
 ends_as nt (at_start bs) a e = no_comment nt (empty bs) (blanks_text bs) a refl (lists_is _ a e)
-ends_as nt (at_opening bs o) a e = absurd cc
 ends_as nt (at_operation l q) a e = operation_line nt l q (value nt (begun_state nt q)) a refl e
-ends_as nt (at_vector r bs v) a e = absurd cc
-ends_as nt (at_closed r bs c d f ks) a e = absurd cc
 ends_as nt (at_behind r bs) a e = no_comment nt (row r bs) (centrings_text nt r ++ blanks_text bs) a refl (lists_is _ a e)
 ends_as nt (at_comment f cs) a e = record { form = f; comment = Some cs; text = refl; value = lists_is _ a (sym (form_said nt f) ∙ e) }
+ends_as nt q a e = absurd cc
 
 begun_of : (nt : Notation) → (bytes : List ℕ) (s : LineState) → line_run nt (Ok line_start) bytes ≡ line_going s → LineGoes nt (at_start []) bytes s
 begun_of nt bytes s w = line_goes nt bytes (at_start []) s w

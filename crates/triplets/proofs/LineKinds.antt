@@ -107,23 +107,19 @@ not_stopped p k e = absurd cc
 -- ---- a comma
 
 pub settles_none : (spot : Spot) (r : rows.Row) (u : Used) (g : Sign) → (let o : Option PartReader = None in settled (at r u g spot) ≡ o) → settles spot ≡ false
-settles_none Begin r u g e = refl
-settles_none Signed r u g e = refl
 settles_none (Digits n v) r u g e = absurd cc
-settles_none (Divided v) r u g e = refl
 settles_none (Below v d) r u g e = absurd cc
 settles_none Behind r u g e = absurd cc
+settles_none spot r u g e = refl
 
 abbrev pub a_part : PartReader → Option PartReader
 a_part p = Some p
 
 pub settles_some : (spot : Spot) (r : rows.Row) (u : Used) (g : Sign) (p : PartReader) → settled (at r u g spot) ≡ a_part p → settles spot ≡ true
-settles_some Begin r u g p e = absurd cc
-settles_some Signed r u g p e = absurd cc
 settles_some (Digits n v) r u g p e = refl
-settles_some (Divided v) r u g p e = absurd cc
 settles_some (Below v d) r u g p e = refl
 settles_some Behind r u g p e = refl
+settles_some spot r u g p e = absurd cc
 
 pub is_fresh : (m c n : ℕ) → SameMark m c n → n ≡ 44 → Fresh m c
 is_fresh m c n (inl h) e = inl (h.0 ∙ e)
@@ -141,11 +137,7 @@ comma = 44
 pub early_rest : (nt : Notation) → (spot : Spot) (g : Seen) (f : LineSeen) (S : Axis → Bool) → SpotAgrees spot g → SameMark f.mark f.commas g.mark →
     TableRow ((comma ≡ 44) × Fresh f.mark f.commas) kinds.Empty (early_comma spot) (Suffix nt f.other f.count S 44 (early_comma spot))
 early_rest nt Begin g f S h m = inl ((refl, is_fresh _ _ _ m h.0), refl)
-early_rest nt Signed g f S h m = inr ((λ e. not_fresh _ _ _ m h.0 e.1), after_comma nt S f.other f.count)
-early_rest nt (Digits n v) g f S h m = inr ((λ e. not_fresh _ _ _ m h.0 e.1), after_comma nt S f.other f.count)
-early_rest nt (Divided v) g f S h m = inr ((λ e. not_fresh _ _ _ m h.0 e.1), after_comma nt S f.other f.count)
-early_rest nt (Below v d) g f S h m = inr ((λ e. not_fresh _ _ _ m h.0 e.1), after_comma nt S f.other f.count)
-early_rest nt Behind g f S h m = inr ((λ e. not_fresh _ _ _ m h.0 e.1), after_comma nt S f.other f.count)
+early_rest nt spot g f S h m = inr ((λ e. not_fresh _ _ _ m h.0 e.1), after_comma nt S f.other f.count)
 
 pub early_kind : (nt : Notation) → (f : LineSeen) (p : PartReader) (n : Nth) (S : Axis → Bool) → PartKnown f p n → settles p.spot ≡ false → LineKindOf nt f S 44 (early_comma p.spot)
 early_kind nt f p n S k e =
@@ -166,19 +158,8 @@ in_op_err (Ok t) k e = absurd cc
 in_op_err (Err l) k e = ap stopped (sym (stop_is _ k e))
 
 counted_by : (nt : Notation) (n : Nth) (m : Mark) → tame m ≡ true → IsCounted nt n m
-counted_by Triplets n m h = tt
-counted_by Pairs First m h = tt
-counted_by Pairs Second m h = tt
-counted_by Pairs Third marks.Blank h = tt
-counted_by Pairs Third (marks.Signs s) h = tt
-counted_by Pairs Third (marks.Letter a) h = tt
-counted_by Pairs Third (marks.Digit d) h = tt
-counted_by Pairs Third marks.Slash h = tt
 counted_by Pairs Third marks.Comma h = absurd cc
-counted_by Pairs Third marks.Hash h = tt
-counted_by Pairs Third marks.Open h = tt
-counted_by Pairs Third marks.Close h = tt
-counted_by Pairs Third marks.Other h = tt
+counted_by nt n m h = tt
 
 pub op_tame : (nt : Notation) → (m : Mark) (t : TripletReader) (f : LineSeen) (S : Axis → Bool) (b : ℕ) (k : TextKind) → mark nt b ≡ m → tame m ≡ true → IsMark nt b m → LineAgrees (places.Operation t) f → ((x : Axis) → S x ≡ uses x f.used) → in_operation (step nt m t) ≡ place_stopped k → LineKindOf nt f S b k
 op_tame nt m t f S b k e a i h s w =
@@ -208,26 +189,13 @@ hash_kind_of nt (Some t) f S k w = absurd cc
 pub op_kind : (nt : Notation) → (m : Mark) (t : TripletReader) (f : LineSeen) (S : Axis → Bool) (b : ℕ) (k : TextKind) → mark nt b ≡ m → IsMark nt b m → LineAgrees (places.Operation t) f → ((x : Axis) → S x ≡ uses x f.used) → operation_step nt m t ≡ place_stopped k → LineKindOf nt f S b k
 op_kind nt marks.Comma t f S b k e i h s w = subst (λ x. LineKindOf nt f S x k) (sym i) (op_comma_kind nt (settled t.part) t.nth t f S k refl refl h w)
 op_kind nt marks.Hash t f S b k e i h s w = subst (λ x. LineKindOf nt f S x k) (sym i) (hash_kind_of nt (value nt t) f S k w)
-op_kind nt marks.Blank t f S b k e i h s w = op_tame nt marks.Blank t f S b k e refl i h s w
-op_kind nt (marks.Signs g) t f S b k e i h s w = op_tame nt (marks.Signs g) t f S b k e refl i h s w
-op_kind nt (marks.Letter a) t f S b k e i h s w = op_tame nt (marks.Letter a) t f S b k e refl i h s w
-op_kind nt (marks.Digit n) t f S b k e i h s w = op_tame nt (marks.Digit n) t f S b k e refl i h s w
-op_kind nt marks.Slash t f S b k e i h s w = op_tame nt marks.Slash t f S b k e refl i h s w
-op_kind nt marks.Open t f S b k e i h s w = op_tame nt marks.Open t f S b k e refl i h s w
-op_kind nt marks.Close t f S b k e i h s w = op_tame nt marks.Close t f S b k e refl i h s w
-op_kind nt marks.Other t f S b k e i h s w = op_tame nt marks.Other t f S b k e refl i h s w
+op_kind nt m t f S b k e i h s w = op_tame nt m t f S b k e refl i h s w
 
 pub start_kind : (nt : Notation) → (m : Mark) (f : LineSeen) (S : Axis → Bool) (b : ℕ) (k : TextKind) → mark nt b ≡ m → IsMark nt b m → LineAgrees places.Start f → ((x : Axis) → S x ≡ uses x f.used) → start_step nt m ≡ place_stopped k → LineKindOf nt f S b k
 start_kind nt marks.Blank f S b k e i h s w = not_stopped _ k w
 start_kind nt marks.Open f S b k e i h s w = not_stopped _ k w
 start_kind nt marks.Hash f S b k e i h s w = not_stopped _ k w
-start_kind nt marks.Comma f S b k e i h s w = op_kind nt marks.Comma start f S b k e i h s w
-start_kind nt (marks.Signs g) f S b k e i h s w = op_kind nt (marks.Signs g) start f S b k e i h s w
-start_kind nt (marks.Letter a) f S b k e i h s w = op_kind nt (marks.Letter a) start f S b k e i h s w
-start_kind nt (marks.Digit n) f S b k e i h s w = op_kind nt (marks.Digit n) start f S b k e i h s w
-start_kind nt marks.Slash f S b k e i h s w = op_kind nt marks.Slash start f S b k e i h s w
-start_kind nt marks.Close f S b k e i h s w = op_kind nt marks.Close start f S b k e i h s w
-start_kind nt marks.Other f S b k e i h s w = op_kind nt marks.Other start f S b k e i h s w
+start_kind nt m f S b k e i h s w = op_kind nt m start f S b k e i h s w
 
 -- ---- faults of a vector
 
@@ -236,17 +204,13 @@ no_used f S x s u = s x ∙ (ap (uses x) u ∙ none x)
   where
     none : (x : Axis) → uses x unused ≡ false
     none X = refl
-    none Y = refl
-    none Z = refl
+    none x = refl
 
 pub letter_rows : (nt : Notation) → (spot : Spot) (g : Seen) (f : LineSeen) (a : Axis) (c : Bool) (k : TextKind) → has_axis nt a ≡ true → SpotAgrees spot g → f.count ≡ g.count → k ≡ behind_number spot →
     TableRow (IsLetter nt (letter_byte a c) × (1 ≤ f.count)) kinds.Coefficient k (TableRow (IsTrue (is_digit (letter_byte a c)) × (f.other ≡ 47)) kinds.Denominator k (TableRow (IsTrue (is_digit (letter_byte a c)) × (3 ≤ f.count)) kinds.Coefficient k (k ≡ kinds.UnknownSign)))
-letter_rows nt Begin g f a c k axis h n e = inr ((λ x. omega (arith, x.1, h.1, n)), inr ((λ x. apart _ x.0 (letter_bounds a c).3), inr ((λ x. apart _ x.0 (letter_bounds a c).3), e)))
-letter_rows nt Signed g f a c k axis h n e = inr ((λ x. omega (arith, x.1, h.1, n)), inr ((λ x. apart _ x.0 (letter_bounds a c).3), inr ((λ x. apart _ x.0 (letter_bounds a c).3), e)))
 letter_rows nt (Digits m v) g f a c k axis h n e = inl (((a, letter_self a c, axis), omega (arith, h.1, h.3, n)), e)
-letter_rows nt (Divided v) g f a c k axis h n e = inr ((λ x. omega (arith, x.1, h.1, n)), inr ((λ x. apart _ x.0 (letter_bounds a c).3), inr ((λ x. apart _ x.0 (letter_bounds a c).3), e)))
 letter_rows nt (Below v d) g f a c k axis h n e = inl (((a, letter_self a c, axis), omega (arith, h.1, n)), e)
-letter_rows nt Behind g f a c k axis h n e = inr ((λ x. omega (arith, x.1, h.1, n)), inr ((λ x. apart _ x.0 (letter_bounds a c).3), inr ((λ x. apart _ x.0 (letter_bounds a c).3), e)))
+letter_rows nt spot g f a c k axis h n e = inr ((λ x. omega (arith, x.1, h.1, n)), inr ((λ x. apart _ x.0 (letter_bounds a c).3), inr ((λ x. apart _ x.0 (letter_bounds a c).3), e)))
 
 pub in_coordinate_err : (l : Bool) (v : VectorReader) (r : Result PartReader TextKind) (k : TextKind) → in_coordinate l v r ≡ place_stopped k → r ≡ part_stopped k
 in_coordinate_err l v (Ok p) k e = absurd cc
@@ -266,11 +230,7 @@ letter_kind nt spot g f S a c k axis h n s e =
 
 pub vec_sign_kind : (spot : Spot) (s : Sign) (v : VectorReader) (k : TextKind) → coordinate_sign s spot v ≡ place_stopped k → k ≡ kinds.UnknownSign
 vec_sign_kind Begin s v k w = not_stopped _ k w
-vec_sign_kind Signed s v k w = stop_is _ k w
-vec_sign_kind (Digits n x) s v k w = stop_is _ k w
-vec_sign_kind (Divided x) s v k w = stop_is _ k w
-vec_sign_kind (Below x d) s v k w = stop_is _ k w
-vec_sign_kind Behind s v k w = stop_is _ k w
+vec_sign_kind spot s v k w = stop_is _ k w
 
 pub vec_comma_kind : (nt : Notation) → (o : Option PartReader) (n : Nth) (v : VectorReader) (f : LineSeen) (S : Axis → Bool) (k : TextKind) → settled v.part ≡ o → v.nth ≡ n → LineAgrees (places.Coordinates v) f → coordinate_comma nt o v ≡ place_stopped k → LineKindOf nt f S 44 k
 vec_comma_kind nt None n v f S k e i h w = subst (LineKindOf nt f S 44) (sym (stop_is _ k w)) (early_kind nt f v.part v.nth S h.0 (settles_none v.part.spot v.part.row v.part.used v.part.sign e))
@@ -291,14 +251,12 @@ pub close_missing : (nt : Notation) → (f : LineSeen) (S : Axis → Bool) (k : 
 close_missing nt f S k b d e = inr ((λ x. absurd (omega arith)), inl ((refl, b, d), e))
 
 pub vec_close_kind : (nt : Notation) → (n : Nth) (o : Option PartReader) (v : VectorReader) (f : LineSeen) (S : Axis → Bool) (k : TextKind) → settled v.part ≡ o → LineAgrees (places.Coordinates v) f → closed_at nt n o v ≡ place_stopped k → LineKindOf nt f S 41 k
-vec_close_kind nt First None v f S k e h w = close_unknown nt f S k (h.2 ∙ settles_none v.part.spot v.part.row v.part.used v.part.sign e) (stop_is _ k w)
-vec_close_kind nt Second None v f S k e h w = close_unknown nt f S k (h.2 ∙ settles_none v.part.spot v.part.row v.part.used v.part.sign e) (stop_is _ k w)
-vec_close_kind nt Third None v f S k e h w = close_unknown nt f S k (h.2 ∙ settles_none v.part.spot v.part.row v.part.used v.part.sign e) (stop_is _ k w)
 vec_close_kind nt First (Some p) v f S k e h w = close_missing nt f S k h.1 (h.2 ∙ settles_some v.part.spot v.part.row v.part.used v.part.sign p e) (stop_is _ k w)
 vec_close_kind Triplets Second (Some p) v f S k e h w = close_missing Triplets f S k h.1 (h.2 ∙ settles_some v.part.spot v.part.row v.part.used v.part.sign p e) (stop_is _ k w)
 vec_close_kind Pairs Second (Some p) v f S k e h w = not_stopped _ k w
 vec_close_kind Triplets Third (Some p) v f S k e h w = not_stopped _ k w
 vec_close_kind Pairs Third (Some p) v f S k e h w = close_missing Pairs f S k h.1 (h.2 ∙ settles_some v.part.spot v.part.row v.part.used v.part.sign p e) (stop_is _ k w)
+vec_close_kind nt n o v f S k e h w = close_unknown nt f S k (h.2 ∙ settles_none v.part.spot v.part.row v.part.used v.part.sign e) (stop_is _ k w)
 
 pub vec_close_by : (nt : Notation) → (t : Bool) (v : VectorReader) (f : LineSeen) (S : Axis → Bool) (k : TextKind) → LineAgrees (places.Coordinates v) f → cond t (placed (places.Operation start)) (closed_at nt v.nth (settled v.part) v) ≡ place_stopped k → LineKindOf nt f S 41 k
 vec_close_by nt true v f S k h w = not_stopped _ k w
@@ -330,8 +288,7 @@ vec_kind nt marks.Blank v f S b k e i h s w = silent_kind nt f S b marks.Blank k
   where
     blank_41 : (g : Blank) → blank_byte g ≢ 41
     blank_41 space e = omega arith
-    blank_41 tab e = omega arith
-    blank_41 carriage_return e = omega arith
+    blank_41 g e = omega arith
 vec_kind nt marks.Slash v f S b k e i h s w = silent_kind nt f S b marks.Slash k e refl refl (λ x. absurd (omega (arith, i, x.0))) (slash_fault v.part.spot v.part.row v.part.used v.part.sign k (in_coordinate_err false v (part_step marks.Slash v.part) k w))
 vec_kind nt marks.Hash v f S b k e i h s w = inl (i, stop_is _ k w)
 vec_kind nt marks.Open v f S b k e i h s w = silent_kind nt f S b marks.Open k e refl refl (λ x. absurd (omega (arith, i, x.0))) (stop_is _ k w)
@@ -355,12 +312,7 @@ between_kind nt (marks.Letter a) f S b k e i h n r s o w = subst (λ x. LineKind
 between_kind nt (marks.Digit d) f S b k e i h n r s o w = subst (λ x. LineKindOf nt f S x k) (sym i.1) (between_digit nt f S i.0 k h w)
 between_kind nt marks.Comma f S b k e i h n r s o w = subst (λ x. LineKindOf nt f S x k) (sym i) (between_comma nt f S k n r w)
 between_kind nt marks.Hash f S b k e i h n r s o w = absurd (o refl)
-between_kind nt marks.Blank f S b k e i h n r s o w = silent_kind nt f S b marks.Blank k e refl refl (λ x. h.bracket x.1) w
-between_kind nt (marks.Signs g) f S b k e i h n r s o w = silent_kind nt f S b (marks.Signs g) k e refl refl (λ x. h.bracket x.1) w
-between_kind nt marks.Slash f S b k e i h n r s o w = silent_kind nt f S b marks.Slash k e refl refl (λ x. h.bracket x.1) w
-between_kind nt marks.Open f S b k e i h n r s o w = silent_kind nt f S b marks.Open k e refl refl (λ x. h.bracket x.1) w
-between_kind nt marks.Close f S b k e i h n r s o w = silent_kind nt f S b marks.Close k e refl refl (λ x. h.bracket x.1) w
-between_kind nt marks.Other f S b k e i h n r s o w = silent_kind nt f S b marks.Other k e refl refl (λ x. h.bracket x.1) w
+between_kind nt m f S b k e i h n r s o w = silent_kind nt f S b m k e refl refl (λ x. h.bracket x.1) w
 
 pub not_fresh_41 : (m n : ℕ) → m ≡ 41 → 1 ≤ n → Fresh m n → ⊥
 not_fresh_41 m n e c (inl x) = omega (arith, e, x)
@@ -378,27 +330,14 @@ shut_kind nt m v f S b k e i h s w = by_mark m v f S b k e i h s w (ap is_end_of
     by_mark : (m : Mark) (v : List Part) (f : LineSeen) (S : Axis → Bool) (b : ℕ) (k : TextKind) → mark nt b ≡ m → IsMark nt b m → LineAgrees (places.Closed v) f → ((x : Axis) → S x ≡ uses x f.used) → closed_step m v ≡ place_stopped k → is_end_of_part f.mark ≡ false → (Fresh f.mark f.commas → ⊥) → LineKindOf nt f S b k
     by_mark marks.Blank v f S b k e i h s w n r = not_stopped _ k w
     by_mark (marks.Signs Plus) v f S b k e i h s w n r = not_stopped _ k w
-    by_mark (marks.Signs Minus) v f S b k e i h s w n r = between_kind nt (marks.Signs Minus) f S b k e i h.0 n r s (λ z. cc) (stop_is _ k w)
     by_mark marks.Hash v f S b k e i h s w n r = inl (i, stop_is _ k w)
-    by_mark (marks.Letter a) v f S b k e i h s w n r = between_kind nt (marks.Letter a) f S b k e i h.0 n r s (λ z. cc) (stop_is _ k w)
-    by_mark (marks.Digit d) v f S b k e i h s w n r = between_kind nt (marks.Digit d) f S b k e i h.0 n r s (λ z. cc) (stop_is _ k w)
-    by_mark marks.Slash v f S b k e i h s w n r = between_kind nt marks.Slash f S b k e i h.0 n r s (λ z. cc) (stop_is _ k w)
-    by_mark marks.Comma v f S b k e i h s w n r = between_kind nt marks.Comma f S b k e i h.0 n r s (λ z. cc) (stop_is _ k w)
-    by_mark marks.Open v f S b k e i h s w n r = between_kind nt marks.Open f S b k e i h.0 n r s (λ z. cc) (stop_is _ k w)
-    by_mark marks.Close v f S b k e i h s w n r = between_kind nt marks.Close f S b k e i h.0 n r s (λ z. cc) (stop_is _ k w)
-    by_mark marks.Other v f S b k e i h s w n r = between_kind nt marks.Other f S b k e i h.0 n r s (λ z. cc) (stop_is _ k w)
+    by_mark m v f S b k e i h s w n r = between_kind nt m f S b k e i h.0 n r s (λ z. cc) (stop_is _ k w)
 
 pub row_kind : (nt : Notation) → (m : Mark) (f : LineSeen) (S : Axis → Bool) (b : ℕ) (k : TextKind) → mark nt b ≡ m → IsMark nt b m → LineAgrees places.Behind f → ((x : Axis) → S x ≡ uses x f.used) → is_end_of_part f.mark ≡ false → (Fresh f.mark f.commas → ⊥) → behind_step m ≡ place_stopped k → LineKindOf nt f S b k
 row_kind nt marks.Blank f S b k e i h s n r w = not_stopped _ k w
 row_kind nt marks.Open f S b k e i h s n r w = not_stopped _ k w
 row_kind nt marks.Hash f S b k e i h s n r w = not_stopped _ k w
-row_kind nt (marks.Signs g) f S b k e i h s n r w = between_kind nt (marks.Signs g) f S b k e i h.0 n r s (λ z. cc) (stop_is _ k w)
-row_kind nt (marks.Letter a) f S b k e i h s n r w = between_kind nt (marks.Letter a) f S b k e i h.0 n r s (λ z. cc) (stop_is _ k w)
-row_kind nt (marks.Digit d) f S b k e i h s n r w = between_kind nt (marks.Digit d) f S b k e i h.0 n r s (λ z. cc) (stop_is _ k w)
-row_kind nt marks.Slash f S b k e i h s n r w = between_kind nt marks.Slash f S b k e i h.0 n r s (λ z. cc) (stop_is _ k w)
-row_kind nt marks.Comma f S b k e i h s n r w = between_kind nt marks.Comma f S b k e i h.0 n r s (λ z. cc) (stop_is _ k w)
-row_kind nt marks.Close f S b k e i h s n r w = between_kind nt marks.Close f S b k e i h.0 n r s (λ z. cc) (stop_is _ k w)
-row_kind nt marks.Other f S b k e i h s n r w = between_kind nt marks.Other f S b k e i h.0 n r s (λ z. cc) (stop_is _ k w)
+row_kind nt m f S b k e i h s n r w = between_kind nt m f S b k e i h.0 n r s (λ z. cc) (stop_is _ k w)
 
 pub place_kind : (nt : Notation) → (p : LinePlace) (f : LineSeen) (S : Axis → Bool) (b : ℕ) (k : TextKind) → LineAgrees p f → ((x : Axis) → S x ≡ uses x f.used) → place_step nt (mark nt b) p ≡ place_stopped k → LineKindOf nt f S b k
 place_kind nt places.Start f S b k h s w = start_kind nt (mark nt b) f S b k refl (mark_is nt b) h s w
@@ -414,8 +353,7 @@ at_place_err (Err l) vs k e = let z : l ≡ k = cc in ap place_stopped z
 
 pub line_uses : (bs : List ℕ) (x : Axis) → line_stands x false bs ≡ uses x (line_seen line_seen_start bs).used
 line_uses bs X = refl
-line_uses bs Y = refl
-line_uses bs Z = refl
+line_uses bs x = refl
 
 pub line_kind : (nt : Notation) → (before : List ℕ) (b : ℕ) (s : LineState) (k : TextKind) → line_run nt (Ok line_start) before ≡ line_going s → line_step nt (mark nt b) s ≡ line_stopped k → HasLineKind nt before b k
 line_kind nt before b s k w e =

@@ -111,15 +111,7 @@ with_comment nt text (Some cs) a h =
 
 operation_at : (nt : Notation) → (m : Mark) (t u : TripletReader) → step nt m t ≡ going u → operation_step nt m t ≡ placed (places.Operation u)
 operation_at nt marks.Hash t u e = absurd cc
-operation_at nt marks.Blank t u e = ap in_operation e
-operation_at nt (marks.Signs s) t u e = ap in_operation e
-operation_at nt (marks.Letter a) t u e = ap in_operation e
-operation_at nt (marks.Digit n) t u e = ap in_operation e
-operation_at nt marks.Slash t u e = ap in_operation e
-operation_at nt marks.Comma t u e = ap in_operation e
-operation_at nt marks.Open t u e = ap in_operation e
-operation_at nt marks.Close t u e = ap in_operation e
-operation_at nt marks.Other t u e = ap in_operation e
+operation_at nt m t u e = ap in_operation e
 
 abbrev in_op : TripletReader → LineState
 in_op t = state_of (places.Operation t) []
@@ -146,15 +138,10 @@ FromMark nt m bs u = ((line_run nt (at_place (start_step nt m) []) bs ≡ line_g
 
 start_by : (nt : Notation) → (m : Mark) (bs : List ℕ) (u : TripletReader) → (run nt (Ok start) bs ≡ going u → FromStart nt bs u) → run nt (step nt m start) bs ≡ going u → FromMark nt m bs u
 start_by nt marks.Blank bs u h e = h e
-start_by nt marks.Open bs u h e = absurd (run_err nt _ bs u e)
-start_by nt marks.Hash bs u h e = absurd (run_err nt _ bs u e)
-start_by nt marks.Close bs u h e = absurd (run_err nt _ bs u e)
-start_by nt marks.Other bs u h e = absurd (run_err nt _ bs u e)
-start_by nt marks.Slash bs u h e = absurd (run_err nt _ bs u e)
-start_by nt marks.Comma bs u h e = absurd (run_err nt _ bs u e)
 start_by nt (marks.Signs s) bs u h e = inr (first_by nt (marks.Signs s) (step nt (marks.Signs s) start) bs u refl refl e)
 start_by nt (marks.Letter a) bs u h e = inr (first_by nt (marks.Letter a) (step nt (marks.Letter a) start) bs u refl refl e)
 start_by nt (marks.Digit n) bs u h e = inr (first_by nt (marks.Digit n) (step nt (marks.Digit n) start) bs u refl refl e)
+start_by nt m bs u h e = absurd (run_err nt _ bs u e)
 
 from_start : (nt : Notation) → (bs : List ℕ) (u : TripletReader) → run nt (Ok start) bs ≡ going u → FromStart nt bs u
 from_start nt [] u e = inl (refl, going_is start u e)
@@ -224,13 +211,7 @@ plain_at : (nt : Notation) → (m : Mark) (v : VectorReader) (p q : PartReader) 
 plain_at nt marks.Blank v p q l i e = ap (in_coordinate false (vector_at v p l)) e
 plain_at nt (marks.Digit n) v p q l i e = ap (in_coordinate l (vector_at v p l)) e
 plain_at nt marks.Slash v p q l i e = ap (in_coordinate false (vector_at v p l)) e
-plain_at nt (marks.Signs s) v p q l i e = absurd cc
-plain_at nt (marks.Letter a) v p q l i e = absurd cc
-plain_at nt marks.Comma v p q l i e = absurd cc
-plain_at nt marks.Hash v p q l i e = absurd cc
-plain_at nt marks.Open v p q l i e = absurd cc
-plain_at nt marks.Close v p q l i e = absurd cc
-plain_at nt marks.Other v p q l i e = absurd cc
+plain_at nt m v p q l i e = absurd cc
 
 abbrev in_v : VectorReader → List Vector → LineState
 in_v v vs = state_of (places.Coordinates v) vs

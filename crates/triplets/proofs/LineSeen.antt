@@ -79,8 +79,7 @@ line_seen_start = record { mark = 44; other = 0; count = 0; bracket = 0; commas 
 
 pub l_blank : (f : LineSeen) (k : Blank) → line_seen_step f (blank_byte k) ≡ record { mark = f.mark; other = blank_byte k; count = 0; bracket = f.bracket; commas = f.commas; used = f.used }
 l_blank f space = refl
-l_blank f tab = refl
-l_blank f carriage_return = refl
+l_blank f k = refl
 
 pub l_sign : (f : LineSeen) (s : Sign) → line_seen_step f (sign_byte s) ≡ record { mark = sign_byte s; other = sign_byte s; count = 0; bracket = f.bracket; commas = f.commas; used = f.used }
 l_sign f Plus = refl
@@ -113,8 +112,7 @@ pub record Follows (f : LineSeen) (g : Seen) : Type 0 where
 
 pub follow_blank : (f : LineSeen) (g : Seen) (k : Blank) → Follows f g → Follows (line_seen_step f (blank_byte k)) (seen_step g (blank_byte k))
 follow_blank f g space h = record { other = refl; count = refl; used = h.used; mark = h.mark }
-follow_blank f g tab h = record { other = refl; count = refl; used = h.used; mark = h.mark }
-follow_blank f g carriage_return h = record { other = refl; count = refl; used = h.used; mark = h.mark }
+follow_blank f g k h = record { other = refl; count = refl; used = h.used; mark = h.mark }
 
 pub follow_sign : (f : LineSeen) (g : Seen) (s : Sign) → Follows f g → Follows (line_seen_step f (sign_byte s)) (seen_step g (sign_byte s))
 follow_sign f g Plus h = record { other = refl; count = refl; used = h.used; mark = inl (refl, λ e. omega arith, λ e. omega arith) }
@@ -157,11 +155,7 @@ follow_by nt (marks.Signs s) f g b p i h = subst (λ c. Follows (line_seen_step 
 follow_by nt (marks.Letter a) f g b p i h = subst (λ c. Follows (line_seen_step f c) (seen_step g c)) (sym i.1) (follow_letter f g a i.0 h)
 follow_by nt (marks.Digit n) f g b p i h = subst (λ c. Follows (line_seen_step f c) (seen_step g c)) (sym i.1) (follow_digit f g i.0 h)
 follow_by nt marks.Slash f g b p i h = subst (λ c. Follows (line_seen_step f c) (seen_step g c)) (sym i) (follow_slash f g h)
-follow_by nt marks.Comma f g b p i h = absurd cc
-follow_by nt marks.Hash f g b p i h = absurd cc
-follow_by nt marks.Open f g b p i h = absurd cc
-follow_by nt marks.Close f g b p i h = absurd cc
-follow_by nt marks.Other f g b p i h = absurd cc
+follow_by nt m f g b p i h = absurd cc
 
 -- brackets and commas stay
 pub record Stays (f g : LineSeen) : Type 0 where
@@ -177,11 +171,7 @@ stays_by nt (marks.Signs s) f b p i = stays_at f _ b _ i (l_sign f s) (record { 
 stays_by nt (marks.Letter a) f b p i = stays_at f _ b _ i.1 (l_letter f a i.0) (record { bracket = refl; commas = refl })
 stays_by nt (marks.Digit n) f b p i = stays_at f _ b _ i.1 (l_digit f i.0) (record { bracket = refl; commas = refl })
 stays_by nt marks.Slash f b p i = stays_at f _ b _ i refl (record { bracket = refl; commas = refl })
-stays_by nt marks.Comma f b p i = absurd cc
-stays_by nt marks.Hash f b p i = absurd cc
-stays_by nt marks.Open f b p i = absurd cc
-stays_by nt marks.Close f b p i = absurd cc
-stays_by nt marks.Other f b p i = absurd cc
+stays_by nt m f b p i = absurd cc
 
 -- ---- the last mark tells whether a part is whole
 
@@ -197,28 +187,19 @@ pub spot_of : (p q : PartReader) → q ≡ p → settles q.spot ≡ settles p.sp
 spot_of p q e = ap (λ (x : PartReader). settles x.spot) e
 
 pub settles_blank : (spot : Spot) (r : rows.Row) (u : Used) (g : Sign) (q : PartReader) → on_blank (at r u g spot) ≡ fine q → settles q.spot ≡ settles spot
-settles_blank Begin r u g q w = spot_of _ q (ok_is _ q w)
-settles_blank Signed r u g q w = spot_of _ q (ok_is _ q w)
-settles_blank (Digits n v) r u g q w = spot_of _ q (ok_is _ q w)
 settles_blank (Divided v) r u g q w = err_is _ q w
-settles_blank (Below v d) r u g q w = spot_of _ q (ok_is _ q w)
-settles_blank Behind r u g q w = spot_of _ q (ok_is _ q w)
+settles_blank spot r u g q w = spot_of _ q (ok_is _ q w)
 
 pub settles_sign : (spot : Spot) (r : rows.Row) (u : Used) (g s : Sign) (q : PartReader) → on_sign s (at r u g spot) ≡ fine q → settles q.spot ≡ false
-settles_sign Begin r u g s q w = spot_of _ q (ok_is _ q w)
 settles_sign Signed r u g s q w = err_is _ q w
-settles_sign (Digits n v) r u g s q w = spot_of _ q (ok_is _ q w)
 settles_sign (Divided v) r u g s q w = err_is _ q w
-settles_sign (Below v d) r u g s q w = spot_of _ q (ok_is _ q w)
-settles_sign Behind r u g s q w = spot_of _ q (ok_is _ q w)
+settles_sign spot r u g s q w = spot_of _ q (ok_is _ q w)
 
 pub settles_letter : (spot : Spot) (r : rows.Row) (u : Used) (g : Sign) (a : Axis) (q : PartReader) → on_new_letter_at a spot (at r u g spot) ≡ fine q → settles q.spot ≡ true
 settles_letter Begin r u g a q w = spot_of (with_letter a 1 (at r u g Begin)) q (ok_is _ q w)
 settles_letter Signed r u g a q w = spot_of (with_letter a 1 (at r u g Signed)) q (ok_is _ q w)
 settles_letter (Digits n v) r u g a q w = spot_of (with_letter a v (at r u g (Digits n v))) q (ok_is _ q (met _ kinds.Coefficient _ q w).1)
-settles_letter (Divided v) r u g a q w = err_is _ q w
-settles_letter (Below v d) r u g a q w = err_is _ q w
-settles_letter Behind r u g a q w = err_is _ q w
+settles_letter spot r u g a q w = err_is _ q w
 
 pub settles_digit : (spot : Spot) (r : rows.Row) (u : Used) (g : Sign) (d : ℕ) (q : PartReader) → on_digit d (at r u g spot) ≡ fine q → settles q.spot ≡ true
 settles_digit Begin r u g d q w = spot_of (at r u g (Digits 1 d)) q (ok_is _ q w)
@@ -229,12 +210,8 @@ settles_digit (Below v t) r u g d q w = spot_of (at r u g (Below v (below_is _ _
 settles_digit Behind r u g d q w = err_is _ q w
 
 pub settles_slash : (spot : Spot) (r : rows.Row) (u : Used) (g : Sign) (q : PartReader) → on_slash (at r u g spot) ≡ fine q → settles q.spot ≡ false
-settles_slash Begin r u g q w = err_is _ q w
-settles_slash Signed r u g q w = err_is _ q w
 settles_slash (Digits n v) r u g q w = spot_of (at r u g (Divided v)) q (ok_is _ q w)
-settles_slash (Divided v) r u g q w = err_is _ q w
-settles_slash (Below v d) r u g q w = err_is _ q w
-settles_slash Behind r u g q w = err_is _ q w
+settles_slash spot r u g q w = err_is _ q w
 
 pub sign_no_end : (s : Sign) → is_end_of_part (sign_byte s) ≡ false
 sign_no_end Plus = refl
@@ -264,11 +241,7 @@ ends_by nt (marks.Signs s) f p q b i h w = mark_at f _ b _ is_end_of_part _ i (l
 ends_by nt (marks.Letter a) f p q b i h w = mark_at f _ b _ is_end_of_part _ i.1 (l_letter f a i.0) (letter_end a i.0 ∙ sym (settles_letter p.spot p.row p.used p.sign a q (passed _ _ _ q w).1))
 ends_by nt (marks.Digit n) f p q b i h w = mark_at f _ b _ is_end_of_part _ i.1 (l_digit f i.0) (digit_end i.0 ∙ sym (settles_digit p.spot p.row p.used p.sign n q w))
 ends_by nt marks.Slash f p q b i h w = mark_at f (line_seen_step f 47) b 47 is_end_of_part _ i refl (sym (settles_slash p.spot p.row p.used p.sign q w))
-ends_by nt marks.Comma f p q b i h w = err_is _ q w
-ends_by nt marks.Hash f p q b i h w = err_is _ q w
-ends_by nt marks.Open f p q b i h w = err_is _ q w
-ends_by nt marks.Close f p q b i h w = err_is _ q w
-ends_by nt marks.Other f p q b i h w = err_is _ q w
+ends_by nt m f p q b i h w = err_is _ q w
 
 pub digits_by : (nt : Notation) → (m : Mark) (f : LineSeen) (p q : PartReader) (b : ℕ) → IsMark nt b m → is_digit f.mark ≡ settles p.spot → ((a : Axis) → m ≡ marks.Letter a → ⊥) → part_step m p ≡ fine q → is_digit (line_seen_step f b).mark ≡ settles q.spot
 digits_by nt marks.Blank f p q b i h n w = mark_at f _ b _ is_digit _ i.1 (l_blank f i.0) (h ∙ sym (settles_blank p.spot p.row p.used p.sign q w))
@@ -276,11 +249,7 @@ digits_by nt (marks.Signs s) f p q b i h n w = mark_at f _ b _ is_digit _ i (l_s
 digits_by nt (marks.Letter a) f p q b i h n w = absurd (n a refl)
 digits_by nt (marks.Digit k) f p q b i h n w = mark_at f _ b _ is_digit _ i.1 (l_digit f i.0) (digit_true i.0 ∙ sym (settles_digit p.spot p.row p.used p.sign k q w))
 digits_by nt marks.Slash f p q b i h n w = mark_at f (line_seen_step f 47) b 47 is_digit _ i refl (sym (settles_slash p.spot p.row p.used p.sign q w))
-digits_by nt marks.Comma f p q b i h n w = err_is _ q w
-digits_by nt marks.Hash f p q b i h n w = err_is _ q w
-digits_by nt marks.Open f p q b i h n w = err_is _ q w
-digits_by nt marks.Close f p q b i h n w = err_is _ q w
-digits_by nt marks.Other f p q b i h n w = err_is _ q w
+digits_by nt m f p q b i h n w = err_is _ q w
 
 -- ---- what the place of the reader says
 
@@ -374,28 +343,18 @@ op_comma nt (Some p) n t f q i h e = op_next nt n t p.row f q (h.0.commas ∙ ap
     op_next nt Third t r f q c h e = no_place _ q e
 
 pub op_step : (nt : Notation) → (m : Mark) (t : TripletReader) (f : LineSeen) (b : ℕ) (q : LinePlace) → IsMark nt b m → LineAgrees (places.Operation t) f → in_operation (step nt m t) ≡ placed q → LineAgrees q (line_seen_step f b)
-op_step nt marks.Blank t f b q i h e = op_in_part nt marks.Blank t f b q refl i h e
-op_step nt (marks.Signs s) t f b q i h e = op_in_part nt (marks.Signs s) t f b q refl i h e
-op_step nt (marks.Letter a) t f b q i h e = op_in_part nt (marks.Letter a) t f b q refl i h e
-op_step nt (marks.Digit n) t f b q i h e = op_in_part nt (marks.Digit n) t f b q refl i h e
-op_step nt marks.Slash t f b q i h e = op_in_part nt marks.Slash t f b q refl i h e
 op_step nt marks.Comma t f b q i h e = subst (λ x. LineAgrees q (line_seen_step f x)) (sym i) (op_comma nt (settled t.part) t.nth t f q refl h e)
 op_step nt marks.Hash t f b q i h e = no_place _ q e
 op_step nt marks.Open t f b q i h e = no_place _ q e
 op_step nt marks.Close t f b q i h e = no_place _ q e
 op_step nt marks.Other t f b q i h e = no_place _ q e
+op_step nt m t f b q i h e = op_in_part nt m t f b q refl i h e
 
 pub from_start_step : (nt : Notation) → (m : Mark) (f : LineSeen) (b : ℕ) (q : LinePlace) → IsMark nt b m → LineAgrees places.Start f → start_step nt m ≡ placed q → LineAgrees q (line_seen_step f b)
 from_start_step nt marks.Blank f b q i h e = to_place places.Start q (line_seen_step f b) e (known_step nt marks.Blank f begin begin First b refl i h.0 refl, not_bracket f (line_seen_step f b) (stays_by nt marks.Blank f b refl i).bracket h.1)
 from_start_step nt marks.Open f b q i h e = subst (λ x. LineAgrees q (line_seen_step f x)) (sym i) (to_place _ q (line_seen_step f 40) e (known_open f, refl, refl, refl, λ z. refl))
 from_start_step nt marks.Hash f b q i h e = to_place (places.Comment None) q (line_seen_step f b) e tt
-from_start_step nt (marks.Signs s) f b q i h e = op_step nt (marks.Signs s) start f b q i h e
-from_start_step nt (marks.Letter a) f b q i h e = op_step nt (marks.Letter a) start f b q i h e
-from_start_step nt (marks.Digit n) f b q i h e = op_step nt (marks.Digit n) start f b q i h e
-from_start_step nt marks.Slash f b q i h e = op_step nt marks.Slash start f b q i h e
-from_start_step nt marks.Comma f b q i h e = op_step nt marks.Comma start f b q i h e
-from_start_step nt marks.Close f b q i h e = op_step nt marks.Close start f b q i h e
-from_start_step nt marks.Other f b q i h e = op_step nt marks.Other start f b q i h e
+from_start_step nt m f b q i h e = op_step nt m start f b q i h e
 
 pub in_op_step : (nt : Notation) → (m : Mark) (t : TripletReader) (f : LineSeen) (b : ℕ) (q : LinePlace) → IsMark nt b m → LineAgrees (places.Operation t) f → operation_step nt m t ≡ placed q → LineAgrees q (line_seen_step f b)
 in_op_step nt marks.Hash t f b q i h e = hash_by (value nt t) f b q e
@@ -403,15 +362,7 @@ in_op_step nt marks.Hash t f b q i h e = hash_by (value nt t) f b q e
     hash_by : (v : Option Motion3) (f : LineSeen) (b : ℕ) (q : LinePlace) → comment_behind v ≡ placed q → LineAgrees q (line_seen_step f b)
     hash_by None f b q e = no_place _ q e
     hash_by (Some t) f b q e = to_place (places.Comment (Some t)) q (line_seen_step f b) e tt
-in_op_step nt marks.Blank t f b q i h e = op_step nt marks.Blank t f b q i h e
-in_op_step nt (marks.Signs s) t f b q i h e = op_step nt (marks.Signs s) t f b q i h e
-in_op_step nt (marks.Letter a) t f b q i h e = op_step nt (marks.Letter a) t f b q i h e
-in_op_step nt (marks.Digit n) t f b q i h e = op_step nt (marks.Digit n) t f b q i h e
-in_op_step nt marks.Slash t f b q i h e = op_step nt marks.Slash t f b q i h e
-in_op_step nt marks.Comma t f b q i h e = op_step nt marks.Comma t f b q i h e
-in_op_step nt marks.Open t f b q i h e = op_step nt marks.Open t f b q i h e
-in_op_step nt marks.Close t f b q i h e = op_step nt marks.Close t f b q i h e
-in_op_step nt marks.Other t f b q i h e = op_step nt marks.Other t f b q i h e
+in_op_step nt m t f b q i h e = op_step nt m t f b q i h e
 
 -- in a vector
 
@@ -424,11 +375,7 @@ used_by nt (marks.Signs s) f b p n i h = used_at f _ b _ i (l_sign f s) h
 used_by nt (marks.Letter a) f b p n i h = absurd (n a refl)
 used_by nt (marks.Digit k) f b p n i h = used_at f _ b _ i.1 (l_digit f i.0) h
 used_by nt marks.Slash f b p n i h = used_at f (line_seen_step f 47) b 47 i refl h
-used_by nt marks.Comma f b p n i h = absurd cc
-used_by nt marks.Hash f b p n i h = absurd cc
-used_by nt marks.Open f b p n i h = absurd cc
-used_by nt marks.Close f b p n i h = absurd cc
-used_by nt marks.Other f b p n i h = absurd cc
+used_by nt m f b p n i h = absurd cc
 
 pub vec_moved : (nt : Notation) → (m : Mark) (v : VectorReader) (f : LineSeen) (b : ℕ) (p : PartReader) (l : Bool) → in_a_part m ≡ true → ((a : Axis) → m ≡ marks.Letter a → ⊥) → (l ≡ true → v.nth ≡ First) → IsMark nt b m → LineAgrees (places.Coordinates v) f → part_step m v.part ≡ fine p →
     LineAgrees (places.Coordinates (record v { part = p; label = l })) (line_seen_step f b)
@@ -446,11 +393,7 @@ unlabel n e = absurd cc
 pub vec_sign : (nt : Notation) → (spot : Spot) (s : Sign) (v : VectorReader) (f : LineSeen) (b : ℕ) (q : LinePlace) → v.part.spot ≡ spot → IsMark nt b (marks.Signs s) → LineAgrees (places.Coordinates v) f → coordinate_sign s spot v ≡ placed q → LineAgrees q (line_seen_step f b)
 vec_sign nt Begin s v f b q g i h e =
     to_place _ q (line_seen_step f b) e (vec_moved nt (marks.Signs s) v f b (with_sign s v.part) false refl (λ a z. cc) (unlabel v.nth) i h (ap (λ x. on_sign_at s x v.part) g))
-vec_sign nt Signed s v f b q g i h e = no_place _ q e
-vec_sign nt (Digits n w) s v f b q g i h e = no_place _ q e
-vec_sign nt (Divided w) s v f b q g i h e = no_place _ q e
-vec_sign nt (Below w d) s v f b q g i h e = no_place _ q e
-vec_sign nt Behind s v f b q g i h e = no_place _ q e
+vec_sign nt spot s v f b q g i h e = no_place _ q e
 
 pub vec_comma : (nt : Notation) → (o : Option PartReader) (n : Nth) (v : VectorReader) (f : LineSeen) (q : LinePlace) → v.nth ≡ n → LineAgrees (places.Coordinates v) f → coordinate_comma nt o v ≡ placed q → LineAgrees q (line_seen_step f 44)
 vec_comma nt None n v f q i h e = no_place _ q e
@@ -481,51 +424,32 @@ vec_close nt true false v f q i h e = vec_closed nt v.nth (settled v.part) v f q
 vec_close nt false d v f q i h e = vec_closed nt v.nth (settled v.part) v f q h.0.commas e
 
 pub vec_step : (nt : Notation) → (m : Mark) (v : VectorReader) (f : LineSeen) (b : ℕ) (q : LinePlace) → IsMark nt b m → LineAgrees (places.Coordinates v) f → vector_step nt m v ≡ placed q → LineAgrees q (line_seen_step f b)
-vec_step nt (marks.Letter a) v f b q i h e = no_place _ q e
 vec_step nt (marks.Signs s) v f b q i h e = vec_sign nt v.part.spot s v f b q refl i h e
 vec_step nt marks.Comma v f b q i h e = subst (λ x. LineAgrees q (line_seen_step f x)) (sym i) (vec_comma nt (settled v.part) v.nth v f q refl h e)
 vec_step nt marks.Close v f b q i h e = subst (λ x. LineAgrees q (line_seen_step f x)) (sym i) (vec_close nt v.label (is_digits v.part.spot) v f q refl h e)
 vec_step nt (marks.Digit n) v f b q i h e = vec_by nt (part_step (marks.Digit n) v.part) (marks.Digit n) v f b v.label q refl (λ a z. cc) h.4 i h refl e
 vec_step nt marks.Blank v f b q i h e = vec_by nt (part_step marks.Blank v.part) marks.Blank v f b false q refl (λ a z. cc) (unlabel v.nth) i h refl e
 vec_step nt marks.Slash v f b q i h e = vec_by nt (part_step marks.Slash v.part) marks.Slash v f b false q refl (λ a z. cc) (unlabel v.nth) i h refl e
-vec_step nt marks.Hash v f b q i h e = no_place _ q e
-vec_step nt marks.Open v f b q i h e = no_place _ q e
-vec_step nt marks.Other v f b q i h e = no_place _ q e
+vec_step nt m v f b q i h e = no_place _ q e
 
 pub between_blank : (f : LineSeen) (k : Blank) → Between f → Between (line_seen_step f (blank_byte k))
 between_blank f space h = record { count = refl; other = λ e. omega arith; bracket = h.bracket; used = h.used }
-between_blank f tab h = record { count = refl; other = λ e. omega arith; bracket = h.bracket; used = h.used }
-between_blank f carriage_return h = record { count = refl; other = λ e. omega arith; bracket = h.bracket; used = h.used }
+between_blank f k h = record { count = refl; other = λ e. omega arith; bracket = h.bracket; used = h.used }
 
 pub blank_keeps : (f : LineSeen) (k : Blank) → ((line_seen_step f (blank_byte k)).mark ≡ f.mark) × ((line_seen_step f (blank_byte k)).commas ≡ f.commas)
 blank_keeps f space = (refl, refl)
-blank_keeps f tab = (refl, refl)
-blank_keeps f carriage_return = (refl, refl)
+blank_keeps f k = (refl, refl)
 
 pub shut_step : (nt : Notation) → (m : Mark) (w : List Part) (f : LineSeen) (b : ℕ) (q : LinePlace) → IsMark nt b m → LineAgrees (places.Closed w) f → closed_step m w ≡ placed q → LineAgrees q (line_seen_step f b)
 shut_step nt marks.Blank w f b q i h e = subst (λ x. LineAgrees q (line_seen_step f x)) (sym i.1) (to_place (places.Closed w) q (line_seen_step f (blank_byte i.0)) e (between_blank f i.0 h.0, omega (arith, (blank_keeps f i.0).1, h.1), (blank_keeps f i.0).0 ∙ h.2))
 shut_step nt (marks.Signs Plus) w f b q i h e = subst (λ x. LineAgrees q (line_seen_step f x)) (sym i) (to_place places.Behind q (line_seen_step f 43) e (record { count = refl; other = λ e. omega arith; bracket = h.0.bracket; used = h.0.used }, refl))
-shut_step nt (marks.Signs Minus) w f b q i h e = no_place _ q e
-shut_step nt (marks.Letter a) w f b q i h e = no_place _ q e
-shut_step nt (marks.Digit n) w f b q i h e = no_place _ q e
-shut_step nt marks.Slash w f b q i h e = no_place _ q e
-shut_step nt marks.Comma w f b q i h e = no_place _ q e
-shut_step nt marks.Hash w f b q i h e = no_place _ q e
-shut_step nt marks.Open w f b q i h e = no_place _ q e
-shut_step nt marks.Close w f b q i h e = no_place _ q e
-shut_step nt marks.Other w f b q i h e = no_place _ q e
+shut_step nt m w f b q i h e = no_place _ q e
 
 pub row_step : (nt : Notation) → (m : Mark) (f : LineSeen) (b : ℕ) (q : LinePlace) → IsMark nt b m → LineAgrees places.Behind f → behind_step m ≡ placed q → LineAgrees q (line_seen_step f b)
 row_step nt marks.Blank f b q i h e = subst (λ x. LineAgrees q (line_seen_step f x)) (sym i.1) (to_place places.Behind q (line_seen_step f (blank_byte i.0)) e (between_blank f i.0 h.0, (blank_keeps f i.0).0 ∙ h.1))
 row_step nt marks.Open f b q i h e = subst (λ x. LineAgrees q (line_seen_step f x)) (sym i) (to_place (places.Coordinates (opened false)) q (line_seen_step f 40) e (known_open f, refl, refl, refl, λ z. refl))
 row_step nt marks.Hash f b q i h e = to_place (places.Comment None) q (line_seen_step f b) e tt
-row_step nt (marks.Signs s) f b q i h e = no_place _ q e
-row_step nt (marks.Letter a) f b q i h e = no_place _ q e
-row_step nt (marks.Digit n) f b q i h e = no_place _ q e
-row_step nt marks.Slash f b q i h e = no_place _ q e
-row_step nt marks.Comma f b q i h e = no_place _ q e
-row_step nt marks.Close f b q i h e = no_place _ q e
-row_step nt marks.Other f b q i h e = no_place _ q e
+row_step nt m f b q i h e = no_place _ q e
 
 pub place_agrees : (nt : Notation) → (p : LinePlace) (f : LineSeen) (b : ℕ) (q : LinePlace) → LineAgrees p f → place_step nt (mark nt b) p ≡ placed q → LineAgrees q (line_seen_step f b)
 place_agrees nt places.Start f b q h e = from_start_step nt (mark nt b) f b q (mark_is nt b) h e

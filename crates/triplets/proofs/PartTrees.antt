@@ -53,9 +53,7 @@ restated text text' row row' letters letters' e f g h = record {
 
 term_shows : (t : Term) → 0 < length (term_text t)
 term_shows (letter a c) = omega arith
-term_shows (multiple d h a c) = omega arith
-term_shows (whole n) = omega arith
-term_shows (fraction n d) = omega arith
+term_shows t = omega arith
 
 first_term : (s : Sign) (t : Term) (text : List ℕ) → IsNew Triplets t unused → text ≡ sign_byte s ∷ term_text t
     → IsSome text (with_term s t zero_row) (with_letters t unused)
@@ -197,18 +195,15 @@ terms_tree text row letters (inr some) = record {
 
 y_free : (c : ℤ) (u : Used) → uses Y (with_letter X c u) ≡ uses Y u
 y_free (pos zero) u = refl
-y_free (pos (suc n)) u = refl
-y_free (negsuc n) u = refl
+y_free c u = refl
 
 z_free_of_x : (c : ℤ) (u : Used) → uses Z (with_letter X c u) ≡ uses Z u
 z_free_of_x (pos zero) u = refl
-z_free_of_x (pos (suc n)) u = refl
-z_free_of_x (negsuc n) u = refl
+z_free_of_x c u = refl
 
 z_free : (c d : ℤ) (u : Used) → uses Z (with_letter Y d (with_letter X c u)) ≡ uses Z u
 z_free c (pos zero) u = z_free_of_x c u
-z_free c (pos (suc n)) u = z_free_of_x c u
-z_free c (negsuc n) u = z_free_of_x c u
+z_free c d u = z_free_of_x c u
 
 -- a part of the grammar that is written as a row and a number are, and says them
 pub record WritesRow (r : Vector) (t : ℤ) : Type 0 where

@@ -133,15 +133,12 @@ on_blank_grows nt (behind w) k p e = record {
 
 on_sign_grows : (nt : Notation) → (q : Partial nt) (s : Sign) (p : PartReader) → on_sign s (partial_state nt q) ≡ fine p → Grows nt q (sign_byte s) p false
 on_sign_grows nt (lead (bare bs) good) s p e = record { to = lead (sign bs s []) tt; like = λ z h. absurd cc; text = refl; state = ok_is _ p e }
-on_sign_grows nt (lead (sign bs r cs) good) s p e = err_is _ p e
-on_sign_grows nt (lead (more l t bs r cs) good) s p e = err_is _ p e
 on_sign_grows nt (digits l good d ds short) s p e = record {
   to = lead (more l (whole (record { first = d; others = ds; short = short })) [] s []) (good, tt);
   like = λ z h. absurd cc;
   text = simp append_assoc;
   state = ok_is _ p e;
 }
-on_sign_grows nt (divided l good n) s p e = err_is _ p e
 on_sign_grows nt (below l good n u) s p e = record {
   to = lead (more l (fraction n u) [] s []) (good, tt);
   like = λ z h. absurd cc;
@@ -154,6 +151,7 @@ on_sign_grows nt (behind w) s p e = record {
   text = simp append_assoc;
   state = ok_is _ p e;
 }
+on_sign_grows nt q s p e = err_is _ p e
 
 -- ---- a letter
 
@@ -184,9 +182,7 @@ letter_digits nt l good d (f ∷ ds) short a c p axis new e =
 on_letter_grows : (nt : Notation) → (q : Partial nt) (a : Axis) (c : Bool) (p : PartReader) → has_axis nt a ≡ true → on_letter a (partial_state nt q) ≡ fine p → Grows nt q (letter_byte a c) p false
 on_letter_grows nt (lead l good) a c p axis e = let h = passed _ _ _ p e in letter_lead nt l good a c p axis h.0 h.1
 on_letter_grows nt (digits l good d ds short) a c p axis e = let h = passed _ _ _ p e in letter_digits nt l good d ds short a c p axis h.0 h.1
-on_letter_grows nt (divided l good n) a c p axis e = err_is _ p (passed _ _ _ p e).1
-on_letter_grows nt (below l good n u) a c p axis e = err_is _ p (passed _ _ _ p e).1
-on_letter_grows nt (behind w) a c p axis e = err_is _ p (passed _ _ _ p e).1
+on_letter_grows nt q a c p axis e = err_is _ p (passed _ _ _ p e).1
 
 -- ---- a digit
 
@@ -202,8 +198,7 @@ length_more ds d = length-append ds (d ∷ [])
 
 digit_lead : (nt : Notation) → (l : Lead) (good : IsLead nt l) (d : Digit) (p : PartReader) → on_digit_at (digit_value d) (lead_spot l) (lead_state l) ≡ fine p → Grows nt (lead l good) d.byte p true
 digit_lead nt (bare bs) good d p e = record { to = digits (bare bs) good d [] (omega arith); like = λ z h. h; text = refl; state = ok_is _ p e }
-digit_lead nt (sign bs s cs) good d p e = record { to = digits (sign bs s cs) good d [] (omega arith); like = λ z h. h; text = refl; state = ok_is _ p e }
-digit_lead nt (more l t bs s cs) good d p e = record { to = digits (more l t bs s cs) good d [] (omega arith); like = λ z h. h; text = refl; state = ok_is _ p e }
+digit_lead nt l good d p e = record { to = digits l good d [] (omega arith); like = λ z h. h; text = refl; state = ok_is _ p e }
 
 not_three : (n : ℕ) → nat_le 3 (1 + n) ≡ false → n + 1 ≤ 2
 not_three n h = grind (arith, nat_tests)
@@ -271,11 +266,7 @@ grows_by nt (marks.Signs s) q b p h e = subst (λ c. Grows nt q c p false) (sym 
 grows_by nt (marks.Letter a) q b p h e = subst (λ c. Grows nt q c p false) (sym h.1) (on_letter_grows nt q a h.0 p h.2 e)
 grows_by nt (marks.Digit n) q b p h e = subst (λ c. Grows nt q c p true) (sym h.1) (on_digit_grows nt q h.0 p (subst (λ k. on_digit k (partial_state nt q) ≡ fine p) h.2 e))
 grows_by nt marks.Slash q b p h e = subst (λ c. Grows nt q c p true) (sym h) (on_slash_grows nt q p e)
-grows_by nt marks.Comma q b p h e = err_is _ p e
-grows_by nt marks.Hash q b p h e = err_is _ p e
-grows_by nt marks.Open q b p h e = err_is _ p e
-grows_by nt marks.Close q b p h e = err_is _ p e
-grows_by nt marks.Other q b p h e = err_is _ p e
+grows_by nt m q b p h e = err_is _ p e
 
 pub grows : (nt : Notation) → (q : Partial nt) (b : ℕ) (p : PartReader) → part_step (mark nt b) (partial_state nt q) ≡ fine p → Grows nt q b p (is_plain (mark nt b))
 grows nt q b p e = grows_by nt (mark nt b) q b p (mark_is nt b) e

@@ -64,8 +64,7 @@ seen_step f b = record {
 
 pub seen_blank : (f : Seen) (k : Blank) → seen_step f (blank_byte k) ≡ record { mark = f.mark; other = blank_byte k; count = 0; used = f.used }
 seen_blank f space = refl
-seen_blank f tab = refl
-seen_blank f carriage_return = refl
+seen_blank f k = refl
 
 pub seen_sign : (f : Seen) (s : Sign) → seen_step f (sign_byte s) ≡ record { mark = sign_byte s; other = sign_byte s; count = 0; used = f.used }
 seen_sign f Plus = refl
@@ -90,8 +89,7 @@ digit_not_comma d = let low = d.low in let high = d.high in grind (arith, nat_te
 
 pub digit_not_letter : (a : Axis) (d : Digit) → is_letter a d.byte ≡ false
 digit_not_letter X d = let low = d.low in let high = d.high in grind (arith, nat_tests)
-digit_not_letter Y d = let low = d.low in let high = d.high in grind (arith, nat_tests)
-digit_not_letter Z d = let low = d.low in let high = d.high in grind (arith, nat_tests)
+digit_not_letter a d = let low = d.low in let high = d.high in grind (arith, nat_tests)
 
 pub seen_digit : (f : Seen) (d : Digit) → seen_step f d.byte ≡ record { mark = d.byte; other = f.other; count = f.count + 1; used = f.used }
 seen_digit f d = simp (digit_true d, digit_not_blank d, digit_not_comma d, digit_not_letter X d, digit_not_letter Y d, digit_not_letter Z d)
@@ -114,8 +112,7 @@ agree_at p q f e h = subst (λ x. Agrees x f) (sym e) h
 
 pub blank_bounds : (k : Blank) → blank_byte k ≢ 47
 blank_bounds space e = omega arith
-blank_bounds tab e = omega arith
-blank_bounds carriage_return e = omega arith
+blank_bounds k e = omega arith
 
 pub sign_bounds : (s : Sign) → (sign_byte s ≢ 44) × (sign_byte s ≢ 47)
 sign_bounds Plus = (λ e. omega arith, λ e. omega arith)
@@ -155,9 +152,7 @@ pub agrees_letter : (spot : Spot) (r : rows.Row) (u : Used) (g : Sign) (f : Seen
 agrees_letter Begin r u g f a c q e w = agree_at _ q _ (ok_is _ q w) (record { used = ap (with_used a) e; spot = ((letter_bounds a c).0, refl, (letter_bounds a c).1) })
 agrees_letter Signed r u g f a c q e w = agree_at _ q _ (ok_is _ q w) (record { used = ap (with_used a) e; spot = ((letter_bounds a c).0, refl, (letter_bounds a c).1) })
 agrees_letter (Digits n v) r u g f a c q e w = agree_at (with_letter a v (at r u g (Digits n v))) q _ (ok_is _ q (met _ kinds.Coefficient _ q w).1) (record { used = ap (with_used a) e; spot = ((letter_bounds a c).0, refl, (letter_bounds a c).1) })
-agrees_letter (Divided v) r u g f a c q e w = err_is _ q w
-agrees_letter (Below v d) r u g f a c q e w = err_is _ q w
-agrees_letter Behind r u g f a c q e w = err_is _ q w
+agrees_letter spot r u g f a c q e w = err_is _ q w
 
 pub agrees_digit : (spot : Spot) (r : rows.Row) (u : Used) (g : Sign) (f : Seen) (d : Digit) (q : PartReader) → f.used ≡ u → SpotAgrees spot f → on_digit (digit_value d) (at r u g spot) ≡ fine q →
     Agrees q (record { mark = d.byte; other = f.other; count = f.count + 1; used = f.used })
@@ -170,12 +165,8 @@ agrees_digit Behind r u g f d q e h w = err_is _ q w
 
 pub agrees_slash : (spot : Spot) (r : rows.Row) (u : Used) (g : Sign) (f : Seen) (q : PartReader) → f.used ≡ u → SpotAgrees spot f → on_slash (at r u g spot) ≡ fine q →
     Agrees q (record { mark = 47; other = 47; count = 0; used = f.used })
-agrees_slash Begin r u g f q e h w = err_is _ q w
-agrees_slash Signed r u g f q e h w = err_is _ q w
 agrees_slash (Digits n v) r u g f q e h w = agree_at _ q _ (ok_is _ q w) (record { used = e; spot = (λ z. omega arith, refl, refl) })
-agrees_slash (Divided v) r u g f q e h w = err_is _ q w
-agrees_slash (Below v d) r u g f q e h w = err_is _ q w
-agrees_slash Behind r u g f q e h w = err_is _ q w
+agrees_slash spot r u g f q e h w = err_is _ q w
 
 pub along : (b c : ℕ) (q : PartReader) (f g : Seen) → b ≡ c → seen_step f c ≡ g → Agrees q g → Agrees q (seen_step f b)
 along b c q f g e h a = subst (λ x. Agrees q (seen_step f x)) (sym e) (subst (λ x. Agrees q x) (sym h) a)
@@ -186,11 +177,7 @@ agrees_part nt (marks.Signs s) p f b q i h w = along b _ q f _ i (seen_sign f s)
 agrees_part nt (marks.Letter a) p f b q i h w = along b _ q f _ i.1 (seen_letter f a i.0) (agrees_letter p.spot p.row p.used p.sign f a i.0 q h.used (passed _ _ _ q w).1)
 agrees_part nt (marks.Digit n) p f b q i h w = along b _ q f _ i.1 (seen_digit f i.0) (agrees_digit p.spot p.row p.used p.sign f i.0 q h.used h.spot (subst (λ k. on_digit k p ≡ fine q) i.2 w))
 agrees_part nt marks.Slash p f b q i h w = along b _ q f _ i refl (agrees_slash p.spot p.row p.used p.sign f q h.used h.spot w)
-agrees_part nt marks.Comma p f b q i h w = err_is _ q w
-agrees_part nt marks.Hash p f b q i h w = err_is _ q w
-agrees_part nt marks.Open p f b q i h w = err_is _ q w
-agrees_part nt marks.Close p f b q i h w = err_is _ q w
-agrees_part nt marks.Other p f b q i h w = err_is _ q w
+agrees_part nt m p f b q i h w = err_is _ q w
 
 pub agrees_begin : Agrees begin (record { mark = 44; other = 44; count = 0; used = unused })
 agrees_begin = record { used = refl; spot = (refl, refl, λ e. omega arith) }
@@ -211,16 +198,9 @@ agrees_in_part nt m s t f b i h w =
     subst (λ (x : TripletReader). Agrees x.part (seen_step f b)) (sym p.state) (agrees_part nt m s.part f b p.part i h p.part_is)
 
 pub agrees_by : (nt : Notation) → (m : Mark) (s t : TripletReader) (f : Seen) (b : ℕ) → IsMark nt b m → Agrees s.part f → step nt m s ≡ going t → Agrees t.part (seen_step f b)
-agrees_by nt marks.Blank s t f b i h w = agrees_in_part nt marks.Blank s t f b i h w
-agrees_by nt (marks.Signs g) s t f b i h w = agrees_in_part nt (marks.Signs g) s t f b i h w
-agrees_by nt (marks.Letter a) s t f b i h w = agrees_in_part nt (marks.Letter a) s t f b i h w
-agrees_by nt (marks.Digit n) s t f b i h w = agrees_in_part nt (marks.Digit n) s t f b i h w
-agrees_by nt marks.Slash s t f b i h w = agrees_in_part nt marks.Slash s t f b i h w
 agrees_by nt marks.Comma s t f b i h w = subst (λ x. Agrees t.part (seen_step f x)) (sym i) (agrees_comma nt (settled s.part) s t f w)
 agrees_by nt marks.Hash s t f b i h w = absurd cc
-agrees_by nt marks.Open s t f b i h w = agrees_in_part nt marks.Open s t f b i h w
-agrees_by nt marks.Close s t f b i h w = agrees_in_part nt marks.Close s t f b i h w
-agrees_by nt marks.Other s t f b i h w = agrees_in_part nt marks.Other s t f b i h w
+agrees_by nt m s t f b i h w = agrees_in_part nt m s t f b i h w
 
 pub stopped_runs : (nt : Notation) → (k : TextKind) (bs : List ℕ) (t : TripletReader) → run nt (stopped k) bs ≡ going t → ⊥
 stopped_runs nt k bs t e = let h = run_stopped nt k bs in cc

@@ -45,8 +45,7 @@ IsLetter a c = IsTerm (letter_term c (letter_byte a false ∷ [])) (with_entry a
 -- triplets have all letters
 all_axes : (a : Axis) → has_axis Triplets a ≡ true
 all_axes X = refl
-all_axes Y = refl
-all_axes Z = refl
+all_axes a = refl
 
 single : (s : Sign) (a : Axis) (c : ℤ) → signed s 1 ≡ c → letter_term c (letter_byte a false ∷ []) ≡ sign_byte s ∷ letter_byte a false ∷ []
     → IsLetter a c

@@ -39,15 +39,7 @@ first_within nt m b n q i e = by m i e
 
     by : (m : Mark) → mark nt b ≡ m → begin_line nt m ≡ stands_at q → IsTextPlaceWithin (n + 1) q
     by marks.Blank i e = same_place (n + 1) texts.Beginning q e tt
-    by (marks.Signs s) i e = begun (marks.Signs s) i e
-    by (marks.Letter a) i e = begun (marks.Letter a) i e
-    by (marks.Digit d) i e = begun (marks.Digit d) i e
-    by marks.Slash i e = begun marks.Slash i e
-    by marks.Comma i e = begun marks.Comma i e
-    by marks.Hash i e = begun marks.Hash i e
-    by marks.Open i e = begun marks.Open i e
-    by marks.Close i e = begun marks.Close i e
-    by marks.Other i e = begun marks.Other i e
+    by m i e = begun m i e
 
 beginning_within : (nt : Notation) → (t : Bool) (b n : ℕ) (q : TextPlace) → cond t (stands_at (texts.Heading words.G)) (begin_line nt (mark nt b)) ≡ stands_at q → IsTextPlaceWithin (n + 1) q
 beginning_within nt true b n q e = same_place (n + 1) (texts.Heading words.G) q e tt

@@ -51,16 +51,12 @@ then_run nt s t u xs ys p q = run-append nt (Ok s) xs ys ∙ (ap (λ (r : Result
 -- ---- a part in its triplet
 
 in_part_step : (nt : Notation) → (m : Mark) (s : TripletReader) (p q : PartReader) → part_step m p ≡ fine q → step nt m (with_part p s) ≡ going (with_part q s)
-in_part_step nt marks.Blank s p q e = ap (in_part (with_part p s)) e
-in_part_step nt (marks.Signs g) s p q e = ap (in_part (with_part p s)) e
-in_part_step nt (marks.Letter a) s p q e = ap (in_part (with_part p s)) e
-in_part_step nt (marks.Digit d) s p q e = ap (in_part (with_part p s)) e
-in_part_step nt marks.Slash s p q e = ap (in_part (with_part p s)) e
 in_part_step nt marks.Comma s p q e = absurd cc
 in_part_step nt marks.Hash s p q e = absurd cc
 in_part_step nt marks.Open s p q e = absurd cc
 in_part_step nt marks.Close s p q e = absurd cc
 in_part_step nt marks.Other s p q e = absurd cc
+in_part_step nt m s p q e = ap (in_part (with_part p s)) e
 
 pub err_part : (nt : Notation) → (k : TextKind) (bs : List ℕ) (q : PartReader) → (let r : Result PartReader TextKind = Err k in run_part nt r bs ≡ fine q) → ⊥
 err_part nt k [] q e = cc
@@ -198,7 +194,6 @@ abbrev pub nothing : (nt : Notation) → Partial nt
 nothing nt = lead (bare []) tt
 
 goes_by_comma : (nt : Notation) → (o : Option PartReader) (q : Begun nt) (t : TripletReader) → settled (begun_state nt q).part ≡ o → comma_at nt o (begun_state nt q) ≡ going t → GoesOn nt q (44 ∷ []) t
-goes_by_comma nt None q t h e = absurd cc
 goes_by_comma nt (Some p) (in_first q) t h e =
     let w = whole_part nt q p h in
     record {
@@ -213,20 +208,12 @@ goes_by_comma Triplets (Some p) (in_second v q) t h e =
       text = second_more (part_text Triplets v) (partial_text Triplets q) (44 ∷ []) (part_text Triplets w.0 ++ (44 ∷ [])) (ap (λ (x : List ℕ). x ++ (44 ∷ [])) w.1);
       state = going_is _ t e ∙ ap (λ (r : Row). third_state (part_row Triplets v) r) w.2;
     }
-goes_by_comma Pairs (Some p) (in_second v q) t h e = absurd cc
-goes_by_comma nt (Some p) (in_third i v w q) t h e = absurd cc
+goes_by_comma nt o q t h e = absurd cc
 
 pub goes_by : (nt : Notation) → (m : Mark) (q : Begun nt) (b : ℕ) (t : TripletReader) → IsMark nt b m → step nt m (begun_state nt q) ≡ going t → GoesOn nt q (b ∷ []) t
-goes_by nt marks.Blank q b t h e = goes_in_part nt q marks.Blank b t h e
-goes_by nt (marks.Signs s) q b t h e = goes_in_part nt q (marks.Signs s) b t h e
-goes_by nt (marks.Letter a) q b t h e = goes_in_part nt q (marks.Letter a) b t h e
-goes_by nt (marks.Digit n) q b t h e = goes_in_part nt q (marks.Digit n) b t h e
-goes_by nt marks.Slash q b t h e = goes_in_part nt q marks.Slash b t h e
 goes_by nt marks.Comma q b t h e = subst (λ c. GoesOn nt q (c ∷ []) t) (sym h) (goes_by_comma nt (settled (begun_state nt q).part) q t refl e)
 goes_by nt marks.Hash q b t h e = absurd cc
-goes_by nt marks.Open q b t h e = goes_in_part nt q marks.Open b t h e
-goes_by nt marks.Close q b t h e = goes_in_part nt q marks.Close b t h e
-goes_by nt marks.Other q b t h e = goes_in_part nt q marks.Other b t h e
+goes_by nt m q b t h e = goes_in_part nt q m b t h e
 
 pub run_err : (nt : Notation) → (k : TextKind) (bs : List ℕ) (t : TripletReader) → run nt (stopped k) bs ≡ going t → ⊥
 run_err nt k bs t e = let h = run_stopped nt k bs in cc

@@ -49,13 +49,11 @@ still_behind nt r u s (carriage_return ∷ bs) = still_behind nt r u s bs
 
 letter_opens : (l : Lead) (a : Axis) (p : PartReader) → on_new_letter_at a (lead_spot l) p ≡ Ok (with_letter a 1 p)
 letter_opens (bare bs) a p = refl
-letter_opens (sign bs s cs) a p = refl
-letter_opens (more l t bs s cs) a p = refl
+letter_opens l a p = refl
 
 digit_opens : (l : Lead) (d : ℕ) (p : PartReader) → on_digit_at d (lead_spot l) p ≡ Ok (with_spot (Digits 1 d) p)
 digit_opens (bare bs) d p = refl
-digit_opens (sign bs s cs) d p = refl
-digit_opens (more l t bs s cs) d p = refl
+digit_opens l d p = refl
 
 letter_run : (nt : Notation) → (a : Axis) (c : Bool) (p : PartReader) → has_axis nt a ≡ true → uses a p.used ≡ false → run_part nt (Ok p) (letter_byte a c ∷ []) ≡ on_new_letter_at a p.spot p
 letter_run nt a c p axis new =
@@ -130,9 +128,7 @@ term_run nt l (fraction n d) new =
 
 pub settled_term : (l : Lead) (t : Term) → settled (term_state l t) ≡ Some (behind_state l t)
 settled_term l (letter a c) = refl
-settled_term l (multiple d h a c) = refl
-settled_term l (whole n) = refl
-settled_term l (fraction n d) = refl
+settled_term l t = refl
 
 pub settled_after : (l : Lead) (t : Term) (bs : List Blank) → settled (after_state l t bs) ≡ Some (behind_state l t)
 settled_after l t [] = settled_term l t
@@ -140,9 +136,7 @@ settled_after l t (b ∷ bs) = refl
 
 blank_term : (l : Lead) (t : Term) → on_blank (term_state l t) ≡ Ok (behind_state l t)
 blank_term l (letter a c) = refl
-blank_term l (multiple d h a c) = refl
-blank_term l (whole n) = refl
-blank_term l (fraction n d) = refl
+blank_term l t = refl
 
 run_on : (nt : Notation) → (bs : List Blank) (l : Lead) (t : Term) → run_part nt (on_blank (term_state l t)) (blanks_text bs) ≡ Ok (behind_state l t)
 run_on nt bs l t =
@@ -157,9 +151,7 @@ after_run nt l t (carriage_return ∷ bs) = run_on nt bs l t
 
 sign_term : (l : Lead) (t : Term) (s : Sign) → on_sign s (term_state l t) ≡ Ok (with_sign s (behind_state l t))
 sign_term l (letter a c) s = refl
-sign_term l (multiple d h a c) s = refl
-sign_term l (whole n) s = refl
-sign_term l (fraction n d) s = refl
+sign_term l t s = refl
 
 sign_after : (l : Lead) (t : Term) (bs : List Blank) (s : Sign) → on_sign s (after_state l t bs) ≡ Ok (with_sign s (behind_state l t))
 sign_after l t [] s = sign_term l t s

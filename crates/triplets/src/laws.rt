@@ -27,7 +27,8 @@ pub fn one_listing()
 
 /// A text has one fault: the first bad line, the column at which no good line goes on, and the kind by the table.
 pub fn one_fault()
-    ensures { (notation : Notation) (text : List ℕ) (f f' : Fault) → IsTextFault notation text f → IsTextFault notation text f' → f ≡ f' }
+    ensures { (notation : Notation) (text : List ℕ) (f f' : Fault)
+        → IsTextFault notation text f → IsTextFault notation text f' → f ≡ f' }
 {}
 
 /// A text with a fault lists nothing.
@@ -51,7 +52,8 @@ pub fn one_kept()
 
 /// Behind letters of the heading's word a comment comes too early, and any other byte is one that cannot stand there.
 pub fn kind_in_heading()
-    ensures { (notation : Notation) (blanks : List Blank) (letters rest : List ℕ) (b : ℕ) (kind : TextKind)
+    ensures { (notation : Notation) (blanks : List Blank) (letters rest : List ℕ)
+        (b : ℕ) (kind : TextKind)
         → letters ++ rest ≡ heading_word → letters ≢ []
         → HasLineKind notation (blanks_text blanks ++ letters) b kind
         → kind ≡ (if b == hash then MissingPart else UnknownSign) }
@@ -60,7 +62,8 @@ pub fn kind_in_heading()
 /// What a text of pairs lists is flat: its operations leave the third axis as it is, and its vectors have the third
 /// entry 0.
 pub fn pairs_are_flat()
-    ensures { (text : List ℕ) (b : Bool) (g : Listing) → IsGroupText Pairs text b g → IsFlatListing g }
+    ensures { (text : List ℕ) (b : Bool) (g : Listing)
+        → IsGroupText Pairs text b g → IsFlatListing g }
 {}
 
 /// The limit that contracts name by its number.

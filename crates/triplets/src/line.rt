@@ -40,7 +40,14 @@ pub enum LinePlace {
 impl VectorReader {
     ghost use Rattle.triplets.specs.PartReading.{IsSmall, settled};
     ghost use Rattle.triplets.specs.Marks.{IsMarkInRange};
-    ghost use Rattle.triplets.specs.LineReading.{opened, next_coordinate, coordinate_comma, on_close, coordinate_sign, vector_step};
+    ghost use Rattle.triplets.specs.LineReading.{
+      opened,
+      next_coordinate,
+      coordinate_comma,
+      on_close,
+      coordinate_sign,
+      vector_step,
+    };
 
     fn opened(label: bool) -> Self
         ensures { result ≡ opened label }
@@ -161,7 +168,16 @@ impl VectorReader {
 impl LinePlace {
     ghost use Rattle.triplets.specs.PartReading.{IsSmall};
     ghost use Rattle.triplets.specs.Marks.{IsMarkInRange};
-    ghost use Rattle.triplets.specs.LineReading.{start_step, operation_step, closed_step, behind_step, place_step, completed, ending, IsPlaceSmall};
+    ghost use Rattle.triplets.specs.LineReading.{
+      start_step,
+      operation_step,
+      closed_step,
+      behind_step,
+      place_step,
+      completed,
+      ending,
+      IsPlaceSmall,
+    };
 
     fn from_start(notation: Notation, mark: Mark) -> Result<LinePlace, TextKind>
         requires { IsMarkInRange mark }

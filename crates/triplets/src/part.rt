@@ -110,7 +110,19 @@ impl Row {
 
 impl PartReader {
     ghost use Rattle.triplets.specs.Marks.{IsMarkInRange};
-    ghost use Rattle.triplets.specs.PartReading.{with_number, with_letter, begin, settled, on_blank, on_sign, on_letter, on_digit, on_slash, part_step, IsSmall};
+    ghost use Rattle.triplets.specs.PartReading.{
+      with_number,
+      with_letter,
+      begin,
+      settled,
+      on_blank,
+      on_sign,
+      on_letter,
+      on_digit,
+      on_slash,
+      part_step,
+      IsSmall,
+    };
 
     pub fn new() -> Self
         ensures { result ≡ begin }

@@ -22,7 +22,14 @@ pub enum TextPlace {
 }
 
 impl TextPlace {
-    ghost use Rattle.triplets.specs.HeadingReading.{from_beginning, text_step, text_completed, text_ending, is_heading, IsTextPlaceSmall};
+    ghost use Rattle.triplets.specs.HeadingReading.{
+      from_beginning,
+      text_step,
+      text_completed,
+      text_ending,
+      is_heading,
+      IsTextPlaceSmall,
+    };
 
     fn from_beginning(notation: Notation, byte: u8, meaning: Mark) -> Result<TextPlace, TextKind>
         requires { meaning ≡ mark notation byte }

@@ -96,7 +96,8 @@ impl LineReader {
 
     /// Ends the line, and lists its operation. Behind the heading the operations are generators.
     fn end_line(&mut self) -> Result<(), TextFault>
-        ensures value { Gives (λ _. (kept self.new).said) result (finished self.old.notation (kept self.old)) }
+        ensures value { Gives (λ _. (kept self.new).said) result
+            (finished self.old.notation (kept self.old)) }
         ensures same { AreAlike self.old self.new }
     {
         if self.place.is_heading() {
@@ -116,7 +117,8 @@ impl LineReader {
     fn advance(&mut self, byte: u8) -> Result<(), TextFault>
         requires line { self.old.line ≤ self.old.fed }
         requires column { self.old.column ≤ self.old.fed }
-        ensures kept { Gives (λ _. kept self.new) result (byte_step self.old.notation byte (kept self.old)) }
+        ensures kept { Gives (λ _. kept self.new) result
+            (byte_step self.old.notation byte (kept self.old)) }
         ensures notation { self.new.notation ≡ self.old.notation }
         ensures fed { self.new.fed ≡ self.old.fed }
         ensures fault { self.new.fault ≡ self.old.fault }
@@ -150,9 +152,12 @@ impl LineReader {
     pub fn feed(&mut self, piece: &[u8]) -> Result<(), TextFault>
         requires { bytes_fed self.old + length piece.now ≤ 65536 }
         ensures fed { bytes_fed self.new ≡ bytes_fed self.old + length piece.now }
-        ensures stands { (result ≡ Err NoMemory) ⊎ ((notation : Notation) (text : List ℕ) → Stands notation self.old text → Stands notation self.new (text ++ piece.now)) }
-        ensures answer { (notation : Notation) (text : List ℕ) → Stands notation self.old text → IsAnswerSoFar notation (text ++ piece.now) result }
-        ensures told { (notation : Notation) (text : List ℕ) → Stands notation self.old text → IfOk result (λ _. Keeps notation self.new (text ++ piece.now)) }
+        ensures stands { (result ≡ Err NoMemory) ⊎ ((notation : Notation) (text : List ℕ) →
+            Stands notation self.old text → Stands notation self.new (text ++ piece.now)) }
+        ensures answer { (notation : Notation) (text : List ℕ) → Stands notation self.old text →
+            IsAnswerSoFar notation (text ++ piece.now) result }
+        ensures told { (notation : Notation) (text : List ℕ) → Stands notation self.old text →
+            IfOk result (λ _. Keeps notation self.new (text ++ piece.now)) }
         ensures again { IfSome (fault_answered self.old) (λ fault. result ≡ Err fault) }
         ensures kept { IfErr result (λ fault. fault_answered self.new ≡ Some fault) }
     {
@@ -171,8 +176,10 @@ impl LineReader {
 
     /// Ends the text: what it lists, or its first fault.
     pub fn finish(self) -> Result<Listed, TextFault>
-        ensures answer { (notation : Notation) (text : List ℕ) → Stands notation self text → IsAnswer notation text result }
-        ensures small { (notation : Notation) (text : List ℕ) → Stands notation self text → IfOk result (IsListedSmall 9) }
+        ensures answer { (notation : Notation) (text : List ℕ) → Stands notation self text →
+            IsAnswer notation text result }
+        ensures small { (notation : Notation) (text : List ℕ) → Stands notation self text →
+            IfOk result (IsListedSmall 9) }
         ensures flat { (notation : Notation) (text : List ℕ) → Stands notation self text →
             IfOk result (λ listed. IsListedIn notation (listing_of listed)) }
         ensures again { IfSome (fault_answered self) (λ fault. result ≡ Err fault) }

@@ -154,9 +154,11 @@ impl TripletReader {
 pub fn read_triplet(bytes: &[u8]) -> Result<Motion3, TripletFault>
     requires { length bytes.now ≤ 16777216 }
     ensures found { IfOk result (λ m. IsTriplet bytes.now (motion_of m)) }
-    ensures only { (value : Motion) → IsTriplet bytes.now value → IsOkAnd result (λ m. motion_of m ≡ value) }
+    ensures only { (value : Motion) → IsTriplet bytes.now value →
+        IsOkAnd result (λ m. motion_of m ≡ value) }
     ensures small { IfOk result (λ m. IsSmallWithin 9 (motion_of m)) }
-    ensures fault { IfErr result (λ fault. (before : ℕ) × (fault.place ≡ before + 1) × IsFault Triplets bytes.now before fault.kind) }
+    ensures fault { IfErr result (λ fault. (before : ℕ) × (fault.place ≡ before + 1)
+        × IsFault Triplets bytes.now before fault.kind) }
 {
     let mut reader = TripletReader::new();
     for (i, byte) in bytes.iter().enumerate() {

@@ -40,7 +40,8 @@ impl<'a> fmt::Display for Triplet<'a> {
 /// A motion with matrix entries at most 9 in size and numerators at most 999 in size is what the reader reads of it.
 pub fn write_triplet(alloc: Global, m: &Motion3) -> Result<Vec<u8>, NoMemory>
     ensures form { IfOk result (λ text. text.items ≡ triplet_text (motion_of m.now)) }
-    ensures law { IfOk result (λ text. IsWritable (motion_of m.now) → IsTripletOf text.items (motion_of m.now)) }
+    ensures law { IfOk result (λ text.
+        IsWritable (motion_of m.now) → IsTripletOf text.items (motion_of m.now)) }
 {
     let triplet = Triplet(m);
     Ok(format!(in alloc; "{triplet}")?.into_bytes())
