@@ -73,7 +73,8 @@ impl Operations {
         requires within { token.end ≤ length bytes.now }
         ensures kept { IfOk result (λ _. (ws : List Word)
             → AreKept ws self.old → AreKept (ws ++ word_of bytes.now token ∷ []) self.new) }
-        ensures within { IsKeptWithin (length bytes.now) self.old → IsKeptWithin (length bytes.now) self.new }
+        ensures within { IsKeptWithin (length bytes.now) self.old →
+            IsKeptWithin (length bytes.now) self.new }
     {
         match self.fault {
             Some(_) => Ok(()),
@@ -101,8 +102,10 @@ impl Operations {
         requires content { token.start + opening token.form ≤ token.end }
         requires within { token.end ≤ length bytes.now }
         ensures kept { IfOk result (λ _. (ws : List Word)
-            → AreKept ws self.old → AreKept (if here then ws ++ word_of bytes.now token ∷ [] else ws) self.new) }
-        ensures within { IsKeptWithin (length bytes.now) self.old → IsKeptWithin (length bytes.now) self.new }
+            → AreKept ws self.old
+            → AreKept (if here then ws ++ word_of bytes.now token ∷ [] else ws) self.new) }
+        ensures within { IsKeptWithin (length bytes.now) self.old →
+            IsKeptWithin (length bytes.now) self.new }
     {
         if here { self.add(bytes, token) } else { Ok(()) }
     }

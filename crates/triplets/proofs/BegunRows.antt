@@ -18,10 +18,12 @@ use Rattle.triplets.specs.Marks.{mark}
 use Rattle.triplets.specs.TripletReading.{step}
 use Rattle.triplets.specs.Grammar.{blanks_text}
 use Rattle.triplets.specs.Lines.{Centring, centring_text, centring_value, Centrings, one, further, centrings_text, centrings_value, empty, operation, row}
-use Rattle.triplets.specs.LineReading.{in_operation, coordinate_sign, place_step, completed, with_vector, LineState, line_start, at_place, line_step, line_advance, line_run}
+use Rattle.triplets.specs.LineReading.{in_operation, coordinate_sign, place_step, completed, with_vector, LineState, line_start, at_place, line_step, line_run, line_byte}
 use Rattle.triplets.specs.BegunLines.{AreBegunVectors}
-use Rattle.triplets.proofs.LineBegun.{line_going, line_run-append, run_line_stopped, state_of, going_line_is, placed_by, LineBegun, at_start, at_opening, at_operation, at_vector, at_closed, at_behind, at_comment, prior_text, prior_value, line_text, line_state, closed_text, in_bracket, bracket_more, closed_more, all_of, line_goes}
+use Rattle.triplets.proofs.LineBegun.{state_of, placed_by, LineBegun, at_start, at_opening, at_operation, at_vector, at_closed, at_behind, at_comment, prior_text, prior_value, line_text, line_state, closed_text, in_bracket, bracket_more, closed_more, all_of, line_goes}
 use Rattle.triplets.proofs.LineRuns.{centrings_run}
+use Rattle.triplets.proofs.Runs.{going, going_is, run-append, no_run, carries}
+use Rattle.triplets.specs.Runs.{advanced}
 
 -- ---- more bytes, no fewer vectors
 
@@ -29,32 +31,27 @@ with_vector_grows : (v : Option (List Part)) (vs : List Vector) → length vs �
 with_vector_grows None vs = omega arith
 with_vector_grows (Some v) vs = omega (arith, length-append vs (parts v ∷ []))
 
-grows_by : (nt : Notation) → (r : Result LineState TextKind) (b : ℕ) (bs : List ℕ) (s t : LineState) → ((u : LineState) → line_run nt (Ok u) bs ≡ line_going t → length u.vectors ≤ length t.vectors) →
-    line_step nt (mark nt b) s ≡ r → line_run nt r bs ≡ line_going t → length s.vectors ≤ length t.vectors
-grows_by nt (Err k) b bs s t then_on h e = absurd (let z = run_line_stopped nt k bs in cc)
-grows_by nt (Ok u) b bs s t then_on h e =
+step_grows : (nt : Notation) → (b : ℕ) (s t : LineState) → line_byte nt b s ≡ going t → length s.vectors ≤ length t.vectors
+step_grows nt b s t h =
     let v = completed (mark nt b) s.place in
-    let p = placed_by (place_step nt (mark nt b) s.place) (with_vector v s.vectors) u h in
-    let same : length u.vectors ≡ length (with_vector v s.vectors) = ap (λ (x : LineState). length x.vectors) p.state in
-    omega (arith, then_on u e, with_vector_grows v s.vectors, same)
+    let p = placed_by (place_step nt (mark nt b) s.place) (with_vector v s.vectors) t h in
+    let same : length t.vectors ≡ length (with_vector v s.vectors) = ap (λ (x : LineState). length x.vectors) p.state in
+    omega (arith, with_vector_grows v s.vectors, same)
 
-vectors_grow : (nt : Notation) → (bs : List ℕ) (s t : LineState) → line_run nt (Ok s) bs ≡ line_going t → length s.vectors ≤ length t.vectors
-vectors_grow nt [] s t e =
-    let same : length t.vectors ≡ length s.vectors = ap (λ (x : LineState). length x.vectors) (going_line_is s t e) in
-    omega (arith, same)
-vectors_grow nt (b ∷ bs) s t e = grows_by nt (line_step nt (mark nt b) s) b bs s t (λ u. vectors_grow nt bs u t) refl e
+vectors_grow : (nt : Notation) → (bs : List ℕ) (s t : LineState) → line_run nt (Ok s) bs ≡ going t → length s.vectors ≤ length t.vectors
+vectors_grow nt bs s t e = carries (line_byte nt) (λ u xs. length s.vectors ≤ length u.vectors) (λ b xs u v h i. omega (arith, h, step_grows nt b u v i)) bs s t (omega arith) e
 
-run_grows : (nt : Notation) → (xs ys : List ℕ) (s t : LineState) → line_run nt (Ok line_start) xs ≡ line_going s → line_run nt (Ok line_start) (xs ++ ys) ≡ line_going t → length s.vectors ≤ length t.vectors
-run_grows nt xs ys s t h e = vectors_grow nt ys s t (ap (λ (r : Result LineState TextKind). line_run nt r ys) (sym h) ∙ (sym (line_run-append nt (Ok line_start) xs ys) ∙ e))
+run_grows : (nt : Notation) → (xs ys : List ℕ) (s t : LineState) → line_run nt (Ok line_start) xs ≡ going s → line_run nt (Ok line_start) (xs ++ ys) ≡ going t → length s.vectors ≤ length t.vectors
+run_grows nt xs ys s t h e = vectors_grow nt ys s t (ap (λ (r : Result LineState TextKind). line_run nt r ys) (sym h) ∙ (sym (run-append (line_byte nt) (Ok line_start) xs ys) ∙ e))
 
 -- ---- a vector is kept by its +, and by no byte before it
 
 abbrev behind : List Vector → Result LineState TextKind
-behind vs = line_going (state_of places.Behind vs)
+behind vs = going (state_of places.Behind vs)
 
 -- it is behind a vector
-behind_is : (p : LinePlace) (xs vs : List Vector) → line_going (state_of p xs) ≡ behind vs → places.Behind ≡ p
-behind_is p xs vs e = ap (λ (x : LineState). x.place) (going_line_is (state_of p xs) (state_of places.Behind vs) e)
+behind_is : (p : LinePlace) (xs vs : List Vector) → going (state_of p xs) ≡ behind vs → places.Behind ≡ p
+behind_is p xs vs e = ap (λ (x : LineState). x.place) (going_is (state_of p xs) (state_of places.Behind vs) e)
 
 operation_signed : (r : Result TripletReader TextKind) (xs vs : List Vector) → at_place (in_operation r) xs ≡ behind vs → length vs ≡ length xs + 1
 operation_signed (Ok t) xs vs e = let z = behind_is _ xs vs e in absurd cc
@@ -69,7 +66,7 @@ plus_keeps nt places.Start xs vs e = let z = behind_is _ xs vs e in absurd cc
 plus_keeps nt (places.Operation t) xs vs e = operation_signed (step nt (marks.Signs Plus) t) xs vs e
 plus_keeps nt (places.Coordinates v) xs vs e = coordinate_signed v.part.spot v xs vs e
 plus_keeps nt (places.Closed v) xs vs e =
-    let same : length vs ≡ length (xs ++ parts v ∷ []) = ap (λ (x : LineState). length x.vectors) (going_line_is _ _ e) in
+    let same : length vs ≡ length (xs ++ parts v ∷ []) = ap (λ (x : LineState). length x.vectors) (going_is _ _ e) in
     omega (arith, same, length-append xs (parts v ∷ []))
 plus_keeps nt places.Behind xs vs e = absurd cc
 plus_keeps nt (places.Comment o) xs vs e = let z = behind_is _ xs vs e in absurd cc
@@ -83,17 +80,17 @@ closes nt c = bracket_more nt None c.before (closed_text nt c.one c.two c.three 
 
 record IsUnclosed (nt : Notation) (bytes : List ℕ) : Type 0 where
   last : LineState
-  run_is : line_run nt (Ok line_start) bytes ≡ line_going last
+  run_is : line_run nt (Ok line_start) bytes ≡ going last
   none : length last.vectors ≡ 0
 
-unclosed_by : (nt : Notation) → (r : Result LineState TextKind) (bytes : List ℕ) (v : Vector) → line_run nt (Ok line_start) bytes ≡ r → line_advance nt r 43 ≡ behind (v ∷ []) → IsUnclosed nt bytes
+unclosed_by : (nt : Notation) → (r : Result LineState TextKind) (bytes : List ℕ) (v : Vector) → line_run nt (Ok line_start) bytes ≡ r → advanced (line_byte nt) r 43 ≡ behind (v ∷ []) → IsUnclosed nt bytes
 unclosed_by nt (Ok s) bytes v h e = record { last = s; run_is = h; none = let k = plus_keeps nt s.place s.vectors (v ∷ []) e in omega (arith, k) }
 unclosed_by nt (Err k) bytes v h e = absurd cc
 
 is_unclosed : (nt : Notation) → (c : Centring nt) → IsUnclosed nt (unclosed nt c)
 is_unclosed nt c =
     unclosed_by nt (line_run nt (Ok line_start) (unclosed nt c)) (unclosed nt c) (centring_value nt c) refl
-    (sym (line_run-append nt (Ok line_start) (unclosed nt c) (43 ∷ [])) ∙ (ap (line_run nt (Ok line_start)) (closes nt c) ∙ centrings_run nt (one c)))
+    (sym (run-append (line_byte nt) (Ok line_start) (unclosed nt c) (43 ∷ [])) ∙ (ap (line_run nt (Ok line_start)) (closes nt c) ∙ centrings_run nt (one c)))
 
 -- no vector is the beginning of one without its +
 not_within : (nt : Notation) → (c d : Centring nt) (rest : List ℕ) → ¬ (unclosed nt d ≡ centring_text nt c ++ rest)
@@ -143,7 +140,7 @@ first_vector v (w ∷ ws) = w
 same_value : (nt : Notation) → (c d : Centring nt) → centring_text nt c ≡ centring_text nt d → centring_value nt c ≡ centring_value nt d
 same_value nt c d e =
     let h : behind (centring_value nt d ∷ []) ≡ behind (centring_value nt c ∷ []) = sym (centrings_run nt (one d)) ∙ (ap (line_run nt (Ok line_start)) (sym e) ∙ centrings_run nt (one c)) in
-    ap (first_vector (centring_value nt c)) (ap (λ (x : LineState). x.vectors) (going_line_is _ _ h))
+    ap (first_vector (centring_value nt c)) (ap (λ (x : LineState). x.vectors) (going_is _ _ h))
 
 record IsOneCentring (nt : Notation) (c d : Centring nt) (xs ys : List ℕ) : Type 0 where
   value : centring_value nt c ≡ centring_value nt d
@@ -201,7 +198,7 @@ all_count nt None c = refl
 all_count nt (Some rs) c = length-append (centrings_value nt rs) (centring_value nt c ∷ [])
 
 -- behind the vectors that are kept none stands whole
-no_further : (nt : Notation) → (r : Option (Centrings nt)) (rest : List ℕ) (s : LineState) → line_run nt (Ok line_start) (prior_text nt r ++ rest) ≡ line_going s → s.vectors ≡ prior_value nt r → AreBegunVectors nt rest []
+no_further : (nt : Notation) → (r : Option (Centrings nt)) (rest : List ℕ) (s : LineState) → line_run nt (Ok line_start) (prior_text nt r ++ rest) ≡ going s → s.vectors ≡ prior_value nt r → AreBegunVectors nt rest []
 no_further nt r rest s h v c more e =
     let g = run_grows nt (centrings_text nt (all_of nt r c)) more (state_of places.Behind (centrings_value nt (all_of nt r c))) s (centrings_run nt (all_of nt r c))
     (ap (line_run nt (Ok line_start)) (sym (all_more nt r c more)) ∙ (ap (λ (x : List ℕ). line_run nt (Ok line_start) (prior_text nt r ++ x)) (sym e) ∙ h)) in
@@ -221,7 +218,7 @@ prior_then nt None rest h = h
 prior_then nt (Some r) rest h = subst (λ (y : List Vector). AreBegunVectors nt (centrings_text nt r ++ rest) y) (append-nil (centrings_value nt r)) (centrings_then nt r rest [] h)
 
 -- the vectors that are kept of a line begun
-pub begun_row : (nt : Notation) → (bytes : List ℕ) (s : LineState) → line_run nt (Ok line_start) bytes ≡ line_going s → AreBegunVectors nt bytes s.vectors
+pub begun_row : (nt : Notation) → (bytes : List ℕ) (s : LineState) → line_run nt (Ok line_start) bytes ≡ going s → AreBegunVectors nt bytes s.vectors
 begun_row nt bytes s h =
     let g = line_goes nt bytes (at_start []) s h in
     let w = has_whole nt g.to in

@@ -28,8 +28,9 @@ use Rattle.triplets.specs.TripletReading.{in_part, next_part, comma_at, step}
 use Rattle.triplets.specs.PlaceBounds.{IsRowWithin, IsSpotWithin, IsPartWithin}
 use Rattle.triplets.proofs.Bytes.{IsMark, mark_is}
 use Rattle.triplets.proofs.Divisors.{at_least_one, at_most_unit, further_tells}
-use Rattle.triplets.proofs.Partials.{fine, ok_is, err_is, passed, met, below_is}
-use Rattle.triplets.proofs.Wholes.{going, going_is, part_step_is}
+use Rattle.triplets.proofs.Partials.{passed, met, below_is}
+use Rattle.triplets.proofs.Wholes.{part_step_is}
+use Rattle.triplets.proofs.Runs.{going, going_is, not_going}
 
 pub more_room : (n : ℕ) (r : rows.Row) → IsRowWithin n r → IsRowWithin (n + 1) r
 more_room n r h = omega arith
@@ -57,58 +58,58 @@ at r u g spot = record { row = r; used = u; sign = g; spot = spot }
 pub within_at : (n : ℕ) (p q : PartReader) → q ≡ p → IsRowWithin n p.row → IsSpotWithin p.spot → IsPartWithin n q
 within_at n p q e r s = subst (IsPartWithin n) (sym e) (r, s)
 
-within_blank : (spot : Spot) (n : ℕ) (r : rows.Row) (u : Used) (g : Sign) (q : PartReader) → IsRowWithin n r → IsSpotWithin spot → on_blank (at r u g spot) ≡ fine q → IsPartWithin (n + 1) q
-within_blank (Digits k v) n r u g q h i w = within_at _ _ q (ok_is _ q w) (shift_room n g (unit * v) r (omega (arith, i.1.1.0)) h) tt
-within_blank (Divided v) n r u g q h i w = err_is _ q w
-within_blank (Below v d) n r u g q h i w = within_at _ _ q (ok_is _ q w) (shift_room n g (parts d * v) r (parts_small d v i.0) h) tt
-within_blank spot n r u g q h i w = within_at _ (at r u g spot) q (ok_is _ q w) (more_room n r h) tt
+within_blank : (spot : Spot) (n : ℕ) (r : rows.Row) (u : Used) (g : Sign) (q : PartReader) → IsRowWithin n r → IsSpotWithin spot → on_blank (at r u g spot) ≡ going q → IsPartWithin (n + 1) q
+within_blank (Digits k v) n r u g q h i w = within_at _ _ q (going_is _ q w) (shift_room n g (unit * v) r (omega (arith, i.1.1.0)) h) tt
+within_blank (Divided v) n r u g q h i w = not_going _ q w
+within_blank (Below v d) n r u g q h i w = within_at _ _ q (going_is _ q w) (shift_room n g (parts d * v) r (parts_small d v i.0) h) tt
+within_blank spot n r u g q h i w = within_at _ (at r u g spot) q (going_is _ q w) (more_room n r h) tt
 
-pub within_sign : (spot : Spot) (n : ℕ) (r : rows.Row) (u : Used) (g s : Sign) (q : PartReader) → IsRowWithin n r → IsSpotWithin spot → on_sign s (at r u g spot) ≡ fine q → IsPartWithin (n + 1) q
-within_sign Begin n r u g s q h i w = within_at _ _ q (ok_is _ q w) (more_room n r h) tt
-within_sign Signed n r u g s q h i w = err_is _ q w
-within_sign (Digits k v) n r u g s q h i w = within_at _ _ q (ok_is _ q w) (shift_room n g (unit * v) r (omega (arith, i.1.1.0)) h) tt
-within_sign (Divided v) n r u g s q h i w = err_is _ q w
-within_sign (Below v d) n r u g s q h i w = within_at _ _ q (ok_is _ q w) (shift_room n g (parts d * v) r (parts_small d v i.0) h) tt
-within_sign Behind n r u g s q h i w = within_at _ _ q (ok_is _ q w) (more_room n r h) tt
+pub within_sign : (spot : Spot) (n : ℕ) (r : rows.Row) (u : Used) (g s : Sign) (q : PartReader) → IsRowWithin n r → IsSpotWithin spot → on_sign s (at r u g spot) ≡ going q → IsPartWithin (n + 1) q
+within_sign Begin n r u g s q h i w = within_at _ _ q (going_is _ q w) (more_room n r h) tt
+within_sign Signed n r u g s q h i w = not_going _ q w
+within_sign (Digits k v) n r u g s q h i w = within_at _ _ q (going_is _ q w) (shift_room n g (unit * v) r (omega (arith, i.1.1.0)) h) tt
+within_sign (Divided v) n r u g s q h i w = not_going _ q w
+within_sign (Below v d) n r u g s q h i w = within_at _ _ q (going_is _ q w) (shift_room n g (parts d * v) r (parts_small d v i.0) h) tt
+within_sign Behind n r u g s q h i w = within_at _ _ q (going_is _ q w) (more_room n r h) tt
 
-within_letter : (spot : Spot) (n : ℕ) (r : rows.Row) (u : Used) (g : Sign) (a : Axis) (q : PartReader) → IsRowWithin n r → on_new_letter_at a spot (at r u g spot) ≡ fine q → IsPartWithin (n + 1) q
-within_letter Begin n r u g a q h w = within_at _ (with_letter a 1 (at r u g Begin)) q (ok_is _ q w) (entry_room n a (signed g 1) r h) tt
-within_letter Signed n r u g a q h w = within_at _ (with_letter a 1 (at r u g Signed)) q (ok_is _ q w) (entry_room n a (signed g 1) r h) tt
-within_letter (Digits k v) n r u g a q h w = within_at _ (with_letter a v (at r u g (Digits k v))) q (ok_is _ q (met _ kinds.Coefficient _ q w).1) (entry_room n a (signed g v) r h) tt
-within_letter spot n r u g a q h w = err_is _ q w
+within_letter : (spot : Spot) (n : ℕ) (r : rows.Row) (u : Used) (g : Sign) (a : Axis) (q : PartReader) → IsRowWithin n r → on_new_letter_at a spot (at r u g spot) ≡ going q → IsPartWithin (n + 1) q
+within_letter Begin n r u g a q h w = within_at _ (with_letter a 1 (at r u g Begin)) q (going_is _ q w) (entry_room n a (signed g 1) r h) tt
+within_letter Signed n r u g a q h w = within_at _ (with_letter a 1 (at r u g Signed)) q (going_is _ q w) (entry_room n a (signed g 1) r h) tt
+within_letter (Digits k v) n r u g a q h w = within_at _ (with_letter a v (at r u g (Digits k v))) q (going_is _ q (met _ kinds.Coefficient _ q w).1) (entry_room n a (signed g v) r h) tt
+within_letter spot n r u g a q h w = not_going _ q w
 
 below_three : (n : ℕ) → nat_le 3 n ≡ false → n < 3
 below_three n h = grind (arith, nat_tests)
 
-within_below : (n : ℕ) (r : rows.Row) (u : Used) (g : Sign) (v : ℕ) (spot : Spot) (m d : ℕ) (q : PartReader) → IsRowWithin n r → v < 1000 → below_or v (further_digit m d) (at r u g spot) ≡ fine q → IsPartWithin (n + 1) q
+within_below : (n : ℕ) (r : rows.Row) (u : Used) (g : Sign) (v : ℕ) (spot : Spot) (m d : ℕ) (q : PartReader) → IsRowWithin n r → v < 1000 → below_or v (further_digit m d) (at r u g spot) ≡ going q → IsPartWithin (n + 1) q
 within_below n r u g v spot m d q h i w =
     let b = below_is v (further_digit m d) (at r u g spot) q w in
     let divides = (further_tells m d b.0 b.1).1 in
     within_at (n + 1) (at r u g (Below v b.0)) q b.2 (more_room n r h) (i, (at_least_one b.0 divides, at_most_unit b.0 divides))
 
-within_digit : (spot : Spot) (n : ℕ) (r : rows.Row) (u : Used) (g : Sign) (d : ℕ) (q : PartReader) → d < 10 → IsRowWithin n r → IsSpotWithin spot → on_digit d (at r u g spot) ≡ fine q → IsPartWithin (n + 1) q
-within_digit Begin n r u g d q t h i w = within_at _ (at r u g (Digits 1 d)) q (ok_is _ q w) (more_room n r h) (omega arith, (omega arith, (omega arith, (λ z. omega arith, λ z. omega arith))))
-within_digit Signed n r u g d q t h i w = within_at _ (at r u g (Digits 1 d)) q (ok_is _ q w) (more_room n r h) (omega arith, (omega arith, (omega arith, (λ z. omega arith, λ z. omega arith))))
+within_digit : (spot : Spot) (n : ℕ) (r : rows.Row) (u : Used) (g : Sign) (d : ℕ) (q : PartReader) → d < 10 → IsRowWithin n r → IsSpotWithin spot → on_digit d (at r u g spot) ≡ going q → IsPartWithin (n + 1) q
+within_digit Begin n r u g d q t h i w = within_at _ (at r u g (Digits 1 d)) q (going_is _ q w) (more_room n r h) (omega arith, (omega arith, (omega arith, (λ z. omega arith, λ z. omega arith))))
+within_digit Signed n r u g d q t h i w = within_at _ (at r u g (Digits 1 d)) q (going_is _ q w) (more_room n r h) (omega arith, (omega arith, (omega arith, (λ z. omega arith, λ z. omega arith))))
 within_digit (Digits k v) n r u g d q t h i w =
     let p = passed _ kinds.Coefficient _ q w in
     let few : k < 3 = below_three k p.0 in
-    within_at _ (at r u g (Digits (k + 1) (10 * v + d))) q (ok_is _ q p.1) (more_room n r h)
+    within_at _ (at r u g (Digits (k + 1) (10 * v + d))) q (going_is _ q p.1) (more_room n r h)
     (omega arith, (omega arith, ((let low = i.1.1.1.0 (omega arith) in omega arith), ((λ z. let low = i.1.1.1.1 (omega arith) in omega arith), λ z. absurd (omega (arith, i.0))))))
 within_digit (Divided v) n r u g d q t h i w = within_below n r u g v (Divided v) 0 d q h i w
 within_digit (Below v e) n r u g d q t h i w = within_below n r u g v (Below v e) e d q h i.0 w
-within_digit Behind n r u g d q t h i w = err_is _ q w
+within_digit Behind n r u g d q t h i w = not_going _ q w
 
-within_slash : (spot : Spot) (n : ℕ) (r : rows.Row) (u : Used) (g : Sign) (q : PartReader) → IsRowWithin n r → IsSpotWithin spot → on_slash (at r u g spot) ≡ fine q → IsPartWithin (n + 1) q
-within_slash (Digits k v) n r u g q h i w = within_at _ (at r u g (Divided v)) q (ok_is _ q w) (more_room n r h) i.1.1.0
-within_slash spot n r u g q h i w = err_is _ q w
+within_slash : (spot : Spot) (n : ℕ) (r : rows.Row) (u : Used) (g : Sign) (q : PartReader) → IsRowWithin n r → IsSpotWithin spot → on_slash (at r u g spot) ≡ going q → IsPartWithin (n + 1) q
+within_slash (Digits k v) n r u g q h i w = within_at _ (at r u g (Divided v)) q (going_is _ q w) (more_room n r h) i.1.1.0
+within_slash spot n r u g q h i w = not_going _ q w
 
-pub within_part : (m : Mark) (n : ℕ) (p q : PartReader) → IsMarkInRange m → IsPartWithin n p → part_step m p ≡ fine q → IsPartWithin (n + 1) q
+pub within_part : (m : Mark) (n : ℕ) (p q : PartReader) → IsMarkInRange m → IsPartWithin n p → part_step m p ≡ going q → IsPartWithin (n + 1) q
 within_part marks.Blank n p q i h w = within_blank p.spot n p.row p.used p.sign q h.0 h.1 w
 within_part (marks.Signs s) n p q i h w = within_sign p.spot n p.row p.used p.sign s q h.0 h.1 w
 within_part (marks.Letter a) n p q i h w = within_letter p.spot n p.row p.used p.sign a q h.0 (passed _ _ _ q w).1
 within_part (marks.Digit d) n p q i h w = within_digit p.spot n p.row p.used p.sign d q i h.0 h.1 w
 within_part marks.Slash n p q i h w = within_slash p.spot n p.row p.used p.sign q h.0 h.1 w
-within_part m n p q i h w = err_is _ q w
+within_part m n p q i h w = not_going _ q w
 
 pub within_begin : (n : ℕ) → IsPartWithin n begin
 within_begin n = (omega arith, tt)

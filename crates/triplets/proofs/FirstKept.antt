@@ -11,18 +11,17 @@ use Rattle.triplets.specs.BegunLines.{AreBegunVectors}
 use Rattle.triplets.specs.KeptTexts.{with_begun, IsKept, Keeps}
 use Rattle.triplets.specs.Texts.{lines_of, nothing_listed, AreTextLines}
 use Rattle.triplets.specs.TextReading.{Said, Kept, kept, kept_start, text_run}
-use Rattle.triplets.proofs.TextRuns.{keeping}
 use Rattle.triplets.proofs.TextEnds.{make_listing, listing_path}
 use Rattle.triplets.proofs.BegunRows.{one_begun_row}
 use Rattle.triplets.proofs.FirstTexts.{IsTextKept, text_given}
 use Rattle.triplets.proofs.Answered.{text_lines_one}
 
 -- what the reader keeps is told by the bytes
-is_kept : (nt : Notation) → (bytes : List ℕ) (k : Kept) → text_run nt (Ok kept_start) bytes ≡ keeping k → IsKept nt bytes k.said.generated k.said.listing k.line k.column
+is_kept : (nt : Notation) → (bytes : List ℕ) (k : Kept) → text_run nt (Ok kept_start) bytes ≡ Ok k → IsKept nt bytes k.said.generated k.said.listing k.line k.column
 is_kept nt bytes k e = subst (λ r. IsTextKept nt r (lines_of bytes)) e (text_given nt bytes).kept_is
 
 -- the same of a reader
-pub reader_keeps : (nt : Notation) → (r : LineReader) (bytes : List ℕ) → text_run nt (Ok kept_start) bytes ≡ keeping (kept r) → Keeps nt r bytes
+pub reader_keeps : (nt : Notation) → (r : LineReader) (bytes : List ℕ) → text_run nt (Ok kept_start) bytes ≡ Ok (kept r) → Keeps nt r bytes
 reader_keeps nt r bytes e = is_kept nt bytes (kept r) e
 
 -- before the first byte

@@ -9,17 +9,18 @@ use Rattle.triplets.specs.declared.heading.HeadingPlace.{HeadingPlace}
 use Rattle.triplets.specs.Marks.{mark}
 use Rattle.triplets.specs.Grammar.{Blank, space, tab, carriage_return, blank_byte, blanks_text}
 use Rattle.triplets.specs.Lines.{empty, IsLine}
-use Rattle.triplets.specs.LineReading.{line_start, line_step, line_run}
+use Rattle.triplets.specs.LineReading.{line_start, line_step, line_run, line_byte}
 use Rattle.triplets.specs.Headings.{IsHeading}
 use Rattle.triplets.specs.HeadingReading.{heading_step, is_whole}
 use Rattle.triplets.specs.Places.{IsPrefixIn}
-use Rattle.triplets.specs.LineFaults.{IsGoodLine, IsGoodFirstLine, IsPrefixOfGoodLine, IsFaultIn, IsLineFault}
+use Rattle.triplets.specs.LineFaults.{IsGoodLine, IsGoodFirstLine, IsPrefixOfGoodLine, IsFaultIn, IsLineFault, HasLineKind}
 use Rattle.triplets.specs.Texts.{nothing_listed}
-use Rattle.triplets.proofs.LineBegun.{line_going, line_stopped}
 use Rattle.triplets.proofs.LineKinds.{line_kind}
-use Rattle.triplets.proofs.LinePlaces.{fault_from, end_from, line_more, no_line_prefix, shorter}
-use Rattle.triplets.proofs.Headings.{heading_stopped, IsBegun, begun_prefix, no_heading, no_whole_heading, other_beginning}
+use Rattle.triplets.proofs.LinePlaces.{no_line_prefix}
+use Rattle.triplets.proofs.Headings.{IsBegun, begun_prefix, no_heading, no_whole_heading, other_beginning}
 use Rattle.triplets.proofs.HeadingKinds.{heading_kind}
+use Rattle.triplets.proofs.Runs.{going, stopped, run_more}
+use Rattle.triplets.proofs.Places.{end_from, fault_from, shorter, itself}
 
 -- no line of either kind begins so
 neither : (nt : Notation) → (bytes : List ℕ) → (IsPrefixOfGoodLine nt bytes → ⊥) → (IsPrefixIn IsHeading bytes → ⊥) → IsPrefixIn (IsGoodFirstLine nt) bytes → ⊥
@@ -30,7 +31,7 @@ neither nt bytes f g h = elim h.1 [ inl x ↦ f (h.0, x) | inr x ↦ g (h.0, x) 
 pub blanks_line : (nt : Notation) → (bs : List Blank) → IsLine nt (blanks_text bs ++ []) nothing_listed
 blanks_line nt bs = record { form = empty bs; comment = None; text = refl; value = refl }
 
-pub blanks_read : (nt : Notation) → (bs : List Blank) → line_run nt (Ok line_start) (blanks_text bs) ≡ line_going line_start
+pub blanks_read : (nt : Notation) → (bs : List Blank) → line_run nt (Ok line_start) (blanks_text bs) ≡ going line_start
 blanks_read nt [] = refl
 blanks_read nt (space ∷ bs) = blanks_read nt bs
 blanks_read nt (tab ∷ bs) = blanks_read nt bs
@@ -40,16 +41,16 @@ pub blanks_prefix : (nt : Notation) → (bs : List Blank) → IsPrefixIn (IsGood
 blanks_prefix nt bs = ([], inl (nothing_listed, blanks_line nt bs))
 
 -- a byte that begins neither a line of the grammar nor the word
-pub beginning_fault : (nt : Notation) → (bs : List Blank) (b : ℕ) (rest : List ℕ) (k : TextKind) → b ≢ 103 → ((c : Blank) → b ≢ blank_byte c) → line_step nt (mark nt b) line_start ≡ line_stopped k →
+pub beginning_fault : (nt : Notation) → (bs : List Blank) (b : ℕ) (rest : List ℕ) (k : TextKind) → b ≢ 103 → ((c : Blank) → b ≢ blank_byte c) → line_step nt (mark nt b) line_start ≡ stopped k →
     IsFaultIn nt (IsGoodFirstLine nt) (blanks_text bs ++ b ∷ rest) (length (blanks_text bs)) k
 beginning_fault nt bs b rest k n m e =
-    fault_from nt (IsGoodFirstLine nt) (blanks_text bs) rest b k (blanks_prefix nt bs)
-    (neither nt (blanks_text bs ++ b ∷ []) (no_line_prefix nt (blanks_text bs ++ b ∷ []) k (line_more nt (blanks_text bs) b line_start (line_stopped k) (blanks_read nt bs) e)) (other_beginning bs b n m))
+    fault_from (HasLineKind nt) (IsGoodFirstLine nt) (blanks_text bs) rest b k (blanks_prefix nt bs)
+    (neither nt (blanks_text bs ++ b ∷ []) (no_line_prefix nt (blanks_text bs ++ b ∷ []) k (run_more (line_byte nt) (Ok line_start) (blanks_text bs) b line_start (stopped k) (blanks_read nt bs) e)) (other_beginning bs b n m))
     (line_kind nt (blanks_text bs) b line_start k (blanks_read nt bs) e)
 
 -- ---- the word
 
-g_stops : (nt : Notation) → (bs : List Blank) → line_run nt (Ok line_start) (blanks_text bs ++ 103 ∷ []) ≡ line_stopped kinds.UnknownSign
+g_stops : (nt : Notation) → (bs : List Blank) → line_run nt (Ok line_start) (blanks_text bs ++ 103 ∷ []) ≡ stopped kinds.UnknownSign
 g_stops nt [] = refl
 g_stops nt (space ∷ bs) = g_stops nt bs
 g_stops nt (tab ∷ bs) = g_stops nt bs
@@ -64,10 +65,10 @@ pub word_prefix : (nt : Notation) → (bs : List Blank) (p : HeadingPlace) (hs :
 word_prefix nt bs p hs g = let h = begun_prefix bs p hs g in (h.0, inr h.1)
 
 -- a byte that the heading does not go on with
-pub word_fault : (nt : Notation) → (bs : List Blank) (p : HeadingPlace) (hs : List ℕ) (b : ℕ) (rest : List ℕ) (k : TextKind) → IsBegun p hs → heading_step nt b p ≡ heading_stopped k →
+pub word_fault : (nt : Notation) → (bs : List Blank) (p : HeadingPlace) (hs : List ℕ) (b : ℕ) (rest : List ℕ) (k : TextKind) → IsBegun p hs → heading_step nt b p ≡ stopped k →
     IsFaultIn nt (IsGoodFirstLine nt) ((blanks_text bs ++ (103 ∷ hs)) ++ b ∷ rest) (length (blanks_text bs ++ (103 ∷ hs))) k
 word_fault nt bs p hs b rest k g e =
-    fault_from nt (IsGoodFirstLine nt) (blanks_text bs ++ (103 ∷ hs)) rest b k (word_prefix nt bs p hs g)
+    fault_from (HasLineKind nt) (IsGoodFirstLine nt) (blanks_text bs ++ (103 ∷ hs)) rest b k (word_prefix nt bs p hs g)
     (subst (λ (x : List ℕ). IsPrefixIn (IsGoodFirstLine nt) x → ⊥) (sym (append_assoc (blanks_text bs) (103 ∷ hs) (b ∷ [])))
     (neither nt (blanks_text bs ++ (103 ∷ (hs ++ b ∷ []))) (no_line nt bs (hs ++ b ∷ [])) (no_heading nt bs p hs b k g e)))
     (heading_kind nt bs p hs b k g e)
@@ -78,7 +79,7 @@ pub short_word_fault : (nt : Notation) → (bs : List Blank) (p : HeadingPlace) 
 short_word_fault nt bs p hs g e =
     let before : List ℕ = blanks_text bs ++ (103 ∷ hs) in
     subst (λ (x : List ℕ). IsFaultIn nt (IsGoodFirstLine nt) x (length before) kinds.MissingPart) (sym (append-nil before))
-    (end_from nt (IsGoodFirstLine nt) before (λ h. elim h [ inl x ↦ no_line nt bs hs ([], subst (IsGoodLine nt) (sym (append-nil before)) x) | inr x ↦ no_whole_heading nt bs p hs g e x ]) (word_prefix nt bs p hs g))
+    (end_from (HasLineKind nt) (IsGoodFirstLine nt) before (λ h. elim h [ inl x ↦ no_line nt bs hs ([], subst (IsGoodLine nt) (sym (append-nil before)) x) | inr x ↦ no_whole_heading nt bs p hs g e x ]) (word_prefix nt bs p hs g))
 
 -- ---- a line of the grammar
 
@@ -88,7 +89,7 @@ pub record IsApart (nt : Notation) (l : List ℕ) (m : ℕ) : Type 0 where
   pub heading : IsPrefixIn IsHeading (take m l) → ⊥
 
 pub no_whole : (nt : Notation) → (l : List ℕ) (m : ℕ) → IsApart nt l m → IsHeading l → ⊥
-no_whole nt l m a h = a.heading (shorter IsHeading l m ([], subst IsHeading (sym (append-nil l)) h))
+no_whole nt l m a h = a.heading (shorter IsHeading l m (itself IsHeading l h))
 
 -- a fault stands behind these bytes, and no heading goes on so
 not_so_far : (Good : List ℕ → Type 0) (l : List ℕ) (m n : ℕ) → IsPrefixIn Good (take m l) → (IsPrefixIn IsHeading (take m l) → ⊥) → (IsPrefixIn Good (take n l) → ⊥) → IsPrefixIn IsHeading (take n l) → ⊥

@@ -20,17 +20,15 @@ use Rattle.triplets.specs.Grammar.{Blank, space, tab, carriage_return, blank_byt
 use Rattle.triplets.specs.Lines.{IsLine}
 use Rattle.triplets.specs.Headings.{IsHeading}
 use Rattle.triplets.specs.Places.{IsPrefixIn}
-use Rattle.triplets.specs.LineReading.{line_start, line_run, start_step, at_place}
+use Rattle.triplets.specs.LineReading.{line_start, line_run, start_step, at_place, line_byte}
 use Rattle.triplets.specs.HeadingReading.{heading_step, is_whole, in_heading, in_line, begin_line, from_beginning}
 use Rattle.triplets.specs.LineFaults.{IsGoodLine, IsGoodFirstLine, IsFaultIn}
 use Rattle.triplets.specs.Texts.{with_front, lines_of, nothing_listed, AreTextLines, IsFirstBad, IsFirstShown, Fault}
 use Rattle.triplets.specs.BegunLines.{AreBegunVectors}
 use Rattle.triplets.specs.KeptTexts.{AreKept}
-use Rattle.triplets.specs.TextReading.{Said, Kept, kept_start, moved, new_line, ended, fault_here, text_run, outcome}
-use Rattle.triplets.proofs.TextRuns.{faulty, run_faulty}
-use Rattle.triplets.proofs.LineBegun.{line_going, state_of}
+use Rattle.triplets.specs.TextReading.{Said, Kept, kept_start, moved, new_line, ended, fault_here, text_run, outcome, byte_step}
+use Rattle.triplets.proofs.LineBegun.{state_of}
 use Rattle.triplets.proofs.LineEnds.{is_line_prefix}
-use Rattle.triplets.proofs.LinePlaces.{line_more, take_front}
 use Rattle.triplets.proofs.Partials.{blanks_more}
 use Rattle.triplets.proofs.Bytes.{IsMark, mark_is}
 use Rattle.triplets.proofs.Headings.{IsBegun, begun_more, whole_heading, other_beginning, no_vector}
@@ -39,6 +37,8 @@ use Rattle.triplets.proofs.TextEnds.{IsOutcome, InLine, outcome_all, front_nil, 
 use Rattle.triplets.proofs.BegunRows.{begun_row}
 use Rattle.triplets.proofs.KeptLines.{KeptAfter, IsKeptSoFar, kept_all}
 use Rattle.triplets.proofs.TextShown.{IsShownSoFar, shown_all, shown_more, not_last, some_line}
+use Rattle.triplets.proofs.Runs.{going, run_stopped, run_more}
+use Rattle.triplets.proofs.Places.{take_front}
 
 abbrev nothing_said : Bool → Said
 nothing_said g = record { generated = g; listing = nothing_listed }
@@ -127,11 +127,11 @@ behind_heading nt l bs h = record {
 
 -- ---- a fault in line 1
 
-first_fault : (nt : Notation) → (f : Fault) (xs l : List ℕ) (ls : List (List ℕ)) (n : ℕ) → f.line ≡ 1 → f.column ≡ n + 1 → IsFaultIn nt (IsGoodFirstLine nt) l n f.kind → (n < length l) ⊎ (ls ≢ []) → IsGiven nt (text_run nt (faulty f) xs) (l ∷ ls)
-first_fault nt f xs l ls n e c h s = subst (λ r. IsGiven nt r (l ∷ ls)) (sym (run_faulty nt f xs)) (record { outcome_is = (0, n, e, c, h); shown_is = (0, n, e, c, (h, s)); kept_is = tt })
+first_fault : (nt : Notation) → (f : Fault) (xs l : List ℕ) (ls : List (List ℕ)) (n : ℕ) → f.line ≡ 1 → f.column ≡ n + 1 → IsFaultIn nt (IsGoodFirstLine nt) l n f.kind → (n < length l) ⊎ (ls ≢ []) → IsGiven nt (text_run nt (Err f) xs) (l ∷ ls)
+first_fault nt f xs l ls n e c h s = subst (λ r. IsGiven nt r (l ∷ ls)) (sym (run_stopped (byte_step nt) f xs)) (record { outcome_is = (0, n, e, c, h); shown_is = (0, n, e, c, (h, s)); kept_is = tt })
 
 byte_given : (nt : Notation) → (ls : List (List ℕ)) (f : Fault) (xs before : List ℕ) (b : ℕ) → f.line ≡ 1 → f.column ≡ length before + 1 → ((rest : List ℕ) → IsFaultIn nt (IsGoodFirstLine nt) (before ++ b ∷ rest) (length before) f.kind) →
-    IsGiven nt (text_run nt (faulty f) xs) (with_front before (with_front (b ∷ []) ls))
+    IsGiven nt (text_run nt (Err f) xs) (with_front before (with_front (b ∷ []) ls))
 byte_given nt [] f xs before b e c h = first_fault nt f xs (before ++ b ∷ []) [] (length before) e c (h []) (inl (omega (arith, length-append before (b ∷ []))))
 byte_given nt (l ∷ ls) f xs before b e c h = first_fault nt f xs (before ++ b ∷ l) ls (length before) e c (h l) (inl (omega (arith, length-append before (b ∷ l))))
 
@@ -195,7 +195,7 @@ apart_given nt (l ∷ ls) r before g n h = first_given nt r (before ++ l) ls (le
 abbrev first_kept : ℕ → TextPlace → Kept
 first_kept column p = record { said = nothing_said false; line = 1; column = column; place = p }
 
-line_given : (nt : Notation) → (bs : List ℕ) (p : LinePlace) (c : ℕ) (before : List ℕ) → c ≡ length before + 1 → line_run nt (Ok line_start) before ≡ line_going (state_of p []) → (IsPrefixIn IsHeading before → ⊥) →
+line_given : (nt : Notation) → (bs : List ℕ) (p : LinePlace) (c : ℕ) (before : List ℕ) → c ≡ length before + 1 → line_run nt (Ok line_start) before ≡ going (state_of p []) → (IsPrefixIn IsHeading before → ⊥) →
     IsGiven nt (text_run nt (Ok (first_kept c (texts.Line p))) bs) (with_front before (lines_of bs))
 line_given nt bs p c before e w n =
     let k = first_kept c (texts.Line p) in
@@ -292,7 +292,7 @@ begin_other nt (Err kind) m b bs ks c i n g e w =
 begin_other nt (Ok p) m b bs ks c i n g e w =
     subst (λ ls. IsGiven nt (text_run nt (Ok (first_kept (c + 1) (texts.Line p))) bs) ls) (front_front (blanks_text ks) (b ∷ []) (lines_of bs))
     (line_given nt bs p (c + 1) (blanks_text ks ++ b ∷ []) (omega (arith, e, length-append (blanks_text ks) (b ∷ [])))
-    (line_more nt (blanks_text ks) b line_start (line_going (state_of p [])) (blanks_read nt ks) (ap (λ (x : Result LinePlace TextKind). at_place x []) (ap (start_step nt) i ∙ w)))
+    (run_more (line_byte nt) (Ok line_start) (blanks_text ks) b line_start (going (state_of p [])) (blanks_read nt ks) (ap (λ (x : Result LinePlace TextKind). at_place x []) (ap (start_step nt) i ∙ w)))
     (other_beginning ks b g (no_blank nt b m i n)))
 
 begin_by : (nt : Notation) → (m : Mark) (b : ℕ) (bs : List ℕ) (ks : List Blank) (c : ℕ) → BeginningAfter nt bs → mark nt b ≡ m → IsMark nt b m → b ≢ 103 → c ≡ length (blanks_text ks) + 1 →

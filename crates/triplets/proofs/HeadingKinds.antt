@@ -15,7 +15,8 @@ use Rattle.triplets.specs.LineFaults.{line_stands, is_end_of_part, HasLineKind}
 use Rattle.triplets.proofs.Bytes.{mark_is}
 use Rattle.triplets.proofs.LineSeen.{LineSeen, line_seen, line_seen_step, line_seen_start, Between, between_blank}
 use Rattle.triplets.proofs.LineKinds.{Fresh, between_kind, line_uses}
-use Rattle.triplets.proofs.Headings.{heading_stopped, IsBegun, stopped_by}
+use Rattle.triplets.proofs.Headings.{IsBegun, stopped_by}
+use Rattle.triplets.proofs.Runs.{stopped}
 
 -- nothing but blanks was seen
 record IsBare (f : LineSeen) : Type 0 where
@@ -77,7 +78,7 @@ seen_blanks : (bs : List Blank) (p : HeadingPlace) (f : LineSeen) (hs : List ℕ
 seen_blanks [] p f hs h g n = seen_word p f hs h g n
 seen_blanks (b ∷ bs) p f hs h g n = seen_blanks bs p (line_seen_step f (blank_byte b)) hs (bare_blank f b h) g n
 
-no_comment : (nt : Notation) → (p : HeadingPlace) (b : ℕ) (k : TextKind) → heading_step nt b p ≡ heading_stopped k → IsCommented p → ⊥
+no_comment : (nt : Notation) → (p : HeadingPlace) (b : ℕ) (k : TextKind) → heading_step nt b p ≡ stopped k → IsCommented p → ⊥
 no_comment nt words.Comment b k e h = absurd cc
 no_comment nt p b k e h = h
 
@@ -95,7 +96,7 @@ other_kind nt bs p hs b g n m =
     between_kind nt (mark nt b) f (λ a. line_stands a false before) b kinds.UnknownSign refl (mark_is nt b) w.between w.no_end (not_fresh f.mark f.commas w.letter) (line_uses before) m refl
 
 -- a comment comes too early, or the byte is none that may stand there
-pub heading_kind : (nt : Notation) → (bs : List Blank) (p : HeadingPlace) (hs : List ℕ) (b : ℕ) (k : TextKind) → IsBegun p hs → heading_step nt b p ≡ heading_stopped k → HasLineKind nt (blanks_text bs ++ (103 ∷ hs)) b k
+pub heading_kind : (nt : Notation) → (bs : List Blank) (p : HeadingPlace) (hs : List ℕ) (b : ℕ) (k : TextKind) → IsBegun p hs → heading_step nt b p ≡ stopped k → HasLineKind nt (blanks_text bs ++ (103 ∷ hs)) b k
 heading_kind nt bs p hs b k g e =
     elim (stopped_by nt p b k e) [
       | inl x ↦ inl x

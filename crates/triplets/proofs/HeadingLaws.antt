@@ -16,18 +16,15 @@ use Rattle.triplets.specs.HeadingReading.{heading_step}
 use Rattle.triplets.specs.LineFaults.{HasLineKind}
 use Rattle.triplets.proofs.Bytes.{IsMark, mark_is}
 use Rattle.triplets.proofs.OneFault.{one_line_kind}
-use Rattle.triplets.proofs.Headings.{heading_going, heading_stopped, heading_run, heading_run-append, run_heading_stopped, comment_run, other_letters, IsBegun, begun_more}
+use Rattle.triplets.proofs.Headings.{heading_run, comment_run, other_letters, IsBegun, begun_more}
 use Rattle.triplets.proofs.HeadingKinds.{IsCommented, other_kind}
+use Rattle.triplets.proofs.Runs.{going, stopped, run-append, run_stopped, carries, no_run}
 
 -- what is read from a place on
-begun_by : (nt : Notation) → (r : Result HeadingPlace TextKind) (b : ℕ) (xs hs : List ℕ) (p q : HeadingPlace) → ((x : HeadingPlace) (ys : List ℕ) → IsBegun x ys → heading_run nt (Ok x) xs ≡ heading_going q → IsBegun q (ys ++ xs)) → IsBegun p hs →
-    heading_step nt b p ≡ r → heading_run nt r xs ≡ heading_going q → IsBegun q (hs ++ (b ∷ xs))
-begun_by nt (Err k) b xs hs p q further g h w = absurd (let z : heading_stopped k ≡ heading_going q = sym (run_heading_stopped nt k xs) ∙ w in cc)
-begun_by nt (Ok x) b xs hs p q further g h w = subst (IsBegun q) (append_assoc hs (b ∷ []) xs) (further x (hs ++ b ∷ []) (begun_more nt p x hs b g h) w)
-
-begun_on : (nt : Notation) → (xs hs : List ℕ) (p q : HeadingPlace) → IsBegun p hs → heading_run nt (Ok p) xs ≡ heading_going q → IsBegun q (hs ++ xs)
-begun_on nt [] hs p q g w = subst (IsBegun q) (sym (append-nil hs)) (subst (λ x. IsBegun x hs) (let z : p ≡ q = cc in z) g)
-begun_on nt (b ∷ xs) hs p q g w = begun_by nt (heading_step nt b p) b xs hs p q (λ x ys i v. begun_on nt xs ys x q i v) g refl w
+begun_on : (nt : Notation) → (xs hs : List ℕ) (p q : HeadingPlace) → IsBegun p hs → heading_run nt (Ok p) xs ≡ going q → IsBegun q (hs ++ xs)
+begun_on nt xs hs p q g w =
+    let x = carries (heading_step nt) (λ r ys. (ks : List ℕ) × IsBegun r ks × (hs ++ xs ≡ ks ++ ys)) (λ b ys r s h e. (h.0 ++ b ∷ [], begun_more nt r s h.0 b h.1 e, h.2 ∙ sym (append_assoc h.0 (b ∷ []) ys))) xs p q (hs, g, refl) w in
+    subst (IsBegun q) (sym (x.2 ∙ append-nil x.0)) x.1
 
 -- letters of the word, and where the reader stands behind them
 record IsPartly (hs : List ℕ) : Type 0 where
@@ -35,16 +32,16 @@ record IsPartly (hs : List ℕ) : Type 0 where
   begun : IsBegun place hs
   no_comment : IsCommented place → ⊥
 
-commented : (nt : Notation) → (p : HeadingPlace) (xs : List ℕ) → heading_run nt (heading_going p) xs ≡ heading_going words.Generators → IsCommented p → ⊥
-commented nt words.Comment xs w h = let z : heading_going words.Comment ≡ heading_going words.Generators = sym (comment_run nt xs) ∙ w in cc
+commented : (nt : Notation) → (p : HeadingPlace) (xs : List ℕ) → heading_run nt (going p) xs ≡ going words.Generators → IsCommented p → ⊥
+commented nt words.Comment xs w h = let z : going words.Comment ≡ going words.Generators = sym (comment_run nt xs) ∙ w in cc
 commented nt p xs w h = h
 
-partly_by : (nt : Notation) → (r : Result HeadingPlace TextKind) (hs more : List ℕ) → heading_run nt (heading_going words.G) hs ≡ r → heading_run nt r more ≡ heading_going words.Generators → IsPartly hs
-partly_by nt (Err k) hs more h w = absurd (let z : heading_stopped k ≡ heading_going words.Generators = sym (run_heading_stopped nt k more) ∙ w in cc)
+partly_by : (nt : Notation) → (r : Result HeadingPlace TextKind) (hs more : List ℕ) → heading_run nt (going words.G) hs ≡ r → heading_run nt r more ≡ going words.Generators → IsPartly hs
+partly_by nt (Err k) hs more h w = no_run (heading_step nt) k more words.Generators w
 partly_by nt (Ok p) hs more h w = record { place = p; begun = begun_on nt hs [] words.G p refl h; no_comment = commented nt p more w }
 
 partly : (nt : Notation) → (hs more : List ℕ) → hs ++ more ≡ other_letters → IsPartly hs
-partly nt hs more e = partly_by nt (heading_run nt (heading_going words.G) hs) hs more refl (sym (heading_run-append nt (heading_going words.G) hs more) ∙ ap (heading_run nt (heading_going words.G)) e)
+partly nt hs more e = partly_by nt (heading_run nt (going words.G) hs) hs more refl (sym (run-append (heading_step nt) (going words.G) hs more) ∙ ap (heading_run nt (going words.G)) e)
 
 hash_is : (nt : Notation) → (b : ℕ) → mark nt b ≡ marks.Hash → b ≡ 35
 hash_is nt b e = subst (IsMark nt b) e (mark_is nt b)

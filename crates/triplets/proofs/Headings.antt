@@ -20,29 +20,13 @@ use Rattle.triplets.specs.Places.{IsPrefixIn}
 use Rattle.triplets.specs.HeadingReading.{letter_step, behind_word, heading_step, is_whole}
 use Rattle.triplets.proofs.Bytes.{IsMark, mark_is}
 use Rattle.triplets.proofs.Partials.{blanks_more}
-
-abbrev pub heading_going : HeadingPlace → Result HeadingPlace TextKind
-heading_going p = Ok p
-
-abbrev pub heading_stopped : TextKind → Result HeadingPlace TextKind
-heading_stopped k = Err k
-
-abbrev pub heading_advance : (nt : Notation) → Result HeadingPlace TextKind → ℕ → Result HeadingPlace TextKind
-heading_advance nt (Err k) b = Err k
-heading_advance nt (Ok p) b = heading_step nt b p
+use Rattle.triplets.proofs.Runs.{going, stopped, going_is, stopped_is, not_going, run-append, run_stopped, run_more}
+use Rattle.triplets.specs.Runs.{advanced, run_by}
+use Rattle.triplets.proofs.Places.{itself, none_begins}
 
 -- the bytes behind the first letter one by one
 abbrev pub heading_run : (nt : Notation) → Result HeadingPlace TextKind → List ℕ → Result HeadingPlace TextKind
-heading_run nt r [] = r
-heading_run nt r (b ∷ bs) = heading_run nt (heading_advance nt r b) bs
-
-pub heading_run-append : (nt : Notation) → (r : Result HeadingPlace TextKind) (xs ys : List ℕ) → heading_run nt r (xs ++ ys) ≡ heading_run nt (heading_run nt r xs) ys
-heading_run-append nt r [] ys = refl
-heading_run-append nt r (x ∷ xs) ys = heading_run-append nt (heading_advance nt r x) xs ys
-
-pub run_heading_stopped : (nt : Notation) → (k : TextKind) (xs : List ℕ) → heading_run nt (heading_stopped k) xs ≡ heading_stopped k
-run_heading_stopped nt k [] = refl
-run_heading_stopped nt k (x ∷ xs) = run_heading_stopped nt k xs
+heading_run nt = run_by (heading_step nt)
 
 -- the word behind its first letter
 abbrev pub other_letters : List ℕ
@@ -64,7 +48,7 @@ IsBegun words.Generator hs = hs ≡ codes "enerator"
 IsBegun words.Generators hs = (ks : List Blank) × (hs ≡ other_letters ++ blanks_text ks)
 IsBegun words.Comment hs = (ks : List Blank) × (cs : List ℕ) × (hs ≡ other_letters ++ (blanks_text ks ++ 35 ∷ cs))
 
-letter_by : (t u : Bool) (next q : HeadingPlace) → cond t (heading_going next) (cond u (heading_stopped kinds.MissingPart) (heading_stopped kinds.UnknownSign)) ≡ heading_going q → (t ≡ true) × (q ≡ next)
+letter_by : (t u : Bool) (next q : HeadingPlace) → cond t (going next) (cond u (stopped kinds.MissingPart) (stopped kinds.UnknownSign)) ≡ going q → (t ≡ true) × (q ≡ next)
 letter_by true u next q e = (refl, let z : q ≡ next = cc in z)
 letter_by false true next q e = absurd cc
 letter_by false false next q e = absurd cc
@@ -76,26 +60,20 @@ longer : (hs xs : List ℕ) (b n : ℕ) → hs ≡ xs → b ≡ n → hs ++ b �
 longer hs xs b n e f = ap (λ (x : List ℕ). x ++ b ∷ []) e ∙ ap (λ c. xs ++ c ∷ []) f
 
 -- the letter that comes was read
-letter_more : (xs hs : List ℕ) (n b : ℕ) (next q : HeadingPlace) → (hs ++ b ∷ [] ≡ xs ++ n ∷ [] → IsBegun next (hs ++ b ∷ [])) → hs ≡ xs → letter_step n next b ≡ heading_going q → IsBegun q (hs ++ b ∷ [])
+letter_more : (xs hs : List ℕ) (n b : ℕ) (next q : HeadingPlace) → (hs ++ b ∷ [] ≡ xs ++ n ∷ [] → IsBegun next (hs ++ b ∷ [])) → hs ≡ xs → letter_step n next b ≡ going q → IsBegun q (hs ++ b ∷ [])
 letter_more xs hs n b next q f g h =
     let e = letter_by (b == n) (b == 35) next q h in
     subst (λ x. IsBegun x (hs ++ b ∷ [])) (sym e.1) (f (longer hs xs b n g (is_equal b n e.0)))
 
-place_is : (p q : HeadingPlace) → heading_going p ≡ heading_going q → p ≡ q
-place_is p q e = cc
-
-no_place : (k : TextKind) (q : HeadingPlace) {A : Type 0} → heading_stopped k ≡ heading_going q → A
-no_place k q e = absurd cc
-
-behind_more : (nt : Notation) → (m : Mark) (hs : List ℕ) (b : ℕ) (q : HeadingPlace) → IsMark nt b m → IsBegun words.Generators hs → behind_word m ≡ heading_going q → IsBegun q (hs ++ b ∷ [])
+behind_more : (nt : Notation) → (m : Mark) (hs : List ℕ) (b : ℕ) (q : HeadingPlace) → IsMark nt b m → IsBegun words.Generators hs → behind_word m ≡ going q → IsBegun q (hs ++ b ∷ [])
 behind_more nt marks.Blank hs b q i g h =
-    subst (λ x. IsBegun x (hs ++ b ∷ [])) (place_is words.Generators q h)
+    subst (λ x. IsBegun x (hs ++ b ∷ [])) (sym (going_is words.Generators q h))
     (g.0 ++ i.0 ∷ [], longer hs (other_letters ++ blanks_text g.0) b (blank_byte i.0) g.1 i.1 ∙ ap (λ (x : List ℕ). other_letters ++ x) (blanks_more g.0 i.0))
-behind_more nt marks.Hash hs b q i g h = subst (λ x. IsBegun x (hs ++ b ∷ [])) (place_is words.Comment q h) (g.0, [], longer hs (other_letters ++ blanks_text g.0) b 35 g.1 i)
-behind_more nt m hs b q i g h = no_place _ q h
+behind_more nt marks.Hash hs b q i g h = subst (λ x. IsBegun x (hs ++ b ∷ [])) (sym (going_is words.Comment q h)) (g.0, [], longer hs (other_letters ++ blanks_text g.0) b 35 g.1 i)
+behind_more nt m hs b q i g h = not_going _ q h
 
 -- one more byte
-pub begun_more : (nt : Notation) → (p q : HeadingPlace) (hs : List ℕ) (b : ℕ) → IsBegun p hs → heading_step nt b p ≡ heading_going q → IsBegun q (hs ++ b ∷ [])
+pub begun_more : (nt : Notation) → (p q : HeadingPlace) (hs : List ℕ) (b : ℕ) → IsBegun p hs → heading_step nt b p ≡ going q → IsBegun q (hs ++ b ∷ [])
 begun_more nt words.G q hs b g h = letter_more [] hs 101 b words.Ge q (λ e. e) g h
 begun_more nt words.Ge q hs b g h = letter_more (codes "e") hs 110 b words.Gen q (λ e. e) g h
 begun_more nt words.Gen q hs b g h = letter_more (codes "en") hs 101 b words.Gene q (λ e. e) g h
@@ -107,7 +85,7 @@ begun_more nt words.Generato q hs b g h = letter_more (codes "enerato") hs 114 b
 begun_more nt words.Generator q hs b g h = letter_more (codes "enerator") hs 115 b words.Generators q (λ e. ([], e)) g h
 begun_more nt words.Generators q hs b g h = behind_more nt (mark nt b) hs b q (mark_is nt b) g h
 begun_more nt words.Comment q hs b g h =
-    subst (λ x. IsBegun x (hs ++ b ∷ [])) (place_is words.Comment q h) (
+    subst (λ x. IsBegun x (hs ++ b ∷ [])) (sym (going_is words.Comment q h)) (
       g.0,
       g.1 ++ b ∷ [],
       longer hs (other_letters ++ (blanks_text g.0 ++ 35 ∷ g.1)) b b g.2 refl ∙ ap (λ (x : List ℕ). other_letters ++ x) (append_assoc (blanks_text g.0) (35 ∷ g.1) (b ∷ [])),
@@ -135,9 +113,6 @@ whole_heading bs words.Generators hs g e =
 whole_heading bs words.Comment hs g e = record { before = bs; behind = g.0; comment = Some g.1; text = ap (λ (x : List ℕ). blanks_text bs ++ (103 ∷ x)) g.2 }
 whole_heading bs p hs g e = absurd cc
 
-itself : (bytes : List ℕ) → IsHeading bytes → IsPrefixIn IsHeading bytes
-itself bytes h = ([], subst IsHeading (sym (append-nil bytes)) h)
-
 pub begun_prefix : (bs : List Blank) (p : HeadingPlace) (hs : List ℕ) → IsBegun p hs → IsPrefixIn IsHeading (blanks_text bs ++ (103 ∷ hs))
 begun_prefix bs words.G hs g = letters_prefix bs [] hs (codes "enerators") refl g
 begun_prefix bs words.Ge hs g = letters_prefix bs (codes "e") hs (codes "nerators") refl g
@@ -148,31 +123,31 @@ begun_prefix bs words.Genera hs g = letters_prefix bs (codes "enera") hs (codes 
 begun_prefix bs words.Generat hs g = letters_prefix bs (codes "enerat") hs (codes "ors") refl g
 begun_prefix bs words.Generato hs g = letters_prefix bs (codes "enerato") hs (codes "rs") refl g
 begun_prefix bs words.Generator hs g = letters_prefix bs (codes "enerator") hs (codes "s") refl g
-begun_prefix bs words.Generators hs g = itself (blanks_text bs ++ (103 ∷ hs)) (whole_heading bs words.Generators hs g refl)
-begun_prefix bs words.Comment hs g = itself (blanks_text bs ++ (103 ∷ hs)) (whole_heading bs words.Comment hs g refl)
+begun_prefix bs words.Generators hs g = itself IsHeading (blanks_text bs ++ (103 ∷ hs)) (whole_heading bs words.Generators hs g refl)
+begun_prefix bs words.Comment hs g = itself IsHeading (blanks_text bs ++ (103 ∷ hs)) (whole_heading bs words.Comment hs g refl)
 
 -- ---- a heading is read
 
-blanks_run : (nt : Notation) → (ks : List Blank) (xs : List ℕ) → heading_run nt (heading_going words.Generators) (blanks_text ks ++ xs) ≡ heading_run nt (heading_going words.Generators) xs
+blanks_run : (nt : Notation) → (ks : List Blank) (xs : List ℕ) → heading_run nt (going words.Generators) (blanks_text ks ++ xs) ≡ heading_run nt (going words.Generators) xs
 blanks_run nt [] xs = refl
 blanks_run nt (space ∷ ks) xs = blanks_run nt ks xs
 blanks_run nt (tab ∷ ks) xs = blanks_run nt ks xs
 blanks_run nt (carriage_return ∷ ks) xs = blanks_run nt ks xs
 
-pub comment_run : (nt : Notation) → (cs : List ℕ) → heading_run nt (heading_going words.Comment) cs ≡ heading_going words.Comment
+pub comment_run : (nt : Notation) → (cs : List ℕ) → heading_run nt (going words.Comment) cs ≡ going words.Comment
 comment_run nt [] = refl
 comment_run nt (c ∷ cs) = comment_run nt cs
 
-begun_run : (nt : Notation) → (p : HeadingPlace) (hs : List ℕ) → IsBegun p hs → heading_run nt (heading_going words.G) hs ≡ heading_going p
-begun_run nt words.G hs g = ap (heading_run nt (heading_going words.G)) g
-begun_run nt words.Generators hs g = ap (heading_run nt (heading_going words.G)) (g.1 ∙ ap (λ (x : List ℕ). other_letters ++ x) (sym (append-nil (blanks_text g.0)))) ∙ blanks_run nt g.0 []
-begun_run nt words.Comment hs g = ap (heading_run nt (heading_going words.G)) g.2 ∙ (blanks_run nt g.0 (35 ∷ g.1) ∙ comment_run nt g.1)
-begun_run nt p hs g = ap (heading_run nt (heading_going words.G)) g
+begun_run : (nt : Notation) → (p : HeadingPlace) (hs : List ℕ) → IsBegun p hs → heading_run nt (going words.G) hs ≡ going p
+begun_run nt words.G hs g = ap (heading_run nt (going words.G)) g
+begun_run nt words.Generators hs g = ap (heading_run nt (going words.G)) (g.1 ∙ ap (λ (x : List ℕ). other_letters ++ x) (sym (append-nil (blanks_text g.0)))) ∙ blanks_run nt g.0 []
+begun_run nt words.Comment hs g = ap (heading_run nt (going words.G)) g.2 ∙ (blanks_run nt g.0 (35 ∷ g.1) ∙ comment_run nt g.1)
+begun_run nt p hs g = ap (heading_run nt (going words.G)) g
 
 -- the bytes behind the first letter are read to the end of the heading
 record IsRead (nt : Notation) (hs : List ℕ) : Type 0 where
   last : HeadingPlace
-  run_is : heading_run nt (heading_going words.G) hs ≡ heading_going last
+  run_is : heading_run nt (going words.G) hs ≡ going last
   whole : is_whole last ≡ true
 
 word_read : (nt : Notation) → (ks : List Blank) (c : Option (List ℕ)) → IsRead nt (other_letters ++ (blanks_text ks ++ comment_text c))
@@ -209,20 +184,17 @@ heading_read nt bs hs h = subst (IsRead nt) (sym (behind_g bs h.before hs (other
 -- ---- what is no heading
 
 -- where the reader stops none begins so
-pub no_heading : (nt : Notation) → (bs : List Blank) (p : HeadingPlace) (hs : List ℕ) (b : ℕ) (k : TextKind) → IsBegun p hs → heading_step nt b p ≡ heading_stopped k → IsPrefixIn IsHeading (blanks_text bs ++ (103 ∷ (hs ++ b ∷ []))) → ⊥
+pub no_heading : (nt : Notation) → (bs : List Blank) (p : HeadingPlace) (hs : List ℕ) (b : ℕ) (k : TextKind) → IsBegun p hs → heading_step nt b p ≡ stopped k → IsPrefixIn IsHeading (blanks_text bs ++ (103 ∷ (hs ++ b ∷ []))) → ⊥
 no_heading nt bs p hs b k g e h =
-    let r = heading_read nt bs ((hs ++ b ∷ []) ++ h.0) (subst IsHeading (append_assoc (blanks_text bs) (103 ∷ (hs ++ b ∷ [])) h.0) h.1) in
-    let s : heading_run nt (heading_going words.G) (hs ++ b ∷ []) ≡ heading_stopped k = heading_run-append nt (heading_going words.G) hs (b ∷ []) ∙ (ap (λ (x : Result HeadingPlace TextKind). heading_advance nt x b) (begun_run nt p hs g) ∙ e) in
-    let t : heading_run nt (heading_going words.G) ((hs ++ b ∷ []) ++ h.0) ≡ heading_stopped k =
-    heading_run-append nt (heading_going words.G) (hs ++ b ∷ []) h.0 ∙ (ap (λ (x : Result HeadingPlace TextKind). heading_run nt x h.0) s ∙ run_heading_stopped nt k h.0) in
-    let z : heading_going r.last ≡ heading_stopped k = sym r.run_is ∙ t in
-    cc
+    none_begins (heading_step nt) words.G (λ xs. IsHeading (blanks_text bs ++ (103 ∷ xs))) (λ xs i. let r = heading_read nt bs xs i in (r.last, r.run_is)) (hs ++ b ∷ []) k
+    (run_more (heading_step nt) (Ok words.G) hs b p (stopped k) (begun_run nt p hs g) e)
+    (h.0, subst IsHeading (append_assoc (blanks_text bs) (103 ∷ (hs ++ b ∷ [])) h.0) h.1)
 
 -- a word that ends too early
 pub no_whole_heading : (nt : Notation) → (bs : List Blank) (p : HeadingPlace) (hs : List ℕ) → IsBegun p hs → is_whole p ≡ false → IsHeading (blanks_text bs ++ (103 ∷ hs)) → ⊥
 no_whole_heading nt bs p hs g e h =
     let r = heading_read nt bs hs h in
-    let s : p ≡ r.last = place_is p r.last (sym (begun_run nt p hs g) ∙ r.run_is) in
+    let s : p ≡ r.last = going_is r.last p (sym r.run_is ∙ begun_run nt p hs g) in
     let z : true ≡ false = sym r.whole ∙ (ap is_whole (sym s) ∙ e) in
     cc
 
@@ -249,38 +221,35 @@ no_vector nt bs hs c rest e =
 -- ---- the faults of the reader
 
 -- a byte that the heading does not go on with: a comment too early, or any other
-pub stopped_by : (nt : Notation) → (p : HeadingPlace) (b : ℕ) (k : TextKind) → heading_step nt b p ≡ heading_stopped k → ((b ≡ 35) × (k ≡ kinds.MissingPart)) ⊎ ((mark nt b ≢ marks.Hash) × (k ≡ kinds.UnknownSign))
+pub stopped_by : (nt : Notation) → (p : HeadingPlace) (b : ℕ) (k : TextKind) → heading_step nt b p ≡ stopped k → ((b ≡ 35) × (k ≡ kinds.MissingPart)) ⊎ ((mark nt b ≢ marks.Hash) × (k ≡ kinds.UnknownSign))
 stopped_by nt p b k h = by_place p h
   where
-    kind_is : (j : TextKind) → heading_stopped j ≡ heading_stopped k → k ≡ j
-    kind_is j e = cc
-
     hash_is : mark nt b ≡ marks.Hash → b ≡ 35
     hash_is e = subst (IsMark nt b) e (mark_is nt b)
 
-    letter : (n : ℕ) (next : HeadingPlace) → letter_step n next b ≡ heading_stopped k → ((b ≡ 35) × (k ≡ kinds.MissingPart)) ⊎ ((mark nt b ≢ marks.Hash) × (k ≡ kinds.UnknownSign))
+    letter : (n : ℕ) (next : HeadingPlace) → letter_step n next b ≡ stopped k → ((b ≡ 35) × (k ≡ kinds.MissingPart)) ⊎ ((mark nt b ≢ marks.Hash) × (k ≡ kinds.UnknownSign))
     letter n next e = by (b == n) e
       where
-        by : (t : Bool) → cond t (heading_going next) (cond (b == 35) (heading_stopped kinds.MissingPart) (heading_stopped kinds.UnknownSign)) ≡ heading_stopped k → ((b ≡ 35) × (k ≡ kinds.MissingPart)) ⊎ ((mark nt b ≢ marks.Hash) × (k ≡ kinds.UnknownSign))
+        by : (t : Bool) → cond t (going next) (cond (b == 35) (stopped kinds.MissingPart) (stopped kinds.UnknownSign)) ≡ stopped k → ((b ≡ 35) × (k ≡ kinds.MissingPart)) ⊎ ((mark nt b ≢ marks.Hash) × (k ≡ kinds.UnknownSign))
         by true e = absurd cc
         by false e =
             elim (eqb_tells b 35) [
-              | inl x ↦ inl (x.1, kind_is kinds.MissingPart (sym (ap (λ t. cond t (heading_stopped kinds.MissingPart) (heading_stopped kinds.UnknownSign)) x.0) ∙ e))
+              | inl x ↦ inl (x.1, stopped_is kinds.MissingPart k (sym (ap (λ t. cond t (stopped kinds.MissingPart) (stopped kinds.UnknownSign)) x.0) ∙ e))
               | inr x ↦ inr (
                 (λ y. let z : (b == 35) ≡ true = ap (λ c. c == 35) (hash_is y) in let w : true ≡ false = sym z ∙ x.0 in cc),
-                kind_is kinds.UnknownSign (sym (ap (λ t. cond t (heading_stopped kinds.MissingPart) (heading_stopped kinds.UnknownSign)) x.0) ∙ e),
+                stopped_is kinds.UnknownSign k (sym (ap (λ t. cond t (stopped kinds.MissingPart) (stopped kinds.UnknownSign)) x.0) ∙ e),
               )
             ]
 
-    behind : (m : Mark) → mark nt b ≡ m → behind_word m ≡ heading_stopped k → ((b ≡ 35) × (k ≡ kinds.MissingPart)) ⊎ ((mark nt b ≢ marks.Hash) × (k ≡ kinds.UnknownSign))
+    behind : (m : Mark) → mark nt b ≡ m → behind_word m ≡ stopped k → ((b ≡ 35) × (k ≡ kinds.MissingPart)) ⊎ ((mark nt b ≢ marks.Hash) × (k ≡ kinds.UnknownSign))
     behind marks.Blank i e = absurd cc
     behind marks.Hash i e = absurd cc
-    behind (marks.Signs s) i e = inr ((λ y. let z : marks.Signs s ≡ marks.Hash = sym i ∙ y in cc), kind_is kinds.UnknownSign e)
-    behind (marks.Letter a) i e = inr ((λ y. let z : marks.Letter a ≡ marks.Hash = sym i ∙ y in cc), kind_is kinds.UnknownSign e)
-    behind (marks.Digit d) i e = inr ((λ y. let z : marks.Digit d ≡ marks.Hash = sym i ∙ y in cc), kind_is kinds.UnknownSign e)
-    behind m i e = inr ((λ y. let z : m ≡ marks.Hash = sym i ∙ y in cc), kind_is kinds.UnknownSign e)
+    behind (marks.Signs s) i e = inr ((λ y. let z : marks.Signs s ≡ marks.Hash = sym i ∙ y in cc), stopped_is kinds.UnknownSign k e)
+    behind (marks.Letter a) i e = inr ((λ y. let z : marks.Letter a ≡ marks.Hash = sym i ∙ y in cc), stopped_is kinds.UnknownSign k e)
+    behind (marks.Digit d) i e = inr ((λ y. let z : marks.Digit d ≡ marks.Hash = sym i ∙ y in cc), stopped_is kinds.UnknownSign k e)
+    behind m i e = inr ((λ y. let z : m ≡ marks.Hash = sym i ∙ y in cc), stopped_is kinds.UnknownSign k e)
 
-    by_place : (p : HeadingPlace) → heading_step nt b p ≡ heading_stopped k → ((b ≡ 35) × (k ≡ kinds.MissingPart)) ⊎ ((mark nt b ≢ marks.Hash) × (k ≡ kinds.UnknownSign))
+    by_place : (p : HeadingPlace) → heading_step nt b p ≡ stopped k → ((b ≡ 35) × (k ≡ kinds.MissingPart)) ⊎ ((mark nt b ≢ marks.Hash) × (k ≡ kinds.UnknownSign))
     by_place words.G e = letter 101 words.Ge e
     by_place words.Ge e = letter 110 words.Gen e
     by_place words.Gen e = letter 101 words.Gene e

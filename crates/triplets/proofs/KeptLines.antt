@@ -15,12 +15,12 @@ use Rattle.triplets.specs.Lines.{IsLine}
 use Rattle.triplets.specs.LineReading.{place_step, completed, with_vector, ending, operations_of}
 use Rattle.triplets.specs.HeadingReading.{in_line}
 use Rattle.triplets.specs.Texts.{with_front, lines_of, nothing_listed, listed_then, AreLines, Fault}
-use Rattle.triplets.specs.TextReading.{Said, Kept, moved, new_line, ended, fault_here, text_run}
+use Rattle.triplets.specs.TextReading.{Said, Kept, moved, new_line, ended, fault_here, text_run, byte_step}
 use Rattle.triplets.specs.BegunLines.{AreBegunVectors}
 use Rattle.triplets.specs.KeptTexts.{with_begun}
-use Rattle.triplets.proofs.TextRuns.{run_faulty}
 use Rattle.triplets.proofs.TextEnds.{step_at, said_then, InLine, make_listing, listing_path, a_line, front_nil, front_front, at_next_line, next_line, at_next_byte, next_byte}
 use Rattle.triplets.proofs.BegunRows.{begun_row}
+use Rattle.triplets.proofs.Runs.{run_stopped}
 
 -- what is kept behind lines that say base, where the one at n is the first
 pub record KeptAfter (nt : Notation) (k : Kept) (base : Said) (n : ℕ) (lines : List (List ℕ)) : Type 0 where
@@ -80,7 +80,7 @@ KeptBehind nt bs = (k : Kept) (here : LinePlace) (base : Said) (n : ℕ) (before
 kept_line : (nt : Notation) → (o : Option (Option Motion3)) (bs : List ℕ) (k : Kept) (here : LinePlace) (base : Said) (n : ℕ) (before : List ℕ) (vs : List Vector) → KeptBehind nt bs → InLine nt k here base n before vs → ending nt here ≡ o →
     IsKeptSoFar nt (text_run nt (new_line (ended o false k) k) bs) base n ((before ++ []) ∷ lines_of bs)
 kept_line nt None bs k here base n before vs further h e =
-    subst (λ r. IsKeptSoFar nt r base n ((before ++ []) ∷ lines_of bs)) (sym (run_faulty nt (fault_here k kinds.MissingPart) bs)) tt
+    subst (λ r. IsKeptSoFar nt r base n ((before ++ []) ∷ lines_of bs)) (sym (run_stopped (byte_step nt) (fault_here k kinds.MissingPart) bs)) tt
 kept_line nt (Some o) bs k here base n before vs further h e =
     let a = make_listing (operations_of o) vs in
     let k' = at_next_line o k in
@@ -91,7 +91,7 @@ kept_line nt (Some o) bs k here base n before vs further h e =
 kept_moved : (nt : Notation) → (r : Result LinePlace TextKind) (b : ℕ) (bs : List ℕ) (k : Kept) (here : LinePlace) (base : Said) (n : ℕ) (before : List ℕ) (vs : List Vector) → KeptBehind nt bs → InLine nt k here base n before vs → place_step nt (mark nt b) here ≡ r →
     IsKeptSoFar nt (text_run nt (moved (in_line r) (completed (mark nt b) here) k) bs) base n (with_front before (with_front (b ∷ []) (lines_of bs)))
 kept_moved nt (Err kind) b bs k here base n before vs further h e =
-    subst (λ r. IsKeptSoFar nt r base n (with_front before (with_front (b ∷ []) (lines_of bs)))) (sym (run_faulty nt (fault_here k kind) bs)) tt
+    subst (λ r. IsKeptSoFar nt r base n (with_front before (with_front (b ∷ []) (lines_of bs)))) (sym (run_stopped (byte_step nt) (fault_here k kind) bs)) tt
 kept_moved nt (Ok p) b bs k here base n before vs further h e =
     let k' = at_next_byte nt b here p k in
     subst (λ ls. IsKeptSoFar nt (text_run nt (Ok k') bs) base n ls) (front_front before (b ∷ []) (lines_of bs))

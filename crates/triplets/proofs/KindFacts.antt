@@ -23,16 +23,14 @@ use Rattle.triplets.specs.PartReading.{settled, on_digit}
 use Rattle.triplets.specs.TripletReading.{start, in_part, next_part, comma_at, early_comma, hash_kind, value_at, value, step, run}
 use Rattle.triplets.specs.Faults.{IsGood, is_digit, is_letter, stands, TableRow, IsLetter, HasKind}
 use Rattle.triplets.proofs.Bytes.{IsMark, mark_is}
-use Rattle.triplets.proofs.Wholes.{going, stopped, going_is, found, is_triplet, is_read}
+use Rattle.triplets.proofs.Wholes.{found, is_triplet, is_read}
 use Rattle.triplets.proofs.Seen.{Seen, nothing_seen, seen, SpotAgrees, Agrees, agrees}
-use Rattle.triplets.proofs.KindTable.{KindOf, table_is, silent, apart, unknown, part_stopped, err_kind, letter_fault_by, digit_fault, blank_fault, sign_fault, slash_fault}
+use Rattle.triplets.proofs.KindTable.{KindOf, table_is, silent, apart, unknown, letter_fault_by, digit_fault, blank_fault, sign_fault, slash_fault}
+use Rattle.triplets.proofs.Runs.{going, stopped, going_is, stopped_is}
 
-pub stopped_is : (k l : TextKind) → stopped k ≡ stopped l → l ≡ k
-stopped_is k l e = cc
-
-pub part_stops : (r : Result PartReader TextKind) (s : TripletReader) (k : TextKind) → in_part s r ≡ stopped k → r ≡ part_stopped k
+pub part_stops : (r : Result PartReader TextKind) (s : TripletReader) (k : TextKind) → in_part s r ≡ stopped k → r ≡ stopped k
 part_stops (Ok p) s k e = absurd cc
-part_stops (Err l) s k e = ap part_stopped (sym (stopped_is _ k e))
+part_stops (Err l) s k e = ap stopped (sym (stopped_is _ k e))
 
 abbrev pub no_triplet : Option Motion3
 no_triplet = None
@@ -103,8 +101,8 @@ counted Triplets n m is = tt
 counted Pairs n m is = absurd cc
 
 -- a comma behind the last part
-extra_fault : (nt : Notation) (s : TripletReader) (p : PartReader) (t : Motion3) (f : Seen) (S : Axis → Bool) (G : Type 0) (k : TextKind) → Whole nt s G → value nt s ≡ found t → stopped kinds.ExtraPart ≡ stopped k → Tabled nt f S G 44 k
-extra_fault nt s p t f S G k g v z = inr (λ x. absurd (omega (arith, x.0)), inl ((refl, g.0 t v), stopped_is _ k z))
+extra_fault : (nt : Notation) (s : TripletReader) (p : PartReader) (t : Motion3) (f : Seen) (S : Axis → Bool) (G : Type 0) (k : TextKind) → Whole nt s G → value nt s ≡ found t → k ≡ kinds.ExtraPart → Tabled nt f S G 44 k
+extra_fault nt s p t f S G k g v z = inr (λ x. absurd (omega (arith, x.0)), inl ((refl, g.0 t v), z))
 
 pub comma_fault : (nt : Notation) → (o : Option PartReader) (n : Nth) (s : TripletReader) (f : Seen) (S : Axis → Bool) (G : Type 0) (k : TextKind) → IsCounted nt n marks.Comma → Agrees s.part f → Whole nt s G → settled s.part ≡ o → s.nth ≡ n →
     comma_at nt o s ≡ stopped k → Tabled nt f S G 44 k
@@ -114,10 +112,10 @@ comma_fault nt None n s f S G k c h g e i w =
 comma_fault nt (Some p) First s f S G k c h g e i w = let z : next_part nt First s p.row ≡ stopped k = ap (λ n. next_part nt n s p.row) (sym i) ∙ w in absurd cc
 comma_fault Triplets (Some p) Second s f S G k c h g e i w = let z : next_part Triplets Second s p.row ≡ stopped k = ap (λ n. next_part Triplets n s p.row) (sym i) ∙ w in absurd cc
 comma_fault Pairs (Some p) Second s f S G k c h g e i w =
-    let z : stopped kinds.ExtraPart ≡ stopped k = ap (λ n. next_part Pairs n s p.row) (sym i) ∙ w in
+    let z : k ≡ kinds.ExtraPart = stopped_is _ k (ap (λ n. next_part Pairs n s p.row) (sym i) ∙ w) in
     extra_fault Pairs s p (motion3_with s.first p.row axis_row) f S G k g (ap (λ (x : Option PartReader). value_at Pairs s.nth x s) e ∙ ap (λ n. value_at Pairs n (Some p) s) i) z
 comma_fault Triplets (Some p) Third s f S G k c h g e i w =
-    let z : stopped kinds.ExtraPart ≡ stopped k = ap (λ n. next_part Triplets n s p.row) (sym i) ∙ w in
+    let z : k ≡ kinds.ExtraPart = stopped_is _ k (ap (λ n. next_part Triplets n s p.row) (sym i) ∙ w) in
     extra_fault Triplets s p (motion3_with s.first s.second p.row) f S G k g (ap (λ (x : Option PartReader). value_at Triplets s.nth x s) e ∙ ap (λ n. value_at Triplets n (Some p) s) i) z
 comma_fault Pairs (Some p) Third s f S G k c h g e i w = absurd c
 
@@ -143,9 +141,9 @@ hash_unknown nt f S G g =
       ),
     )
 
-pub hash_fault : (nt : Notation) → (v : Option Motion3) (s : TripletReader) (f : Seen) (S : Axis → Bool) (G : Type 0) (k : TextKind) → Whole nt s G → value nt s ≡ v → stopped (hash_kind v) ≡ stopped k → Tabled nt f S G 35 k
-hash_fault nt None s f S G k g e w = inl ((refl, g.1 e), stopped_is _ k w)
-hash_fault nt (Some t) s f S G k g e w = subst (λ x. Tabled nt f S G 35 x) (sym (stopped_is _ k w)) (hash_unknown nt f S G (g.0 t e))
+pub hash_fault : (nt : Notation) → (v : Option Motion3) (s : TripletReader) (f : Seen) (S : Axis → Bool) (G : Type 0) (k : TextKind) → Whole nt s G → value nt s ≡ v → k ≡ hash_kind v → Tabled nt f S G 35 k
+hash_fault nt None s f S G k g e w = inl ((refl, g.1 e), w)
+hash_fault nt (Some t) s f S G k g e w = subst (λ x. Tabled nt f S G 35 x) (sym w) (hash_unknown nt f S G (g.0 t e))
 
 pub fault_by : (nt : Notation) → (m : Mark) (s : TripletReader) (f : Seen) (S : Axis → Bool) (G : Type 0) (b : ℕ) (k : TextKind) → mark nt b ≡ m → IsMark nt b m → IsCounted nt s.nth m → ((x : Axis) → S x ≡ uses x s.part.used) → Agrees s.part f → Whole nt s G →
     step nt m s ≡ stopped k → Tabled nt f S G b k
@@ -154,11 +152,11 @@ fault_by nt (marks.Signs t) s f S G b k e i n u h g w = silent_fault nt f S G b 
 fault_by nt (marks.Letter a) s f S G b k e i n u h g w =
     subst (λ x. Tabled nt f S G x k) (sym i.1) (letter_fault_by nt (uses a s.part.used) s.part.spot s.part.row s.part.used s.part.sign f S G a i.0 k i.2 u h.spot refl (part_stops _ s k w))
 fault_by nt (marks.Digit d) s f S G b k e i n u h g w =
-    subst (λ x. Tabled nt f S G x k) (sym i.1) (digit_fault nt s.part.spot s.part.row s.part.used s.part.sign f S G i.0 k h.spot (subst (λ x. on_digit x s.part ≡ part_stopped k) i.2 (part_stops _ s k w)))
+    subst (λ x. Tabled nt f S G x k) (sym i.1) (digit_fault nt s.part.spot s.part.row s.part.used s.part.sign f S G i.0 k h.spot (subst (λ x. on_digit x s.part ≡ stopped k) i.2 (part_stops _ s k w)))
 fault_by nt marks.Slash s f S G b k e i n u h g w = silent_fault nt f S G b _ k e refl (slash_fault s.part.spot s.part.row s.part.used s.part.sign k (part_stops _ s k w))
 fault_by nt marks.Comma s f S G b k e i n u h g w = subst (λ x. Tabled nt f S G x k) (sym i) (comma_fault nt (settled s.part) s.nth s f S G k n h g refl refl w)
-fault_by nt marks.Hash s f S G b k e i n u h g w = subst (λ x. Tabled nt f S G x k) (sym i) (hash_fault nt (value nt s) s f S G k g refl w)
-fault_by nt m s f S G b k e i n u h g w = silent_fault nt f S G b _ k e refl (err_kind _ k (part_stops _ s k w))
+fault_by nt marks.Hash s f S G b k e i n u h g w = subst (λ x. Tabled nt f S G x k) (sym i) (hash_fault nt (value nt s) s f S G k g refl (stopped_is _ k w))
+fault_by nt m s f S G b k e i n u h g w = silent_fault nt f S G b _ k e refl (stopped_is _ k (part_stops _ s k w))
 
 pub stands_used : (bs : List ℕ) (x : Axis) → stands x false bs ≡ uses x (seen nothing_seen bs).used
 stands_used bs X = refl

@@ -21,8 +21,8 @@ use Rattle.triplets.specs.PartReading.{on_blank, on_sign, on_digit, on_slash, on
 use Rattle.triplets.specs.Grammar.{letter_byte, Digit, digit_value}
 use Rattle.triplets.specs.Faults.{IsGood, is_digit, is_letter, last_mark, last_other, digits_at_end, stands, TableRow, IsLetter, HasKind}
 use Rattle.triplets.proofs.Bytes.{mark_letter, mark_digit}
-use Rattle.triplets.proofs.Partials.{fine}
 use Rattle.triplets.proofs.Seen.{Seen, digit_true, digit_not_letter, SpotAgrees, letter_bounds, at}
+use Rattle.triplets.proofs.Runs.{going, stopped, stopped_is, not_stopped}
 
 abbrev pub KindOf : (nt : Notation) → (m o c : ℕ) → (Axis → Bool) → Type 0 → ℕ → TextKind → Type 0
 KindOf nt m o c S G b kind =
@@ -131,43 +131,33 @@ unknown nt m o c S G b h =
       ),
     )
 
--- a fault of a part
-abbrev pub part_stopped : TextKind → Result PartReader TextKind
-part_stopped k = Err k
-
-pub err_kind : (k l : TextKind) → part_stopped k ≡ part_stopped l → l ≡ k
-err_kind k l e = cc
-
-pub not_ok : (p : PartReader) (k : TextKind) {A : Type 0} → fine p ≡ part_stopped k → A
-not_ok p k e = absurd cc
-
-pub unmet : (b : Bool) (p : PartReader) (k l : TextKind) → cond b (fine p) (part_stopped k) ≡ part_stopped l → l ≡ k
+pub unmet : (b : Bool) (p : PartReader) (k l : TextKind) → cond b (going p) (stopped k) ≡ stopped l → l ≡ k
 unmet true p k l e = absurd cc
 unmet false p k l e = cc
 
-pub not_passed : (b : Bool) (p : PartReader) (k l : TextKind) → cond b (part_stopped k) (fine p) ≡ part_stopped l → (b ≡ true) × (l ≡ k)
+pub not_passed : (b : Bool) (p : PartReader) (k l : TextKind) → cond b (stopped k) (going p) ≡ stopped l → (b ≡ true) × (l ≡ k)
 not_passed true p k l e = (refl, cc)
 not_passed false p k l e = absurd cc
 
-pub below_err : (v : ℕ) (o : Option ℕ) (p : PartReader) (k : TextKind) → below_or v o p ≡ part_stopped k → k ≡ kinds.Denominator
+pub below_err : (v : ℕ) (o : Option ℕ) (p : PartReader) (k : TextKind) → below_or v o p ≡ stopped k → k ≡ kinds.Denominator
 below_err v None p k e = cc
 below_err v (Some d) p k e = absurd cc
 
 -- at a letter that does not stand in the part
-pub new_letter_fault : (nt : Notation) → (spot : Spot) (r : rows.Row) (u : Used) (g : Sign) (f : Seen) (a : Axis) (c : Bool) (k : TextKind) → has_axis nt a ≡ true → SpotAgrees spot f → on_new_letter_at a spot (at r u g spot) ≡ part_stopped k →
+pub new_letter_fault : (nt : Notation) → (spot : Spot) (r : rows.Row) (u : Used) (g : Sign) (f : Seen) (a : Axis) (c : Bool) (k : TextKind) → has_axis nt a ≡ true → SpotAgrees spot f → on_new_letter_at a spot (at r u g spot) ≡ stopped k →
     TableRow (IsLetter nt (letter_byte a c) × (1 ≤ f.count)) kinds.Coefficient k (
     TableRow (IsTrue (is_digit (letter_byte a c)) × (f.other ≡ 47)) kinds.Denominator k (
     TableRow (IsTrue (is_digit (letter_byte a c)) × (3 ≤ f.count)) kinds.Coefficient k (
     k ≡ kinds.UnknownSign)))
-new_letter_fault nt Begin r u g f a c k axis h w = not_ok _ k w
-new_letter_fault nt Signed r u g f a c k axis h w = not_ok _ k w
+new_letter_fault nt Begin r u g f a c k axis h w = not_stopped _ k w
+new_letter_fault nt Signed r u g f a c k axis h w = not_stopped _ k w
 new_letter_fault nt (Digits n v) r u g f a c k axis h w = inl (((a, letter_self a c, axis), omega (arith, h.1, h.3)), unmet _ _ _ k w)
-new_letter_fault nt (Below v d) r u g f a c k axis h w = inl (((a, letter_self a c, axis), h.1), err_kind _ k w)
+new_letter_fault nt (Below v d) r u g f a c k axis h w = inl (((a, letter_self a c, axis), h.1), stopped_is _ k w)
 new_letter_fault nt spot r u g f a c k axis h w =
-    inr (λ e. omega (arith, e.1, h.1), inr (λ e. apart _ e.0 (letter_bounds a c).3, inr (λ e. apart _ e.0 (letter_bounds a c).3, err_kind _ k w)))
+    inr (λ e. omega (arith, e.1, h.1), inr (λ e. apart _ e.0 (letter_bounds a c).3, inr (λ e. apart _ e.0 (letter_bounds a c).3, stopped_is _ k w)))
 
 pub letter_fault_by : (nt : Notation) → (t : Bool) (spot : Spot) (r : rows.Row) (u : Used) (g : Sign) (f : Seen) (S : Axis → Bool) (G : Type 0) (a : Axis) (c : Bool) (k : TextKind) → has_axis nt a ≡ true → ((x : Axis) → S x ≡ uses x u) → SpotAgrees spot f →
-    uses a u ≡ t → cond t (part_stopped kinds.Repeated) (on_new_letter_at a spot (at r u g spot)) ≡ part_stopped k → KindOf nt f.mark f.other f.count S G (letter_byte a c) k
+    uses a u ≡ t → cond t (stopped kinds.Repeated) (on_new_letter_at a spot (at r u g spot)) ≡ stopped k → KindOf nt f.mark f.other f.count S G (letter_byte a c) k
 letter_fault_by nt true spot r u g f S G a c k axis s h t w =
     inr (
       λ e. (letter_bounds a c).2 e.0,
@@ -175,7 +165,7 @@ letter_fault_by nt true spot r u g f S G a c k axis s h t w =
         λ e. (letter_bounds a c).0 e.0,
         inr (
           λ e. (letter_bounds a c).0 e.0,
-          inl ((a, letter_self a c, axis, s a ∙ t), err_kind _ k w),
+          inl ((a, letter_self a c, axis, s a ∙ t), stopped_is _ k w),
         ),
       ),
     )
@@ -198,7 +188,7 @@ pub three_of : (n c : ℕ) → nat_le 3 n ≡ true → c ≡ n → 3 ≤ c
 three_of n c h e = grind (arith, nat_tests)
 
 -- at a digit
-pub digit_fault : (nt : Notation) → (spot : Spot) (r : rows.Row) (u : Used) (g : Sign) (f : Seen) (S : Axis → Bool) (G : Type 0) (d : Digit) (k : TextKind) → SpotAgrees spot f → on_digit (digit_value d) (at r u g spot) ≡ part_stopped k →
+pub digit_fault : (nt : Notation) → (spot : Spot) (r : rows.Row) (u : Used) (g : Sign) (f : Seen) (S : Axis → Bool) (G : Type 0) (d : Digit) (k : TextKind) → SpotAgrees spot f → on_digit (digit_value d) (at r u g spot) ≡ stopped k →
     KindOf nt f.mark f.other f.count S G d.byte k
 digit_fault nt spot r u g f S G d k h w =
     inr (
@@ -218,29 +208,29 @@ digit_fault nt spot r u g f S G d k h w =
       ),
     )
   where
-    digit_rows : (spot : Spot) (r : rows.Row) (u : Used) (g : Sign) (f : Seen) (d : Digit) (k : TextKind) → SpotAgrees spot f → on_digit (digit_value d) (at r u g spot) ≡ part_stopped k →
+    digit_rows : (spot : Spot) (r : rows.Row) (u : Used) (g : Sign) (f : Seen) (d : Digit) (k : TextKind) → SpotAgrees spot f → on_digit (digit_value d) (at r u g spot) ≡ stopped k →
         TableRow (IsTrue (is_digit d.byte) × (f.other ≡ 47)) kinds.Denominator k (
         TableRow (IsTrue (is_digit d.byte) × (3 ≤ f.count)) kinds.Coefficient k (
         k ≡ kinds.UnknownSign))
-    digit_rows Begin r u g f d k h w = not_ok _ k w
-    digit_rows Signed r u g f d k h w = not_ok _ k w
+    digit_rows Begin r u g f d k h w = not_stopped _ k w
+    digit_rows Signed r u g f d k h w = not_stopped _ k w
     digit_rows (Digits n v) r u g f d k h w =
         let p = not_passed _ _ _ k w in
         inr (λ e. h.2 e.1, inl ((digit_true d, three_of n f.count p.0 h.1), p.1))
     digit_rows (Divided v) r u g f d k h w = inl ((digit_true d, h.2), below_err _ _ _ k w)
     digit_rows (Below v t) r u g f d k h w = inl ((digit_true d, h.2), below_err _ _ _ k w)
-    digit_rows Behind r u g f d k h w = inr (λ e. h.2 e.1, inr (λ e. omega (arith, e.1, h.1), err_kind _ k w))
+    digit_rows Behind r u g f d k h w = inr (λ e. h.2 e.1, inr (λ e. omega (arith, e.1, h.1), stopped_is _ k w))
 
 -- a blank, a sign or a slash is no fault of another kind
-pub blank_fault : (spot : Spot) (r : rows.Row) (u : Used) (g : Sign) (k : TextKind) → on_blank (at r u g spot) ≡ part_stopped k → k ≡ kinds.UnknownSign
-blank_fault (Divided v) r u g k w = err_kind _ k w
-blank_fault spot r u g k w = not_ok _ k w
+pub blank_fault : (spot : Spot) (r : rows.Row) (u : Used) (g : Sign) (k : TextKind) → on_blank (at r u g spot) ≡ stopped k → k ≡ kinds.UnknownSign
+blank_fault (Divided v) r u g k w = stopped_is _ k w
+blank_fault spot r u g k w = not_stopped _ k w
 
-pub sign_fault : (spot : Spot) (r : rows.Row) (u : Used) (g s : Sign) (k : TextKind) → on_sign s (at r u g spot) ≡ part_stopped k → k ≡ kinds.UnknownSign
-sign_fault Signed r u g s k w = err_kind _ k w
-sign_fault (Divided v) r u g s k w = err_kind _ k w
-sign_fault spot r u g s k w = not_ok _ k w
+pub sign_fault : (spot : Spot) (r : rows.Row) (u : Used) (g s : Sign) (k : TextKind) → on_sign s (at r u g spot) ≡ stopped k → k ≡ kinds.UnknownSign
+sign_fault Signed r u g s k w = stopped_is _ k w
+sign_fault (Divided v) r u g s k w = stopped_is _ k w
+sign_fault spot r u g s k w = not_stopped _ k w
 
-pub slash_fault : (spot : Spot) (r : rows.Row) (u : Used) (g : Sign) (k : TextKind) → on_slash (at r u g spot) ≡ part_stopped k → k ≡ kinds.UnknownSign
-slash_fault (Digits n v) r u g k w = not_ok _ k w
-slash_fault spot r u g k w = err_kind _ k w
+pub slash_fault : (spot : Spot) (r : rows.Row) (u : Used) (g : Sign) (k : TextKind) → on_slash (at r u g spot) ≡ stopped k → k ≡ kinds.UnknownSign
+slash_fault (Digits n v) r u g k w = not_stopped _ k w
+slash_fault spot r u g k w = stopped_is _ k w

@@ -1,3 +1,5 @@
+pub mod Runs
+pub mod Places
 pub mod Bytes
 pub mod Divisors
 pub mod PartRuns
@@ -12,7 +14,6 @@ pub mod Sizes
 pub mod Ends
 pub mod LineBounds
 pub mod TextBounds
-pub mod TextRuns
 pub mod TextFacts
 pub mod LineBegun
 pub mod LineEnds

@@ -19,7 +19,8 @@ use Rattle.triplets.proofs.Divisors.{one}
 use Rattle.triplets.proofs.Partials.{Partial, lead, digits, divided, below, behind, partial_text, IsLike}
 use Rattle.triplets.proofs.Wholes.{Begun, begun_text, begun_state, ends, zero, zero_part, prefix_of}
 use Rattle.triplets.specs.Grammar.{lead_text, numerator_text, whole, fraction}
-use Rattle.triplets.proofs.LineBegun.{line_going, lists, LineBegun, at_start, at_opening, at_operation, at_vector, at_closed, at_behind, at_comment, line_text, line_state, VectorBegun, in_one, in_two, in_three, vector_text, closed_text, in_bracket, bracket_more, vector_of, all_of, all_text, closed_more, as_vector, as_vector_text, form_operation, form_vectors, LineGoes, line_goes}
+use Rattle.triplets.proofs.LineBegun.{lists, LineBegun, at_start, at_opening, at_operation, at_vector, at_closed, at_behind, at_comment, line_text, line_state, VectorBegun, in_one, in_two, in_three, vector_text, closed_text, in_bracket, bracket_more, vector_of, all_of, all_text, closed_more, as_vector, as_vector_text, form_operation, form_vectors, LineGoes, line_goes}
+use Rattle.triplets.proofs.Runs.{going}
 
 abbrev make_listing : List Motion → List Vector → Listing
 make_listing x y = record { ops = x; centrings = y }
@@ -48,10 +49,10 @@ ends_as nt (at_behind r bs) a e = no_comment nt (row r bs) (centrings_text nt r 
 ends_as nt (at_comment f cs) a e = record { form = f; comment = Some cs; text = refl; value = lists_is _ a (sym (form_said nt f) ∙ e) }
 ends_as nt q a e = absurd cc
 
-begun_of : (nt : Notation) → (bytes : List ℕ) (s : LineState) → line_run nt (Ok line_start) bytes ≡ line_going s → LineGoes nt (at_start []) bytes s
+begun_of : (nt : Notation) → (bytes : List ℕ) (s : LineState) → line_run nt (Ok line_start) bytes ≡ going s → LineGoes nt (at_start []) bytes s
 begun_of nt bytes s w = line_goes nt bytes (at_start []) s w
 
-pub is_line : (nt : Notation) → (bytes : List ℕ) (s : LineState) (a : Listing) → line_run nt (Ok line_start) bytes ≡ line_going s → line_value nt s ≡ lists a → IsLine nt bytes a
+pub is_line : (nt : Notation) → (bytes : List ℕ) (s : LineState) (a : Listing) → line_run nt (Ok line_start) bytes ≡ going s → line_value nt s ≡ lists a → IsLine nt bytes a
 is_line nt bytes s a w e =
     let g = begun_of nt bytes s w in
     subst (λ (x : List ℕ). IsLine nt x a) (sym g.text) (ends_as nt g.to a (ap (line_value nt) (sym g.state) ∙ e))
@@ -135,5 +136,5 @@ line_prefix nt (at_closed r bs c d e ks) =
 line_prefix nt (at_behind r bs) = goes_to nt (centrings_text nt r ++ blanks_text bs) [] (row r bs) (append-nil _)
 line_prefix nt (at_comment f cs) = ([], (form_value nt f, record { form = f; comment = Some cs; text = append-nil _; value = refl }))
 
-pub is_line_prefix : (nt : Notation) → (bytes : List ℕ) (s : LineState) → line_run nt (Ok line_start) bytes ≡ line_going s → IsPrefixOfGoodLine nt bytes
+pub is_line_prefix : (nt : Notation) → (bytes : List ℕ) (s : LineState) → line_run nt (Ok line_start) bytes ≡ going s → IsPrefixOfGoodLine nt bytes
 is_line_prefix nt bytes s w = let g = begun_of nt bytes s w in subst (IsPrefixOfGoodLine nt) (sym g.text) (line_prefix nt g.to)

@@ -34,13 +34,12 @@ use Rattle.triplets.specs.LineReading.{in_operation, in_coordinate, next_coordin
 use Rattle.triplets.specs.Faults.{is_digit, is_letter, TableRow, IsLetter}
 use Rattle.triplets.specs.LineFaults.{commas_within, line_stands, is_end_of_part, HasLineKind}
 use Rattle.triplets.proofs.Bytes.{IsMark, mark_is}
-use Rattle.triplets.proofs.Wholes.{stopped, found}
+use Rattle.triplets.proofs.Wholes.{found}
 use Rattle.triplets.proofs.Seen.{Seen, SpotAgrees, letter_bounds, digit_not_letter, at}
 use Rattle.triplets.proofs.KindFacts.{IsCounted, fault_by, Tabled, after_comma, no_triplet}
-use Rattle.triplets.proofs.KindTable.{KindOf, digit_fault, silent, unknown, apart, letter_self, part_stopped, blank_fault, slash_fault}
-use Rattle.triplets.proofs.LineBounds.{placed}
-use Rattle.triplets.proofs.LineBegun.{line_going, line_stopped}
+use Rattle.triplets.proofs.KindTable.{KindOf, digit_fault, silent, unknown, apart, letter_self, blank_fault, slash_fault}
 use Rattle.triplets.proofs.LineSeen.{LineSeen, line_seen, line_seen_start, index, SameMark, smade, settles, PartKnown, Between, LineAgrees, line_agrees}
+use Rattle.triplets.proofs.Runs.{going, stopped, stopped_is, not_stopped, follows}
 
 abbrev pub Suffix : (nt : Notation) → (o c : ℕ) → (Axis → Bool) → ℕ → TextKind → Type 0
 Suffix nt o c S b k =
@@ -95,15 +94,6 @@ silent_kind nt f S b m k e s t n h =
     subst (LineKindOf nt f S b) (sym h) (front nt f S b kinds.UnknownSign (tame35 nt b tb) n (tame44 nt b tb)
     (suffix_of nt f.mark f.other f.count S ⊥ b kinds.UnknownSign (tame35 nt b tb) (tame44 nt b tb) (unknown nt f.mark f.other f.count S ⊥ b sb)))
 
-abbrev pub place_stopped : TextKind → Result LinePlace TextKind
-place_stopped k = Err k
-
-pub stop_is : (k l : TextKind) → place_stopped k ≡ place_stopped l → l ≡ k
-stop_is k l e = cc
-
-pub not_stopped : (p : LinePlace) (k : TextKind) {A : Type 0} → placed p ≡ place_stopped k → A
-not_stopped p k e = absurd cc
-
 -- ---- a comma
 
 pub settles_none : (spot : Spot) (r : rows.Row) (u : Used) (g : Sign) → (let o : Option PartReader = None in settled (at r u g spot) ≡ o) → settles spot ≡ false
@@ -153,15 +143,15 @@ all_commas Pairs = omega arith
 
 -- ---- faults of an operation
 
-pub in_op_err : (r : Result TripletReader TextKind) (k : TextKind) → in_operation r ≡ place_stopped k → r ≡ stopped k
+pub in_op_err : (r : Result TripletReader TextKind) (k : TextKind) → in_operation r ≡ stopped k → r ≡ stopped k
 in_op_err (Ok t) k e = absurd cc
-in_op_err (Err l) k e = ap stopped (sym (stop_is _ k e))
+in_op_err (Err l) k e = ap stopped (sym (stopped_is _ k e))
 
 counted_by : (nt : Notation) (n : Nth) (m : Mark) → tame m ≡ true → IsCounted nt n m
 counted_by Pairs Third marks.Comma h = absurd cc
 counted_by nt n m h = tt
 
-pub op_tame : (nt : Notation) → (m : Mark) (t : TripletReader) (f : LineSeen) (S : Axis → Bool) (b : ℕ) (k : TextKind) → mark nt b ≡ m → tame m ≡ true → IsMark nt b m → LineAgrees (places.Operation t) f → ((x : Axis) → S x ≡ uses x f.used) → in_operation (step nt m t) ≡ place_stopped k → LineKindOf nt f S b k
+pub op_tame : (nt : Notation) → (m : Mark) (t : TripletReader) (f : LineSeen) (S : Axis → Bool) (b : ℕ) (k : TextKind) → mark nt b ≡ m → tame m ≡ true → IsMark nt b m → LineAgrees (places.Operation t) f → ((x : Axis) → S x ≡ uses x f.used) → in_operation (step nt m t) ≡ stopped k → LineKindOf nt f S b k
 op_tame nt m t f S b k e a i h s w =
     let c = h.0.core in
     let fol = h.0.follows in
@@ -171,27 +161,27 @@ op_tame nt m t f S b k e a i h s w =
     front nt f S b k (tame35 nt b tb) (λ x. h.1 x.1) (tame44 nt b tb)
     (subst (λ o. Suffix nt o f.count S b k) (sym fol.other) (subst (λ n. Suffix nt c.other n S b k) (sym fol.count) (suffix_of nt c.mark c.other c.count S G b k (tame35 nt b tb) (tame44 nt b tb) table)))
 
-pub op_comma_kind : (nt : Notation) → (o : Option PartReader) (n : Nth) (t : TripletReader) (f : LineSeen) (S : Axis → Bool) (k : TextKind) → settled t.part ≡ o → t.nth ≡ n → LineAgrees (places.Operation t) f → in_operation (comma_at nt o t) ≡ place_stopped k → LineKindOf nt f S 44 k
-op_comma_kind nt None n t f S k e i h w = subst (LineKindOf nt f S 44) (sym (stop_is _ k w)) (early_kind nt f t.part t.nth S h.0 (settles_none t.part.spot t.part.row t.part.used t.part.sign e))
+pub op_comma_kind : (nt : Notation) → (o : Option PartReader) (n : Nth) (t : TripletReader) (f : LineSeen) (S : Axis → Bool) (k : TextKind) → settled t.part ≡ o → t.nth ≡ n → LineAgrees (places.Operation t) f → in_operation (comma_at nt o t) ≡ stopped k → LineKindOf nt f S 44 k
+op_comma_kind nt None n t f S k e i h w = subst (LineKindOf nt f S 44) (sym (stopped_is _ k w)) (early_kind nt f t.part t.nth S h.0 (settles_none t.part.spot t.part.row t.part.used t.part.sign e))
 op_comma_kind nt (Some p) First t f S k e i h w = absurd (let z = ap (λ n. in_operation (next_part nt n t p.row)) (sym i) ∙ w in cc)
 op_comma_kind Triplets (Some p) Second t f S k e i h w = absurd (let z = ap (λ n. in_operation (next_part Triplets n t p.row)) (sym i) ∙ w in cc)
 op_comma_kind Pairs (Some p) Second t f S k e i h w =
-    subst (LineKindOf Pairs f S 44) (sym (stop_is _ k (ap (λ n. in_operation (next_part Pairs n t p.row)) (sym i) ∙ w)))
+    subst (LineKindOf Pairs f S 44) (sym (stopped_is _ k (ap (λ n. in_operation (next_part Pairs n t p.row)) (sym i) ∙ w)))
     (extra_kind Pairs f t.part Second S (subst (PartKnown f t.part) i h.0) (omega arith) (settles_some t.part.spot t.part.row t.part.used t.part.sign p e))
 op_comma_kind nt (Some p) Third t f S k e i h w =
-    subst (LineKindOf nt f S 44) (sym (stop_is _ k (ap (λ n. in_operation (next_part nt n t p.row)) (sym i) ∙ w)))
+    subst (LineKindOf nt f S 44) (sym (stopped_is _ k (ap (λ n. in_operation (next_part nt n t p.row)) (sym i) ∙ w)))
     (extra_kind nt f t.part Third S (subst (PartKnown f t.part) i h.0) (all_commas nt) (settles_some t.part.spot t.part.row t.part.used t.part.sign p e))
 
-pub hash_kind_of : (nt : Notation) → (v : Option Motion3) (f : LineSeen) (S : Axis → Bool) (k : TextKind) → comment_behind v ≡ place_stopped k → LineKindOf nt f S 35 k
-hash_kind_of nt None f S k w = inl (refl, stop_is _ k w)
+pub hash_kind_of : (nt : Notation) → (v : Option Motion3) (f : LineSeen) (S : Axis → Bool) (k : TextKind) → comment_behind v ≡ stopped k → LineKindOf nt f S 35 k
+hash_kind_of nt None f S k w = inl (refl, stopped_is _ k w)
 hash_kind_of nt (Some t) f S k w = absurd cc
 
-pub op_kind : (nt : Notation) → (m : Mark) (t : TripletReader) (f : LineSeen) (S : Axis → Bool) (b : ℕ) (k : TextKind) → mark nt b ≡ m → IsMark nt b m → LineAgrees (places.Operation t) f → ((x : Axis) → S x ≡ uses x f.used) → operation_step nt m t ≡ place_stopped k → LineKindOf nt f S b k
+pub op_kind : (nt : Notation) → (m : Mark) (t : TripletReader) (f : LineSeen) (S : Axis → Bool) (b : ℕ) (k : TextKind) → mark nt b ≡ m → IsMark nt b m → LineAgrees (places.Operation t) f → ((x : Axis) → S x ≡ uses x f.used) → operation_step nt m t ≡ stopped k → LineKindOf nt f S b k
 op_kind nt marks.Comma t f S b k e i h s w = subst (λ x. LineKindOf nt f S x k) (sym i) (op_comma_kind nt (settled t.part) t.nth t f S k refl refl h w)
 op_kind nt marks.Hash t f S b k e i h s w = subst (λ x. LineKindOf nt f S x k) (sym i) (hash_kind_of nt (value nt t) f S k w)
 op_kind nt m t f S b k e i h s w = op_tame nt m t f S b k e refl i h s w
 
-pub start_kind : (nt : Notation) → (m : Mark) (f : LineSeen) (S : Axis → Bool) (b : ℕ) (k : TextKind) → mark nt b ≡ m → IsMark nt b m → LineAgrees places.Start f → ((x : Axis) → S x ≡ uses x f.used) → start_step nt m ≡ place_stopped k → LineKindOf nt f S b k
+pub start_kind : (nt : Notation) → (m : Mark) (f : LineSeen) (S : Axis → Bool) (b : ℕ) (k : TextKind) → mark nt b ≡ m → IsMark nt b m → LineAgrees places.Start f → ((x : Axis) → S x ≡ uses x f.used) → start_step nt m ≡ stopped k → LineKindOf nt f S b k
 start_kind nt marks.Blank f S b k e i h s w = not_stopped _ k w
 start_kind nt marks.Open f S b k e i h s w = not_stopped _ k w
 start_kind nt marks.Hash f S b k e i h s w = not_stopped _ k w
@@ -212,9 +202,9 @@ letter_rows nt (Digits m v) g f a c k axis h n e = inl (((a, letter_self a c, ax
 letter_rows nt (Below v d) g f a c k axis h n e = inl (((a, letter_self a c, axis), omega (arith, h.1, n)), e)
 letter_rows nt spot g f a c k axis h n e = inr ((λ x. omega (arith, x.1, h.1, n)), inr ((λ x. apart _ x.0 (letter_bounds a c).3), inr ((λ x. apart _ x.0 (letter_bounds a c).3), e)))
 
-pub in_coordinate_err : (l : Bool) (v : VectorReader) (r : Result PartReader TextKind) (k : TextKind) → in_coordinate l v r ≡ place_stopped k → r ≡ part_stopped k
+pub in_coordinate_err : (l : Bool) (v : VectorReader) (r : Result PartReader TextKind) (k : TextKind) → in_coordinate l v r ≡ stopped k → r ≡ stopped k
 in_coordinate_err l v (Ok p) k e = absurd cc
-in_coordinate_err l v (Err x) k e = ap part_stopped (sym (stop_is _ k e))
+in_coordinate_err l v (Err x) k e = ap stopped (sym (stopped_is _ k e))
 
 pub letter_kind : (nt : Notation) → (spot : Spot) (g : Seen) (f : LineSeen) (S : Axis → Bool) (a : Axis) (c : Bool) (k : TextKind) → has_axis nt a ≡ true → SpotAgrees spot g → f.count ≡ g.count → ((x : Axis) → S x ≡ false) → k ≡ behind_number spot → LineKindOf nt f S (letter_byte a c) k
 letter_kind nt spot g f S a c k axis h n s e =
@@ -228,19 +218,19 @@ letter_kind nt spot g f S a c k axis h n s e =
     not_41 Z false e = omega arith
     not_41 Z true e = omega arith
 
-pub vec_sign_kind : (spot : Spot) (s : Sign) (v : VectorReader) (k : TextKind) → coordinate_sign s spot v ≡ place_stopped k → k ≡ kinds.UnknownSign
+pub vec_sign_kind : (spot : Spot) (s : Sign) (v : VectorReader) (k : TextKind) → coordinate_sign s spot v ≡ stopped k → k ≡ kinds.UnknownSign
 vec_sign_kind Begin s v k w = not_stopped _ k w
-vec_sign_kind spot s v k w = stop_is _ k w
+vec_sign_kind spot s v k w = stopped_is _ k w
 
-pub vec_comma_kind : (nt : Notation) → (o : Option PartReader) (n : Nth) (v : VectorReader) (f : LineSeen) (S : Axis → Bool) (k : TextKind) → settled v.part ≡ o → v.nth ≡ n → LineAgrees (places.Coordinates v) f → coordinate_comma nt o v ≡ place_stopped k → LineKindOf nt f S 44 k
-vec_comma_kind nt None n v f S k e i h w = subst (LineKindOf nt f S 44) (sym (stop_is _ k w)) (early_kind nt f v.part v.nth S h.0 (settles_none v.part.spot v.part.row v.part.used v.part.sign e))
+pub vec_comma_kind : (nt : Notation) → (o : Option PartReader) (n : Nth) (v : VectorReader) (f : LineSeen) (S : Axis → Bool) (k : TextKind) → settled v.part ≡ o → v.nth ≡ n → LineAgrees (places.Coordinates v) f → coordinate_comma nt o v ≡ stopped k → LineKindOf nt f S 44 k
+vec_comma_kind nt None n v f S k e i h w = subst (LineKindOf nt f S 44) (sym (stopped_is _ k w)) (early_kind nt f v.part v.nth S h.0 (settles_none v.part.spot v.part.row v.part.used v.part.sign e))
 vec_comma_kind nt (Some p) First v f S k e i h w = absurd (let z = ap (λ n. next_coordinate nt n v p.row.shift) (sym i) ∙ w in cc)
 vec_comma_kind Triplets (Some p) Second v f S k e i h w = absurd (let z = ap (λ n. next_coordinate Triplets n v p.row.shift) (sym i) ∙ w in cc)
 vec_comma_kind Pairs (Some p) Second v f S k e i h w =
-    subst (LineKindOf Pairs f S 44) (sym (stop_is _ k (ap (λ n. next_coordinate Pairs n v p.row.shift) (sym i) ∙ w)))
+    subst (LineKindOf Pairs f S 44) (sym (stopped_is _ k (ap (λ n. next_coordinate Pairs n v p.row.shift) (sym i) ∙ w)))
     (extra_kind Pairs f v.part Second S (subst (PartKnown f v.part) i h.0) (omega arith) (settles_some v.part.spot v.part.row v.part.used v.part.sign p e))
 vec_comma_kind nt (Some p) Third v f S k e i h w =
-    subst (LineKindOf nt f S 44) (sym (stop_is _ k (ap (λ n. next_coordinate nt n v p.row.shift) (sym i) ∙ w)))
+    subst (LineKindOf nt f S 44) (sym (stopped_is _ k (ap (λ n. next_coordinate nt n v p.row.shift) (sym i) ∙ w)))
     (extra_kind nt f v.part Third S (subst (PartKnown f v.part) i h.0) (all_commas nt) (settles_some v.part.spot v.part.row v.part.used v.part.sign p e))
 
 -- a bracket where no coordinate is whole, and where too few are
@@ -250,24 +240,24 @@ close_unknown nt f S k d e = silent_kind nt f S 41 marks.Close k refl refl refl 
 pub close_missing : (nt : Notation) → (f : LineSeen) (S : Axis → Bool) (k : TextKind) → f.bracket ≡ 40 → is_digit f.mark ≡ true → k ≡ kinds.MissingPart → LineKindOf nt f S 41 k
 close_missing nt f S k b d e = inr ((λ x. absurd (omega arith)), inl ((refl, b, d), e))
 
-pub vec_close_kind : (nt : Notation) → (n : Nth) (o : Option PartReader) (v : VectorReader) (f : LineSeen) (S : Axis → Bool) (k : TextKind) → settled v.part ≡ o → LineAgrees (places.Coordinates v) f → closed_at nt n o v ≡ place_stopped k → LineKindOf nt f S 41 k
-vec_close_kind nt First (Some p) v f S k e h w = close_missing nt f S k h.1 (h.2 ∙ settles_some v.part.spot v.part.row v.part.used v.part.sign p e) (stop_is _ k w)
-vec_close_kind Triplets Second (Some p) v f S k e h w = close_missing Triplets f S k h.1 (h.2 ∙ settles_some v.part.spot v.part.row v.part.used v.part.sign p e) (stop_is _ k w)
+pub vec_close_kind : (nt : Notation) → (n : Nth) (o : Option PartReader) (v : VectorReader) (f : LineSeen) (S : Axis → Bool) (k : TextKind) → settled v.part ≡ o → LineAgrees (places.Coordinates v) f → closed_at nt n o v ≡ stopped k → LineKindOf nt f S 41 k
+vec_close_kind nt First (Some p) v f S k e h w = close_missing nt f S k h.1 (h.2 ∙ settles_some v.part.spot v.part.row v.part.used v.part.sign p e) (stopped_is _ k w)
+vec_close_kind Triplets Second (Some p) v f S k e h w = close_missing Triplets f S k h.1 (h.2 ∙ settles_some v.part.spot v.part.row v.part.used v.part.sign p e) (stopped_is _ k w)
 vec_close_kind Pairs Second (Some p) v f S k e h w = not_stopped _ k w
 vec_close_kind Triplets Third (Some p) v f S k e h w = not_stopped _ k w
-vec_close_kind Pairs Third (Some p) v f S k e h w = close_missing Pairs f S k h.1 (h.2 ∙ settles_some v.part.spot v.part.row v.part.used v.part.sign p e) (stop_is _ k w)
-vec_close_kind nt n o v f S k e h w = close_unknown nt f S k (h.2 ∙ settles_none v.part.spot v.part.row v.part.used v.part.sign e) (stop_is _ k w)
+vec_close_kind Pairs Third (Some p) v f S k e h w = close_missing Pairs f S k h.1 (h.2 ∙ settles_some v.part.spot v.part.row v.part.used v.part.sign p e) (stopped_is _ k w)
+vec_close_kind nt n o v f S k e h w = close_unknown nt f S k (h.2 ∙ settles_none v.part.spot v.part.row v.part.used v.part.sign e) (stopped_is _ k w)
 
-pub vec_close_by : (nt : Notation) → (t : Bool) (v : VectorReader) (f : LineSeen) (S : Axis → Bool) (k : TextKind) → LineAgrees (places.Coordinates v) f → cond t (placed (places.Operation start)) (closed_at nt v.nth (settled v.part) v) ≡ place_stopped k → LineKindOf nt f S 41 k
+pub vec_close_by : (nt : Notation) → (t : Bool) (v : VectorReader) (f : LineSeen) (S : Axis → Bool) (k : TextKind) → LineAgrees (places.Coordinates v) f → cond t (going (places.Operation start)) (closed_at nt v.nth (settled v.part) v) ≡ stopped k → LineKindOf nt f S 41 k
 vec_close_by nt true v f S k h w = not_stopped _ k w
 vec_close_by nt false v f S k h w = vec_close_kind nt v.nth (settled v.part) v f S k refl h w
 
 pub not_41_digit : (d : Digit) → d.byte ≢ 41
 not_41_digit d e = omega (arith, d.low)
 
-pub vec_kind : (nt : Notation) → (m : Mark) (v : VectorReader) (f : LineSeen) (S : Axis → Bool) (b : ℕ) (k : TextKind) → mark nt b ≡ m → IsMark nt b m → LineAgrees (places.Coordinates v) f → ((x : Axis) → S x ≡ uses x f.used) → vector_step nt m v ≡ place_stopped k → LineKindOf nt f S b k
+pub vec_kind : (nt : Notation) → (m : Mark) (v : VectorReader) (f : LineSeen) (S : Axis → Bool) (b : ℕ) (k : TextKind) → mark nt b ≡ m → IsMark nt b m → LineAgrees (places.Coordinates v) f → ((x : Axis) → S x ≡ uses x f.used) → vector_step nt m v ≡ stopped k → LineKindOf nt f S b k
 vec_kind nt (marks.Letter a) v f S b k e i h s w =
-    subst (λ x. LineKindOf nt f S x k) (sym i.1) (letter_kind nt v.part.spot h.0.core f S a i.0 k i.2 h.0.agrees.spot h.0.follows.count (λ x. no_used f S x s h.3) (stop_is _ k w))
+    subst (λ x. LineKindOf nt f S x k) (sym i.1) (letter_kind nt v.part.spot h.0.core f S a i.0 k i.2 h.0.agrees.spot h.0.follows.count (λ x. no_used f S x s h.3) (stopped_is _ k w))
 vec_kind nt (marks.Signs g) v f S b k e i h s w = silent_kind nt f S b (marks.Signs g) k e refl refl (λ x. sign_41 g (sym i ∙ x.0)) (vec_sign_kind v.part.spot g v k w)
   where
     sign_41 : (g : Sign) → sign_byte g ≢ 41
@@ -281,7 +271,7 @@ vec_kind nt (marks.Digit n) v f S b k e i h s w =
     let d = i.0 in
     let n35 : d.byte ≢ 35 = λ z. omega (arith, d.low) in
     let n44 : d.byte ≢ 44 = λ z. omega (arith, d.low) in
-    let table : Tabled nt c S ⊥ d.byte k = digit_fault nt v.part.spot v.part.row v.part.used v.part.sign c S ⊥ d k h.0.agrees.spot (subst (λ x. on_digit x v.part ≡ part_stopped k) i.2 (in_coordinate_err v.label v (part_step (marks.Digit n) v.part) k w)) in
+    let table : Tabled nt c S ⊥ d.byte k = digit_fault nt v.part.spot v.part.row v.part.used v.part.sign c S ⊥ d k h.0.agrees.spot (subst (λ x. on_digit x v.part ≡ stopped k) i.2 (in_coordinate_err v.label v (part_step (marks.Digit n) v.part) k w)) in
     subst (λ x. LineKindOf nt f S x k) (sym i.1) (front nt f S d.byte k n35 (λ x. not_41_digit d x.0) n44
     (subst (λ o. Suffix nt o f.count S d.byte k) (sym fol.other) (subst (λ x. Suffix nt c.other x S d.byte k) (sym fol.count) (suffix_of nt c.mark c.other c.count S ⊥ d.byte k n35 n44 table))))
 vec_kind nt marks.Blank v f S b k e i h s w = silent_kind nt f S b marks.Blank k e refl refl (λ x. blank_41 i.0 (sym i.1 ∙ x.0)) (blank_fault v.part.spot v.part.row v.part.used v.part.sign k (in_coordinate_err false v (part_step marks.Blank v.part) k w))
@@ -290,9 +280,9 @@ vec_kind nt marks.Blank v f S b k e i h s w = silent_kind nt f S b marks.Blank k
     blank_41 space e = omega arith
     blank_41 g e = omega arith
 vec_kind nt marks.Slash v f S b k e i h s w = silent_kind nt f S b marks.Slash k e refl refl (λ x. absurd (omega (arith, i, x.0))) (slash_fault v.part.spot v.part.row v.part.used v.part.sign k (in_coordinate_err false v (part_step marks.Slash v.part) k w))
-vec_kind nt marks.Hash v f S b k e i h s w = inl (i, stop_is _ k w)
-vec_kind nt marks.Open v f S b k e i h s w = silent_kind nt f S b marks.Open k e refl refl (λ x. absurd (omega (arith, i, x.0))) (stop_is _ k w)
-vec_kind nt marks.Other v f S b k e i h s w = silent_kind nt f S b marks.Other k e refl refl (λ x. let z : mark nt 41 ≡ marks.Other = subst (λ y. mark nt y ≡ marks.Other) x.0 e in cc) (stop_is _ k w)
+vec_kind nt marks.Hash v f S b k e i h s w = inl (i, stopped_is _ k w)
+vec_kind nt marks.Open v f S b k e i h s w = silent_kind nt f S b marks.Open k e refl refl (λ x. absurd (omega (arith, i, x.0))) (stopped_is _ k w)
+vec_kind nt marks.Other v f S b k e i h s w = silent_kind nt f S b marks.Other k e refl refl (λ x. let z : mark nt 41 ≡ marks.Other = subst (λ y. mark nt y ≡ marks.Other) x.0 e in cc) (stopped_is _ k w)
 
 -- ---- faults between vectors
 
@@ -324,22 +314,22 @@ not_fresh_43 m n e (inl x) = omega (arith, e, x)
 not_fresh_43 m n e (inr (inl x)) = omega (arith, e, x)
 not_fresh_43 m n e (inr (inr x)) = omega (arith, e, x.0)
 
-pub shut_kind : (nt : Notation) → (m : Mark) (v : List Part) (f : LineSeen) (S : Axis → Bool) (b : ℕ) (k : TextKind) → mark nt b ≡ m → IsMark nt b m → LineAgrees (places.Closed v) f → ((x : Axis) → S x ≡ uses x f.used) → closed_step m v ≡ place_stopped k → LineKindOf nt f S b k
+pub shut_kind : (nt : Notation) → (m : Mark) (v : List Part) (f : LineSeen) (S : Axis → Bool) (b : ℕ) (k : TextKind) → mark nt b ≡ m → IsMark nt b m → LineAgrees (places.Closed v) f → ((x : Axis) → S x ≡ uses x f.used) → closed_step m v ≡ stopped k → LineKindOf nt f S b k
 shut_kind nt m v f S b k e i h s w = by_mark m v f S b k e i h s w (ap is_end_of_part h.2) (not_fresh_41 f.mark f.commas h.2 h.1)
   where
-    by_mark : (m : Mark) (v : List Part) (f : LineSeen) (S : Axis → Bool) (b : ℕ) (k : TextKind) → mark nt b ≡ m → IsMark nt b m → LineAgrees (places.Closed v) f → ((x : Axis) → S x ≡ uses x f.used) → closed_step m v ≡ place_stopped k → is_end_of_part f.mark ≡ false → (Fresh f.mark f.commas → ⊥) → LineKindOf nt f S b k
+    by_mark : (m : Mark) (v : List Part) (f : LineSeen) (S : Axis → Bool) (b : ℕ) (k : TextKind) → mark nt b ≡ m → IsMark nt b m → LineAgrees (places.Closed v) f → ((x : Axis) → S x ≡ uses x f.used) → closed_step m v ≡ stopped k → is_end_of_part f.mark ≡ false → (Fresh f.mark f.commas → ⊥) → LineKindOf nt f S b k
     by_mark marks.Blank v f S b k e i h s w n r = not_stopped _ k w
     by_mark (marks.Signs Plus) v f S b k e i h s w n r = not_stopped _ k w
-    by_mark marks.Hash v f S b k e i h s w n r = inl (i, stop_is _ k w)
-    by_mark m v f S b k e i h s w n r = between_kind nt m f S b k e i h.0 n r s (λ z. cc) (stop_is _ k w)
+    by_mark marks.Hash v f S b k e i h s w n r = inl (i, stopped_is _ k w)
+    by_mark m v f S b k e i h s w n r = between_kind nt m f S b k e i h.0 n r s (λ z. cc) (stopped_is _ k w)
 
-pub row_kind : (nt : Notation) → (m : Mark) (f : LineSeen) (S : Axis → Bool) (b : ℕ) (k : TextKind) → mark nt b ≡ m → IsMark nt b m → LineAgrees places.Behind f → ((x : Axis) → S x ≡ uses x f.used) → is_end_of_part f.mark ≡ false → (Fresh f.mark f.commas → ⊥) → behind_step m ≡ place_stopped k → LineKindOf nt f S b k
+pub row_kind : (nt : Notation) → (m : Mark) (f : LineSeen) (S : Axis → Bool) (b : ℕ) (k : TextKind) → mark nt b ≡ m → IsMark nt b m → LineAgrees places.Behind f → ((x : Axis) → S x ≡ uses x f.used) → is_end_of_part f.mark ≡ false → (Fresh f.mark f.commas → ⊥) → behind_step m ≡ stopped k → LineKindOf nt f S b k
 row_kind nt marks.Blank f S b k e i h s n r w = not_stopped _ k w
 row_kind nt marks.Open f S b k e i h s n r w = not_stopped _ k w
 row_kind nt marks.Hash f S b k e i h s n r w = not_stopped _ k w
-row_kind nt m f S b k e i h s n r w = between_kind nt m f S b k e i h.0 n r s (λ z. cc) (stop_is _ k w)
+row_kind nt m f S b k e i h s n r w = between_kind nt m f S b k e i h.0 n r s (λ z. cc) (stopped_is _ k w)
 
-pub place_kind : (nt : Notation) → (p : LinePlace) (f : LineSeen) (S : Axis → Bool) (b : ℕ) (k : TextKind) → LineAgrees p f → ((x : Axis) → S x ≡ uses x f.used) → place_step nt (mark nt b) p ≡ place_stopped k → LineKindOf nt f S b k
+pub place_kind : (nt : Notation) → (p : LinePlace) (f : LineSeen) (S : Axis → Bool) (b : ℕ) (k : TextKind) → LineAgrees p f → ((x : Axis) → S x ≡ uses x f.used) → place_step nt (mark nt b) p ≡ stopped k → LineKindOf nt f S b k
 place_kind nt places.Start f S b k h s w = start_kind nt (mark nt b) f S b k refl (mark_is nt b) h s w
 place_kind nt (places.Operation t) f S b k h s w = op_kind nt (mark nt b) t f S b k refl (mark_is nt b) h s w
 place_kind nt (places.Coordinates v) f S b k h s w = vec_kind nt (mark nt b) v f S b k refl (mark_is nt b) h s w
@@ -347,14 +337,14 @@ place_kind nt (places.Closed v) f S b k h s w = shut_kind nt (mark nt b) v f S b
 place_kind nt places.Behind f S b k h s w = row_kind nt (mark nt b) f S b k refl (mark_is nt b) h s (ap is_end_of_part h.1) (not_fresh_43 f.mark f.commas h.1) w
 place_kind nt (places.Comment o) f S b k h s w = not_stopped _ k w
 
-pub at_place_err : (r : Result LinePlace TextKind) (vs : List Vector) (k : TextKind) → at_place r vs ≡ line_stopped k → r ≡ place_stopped k
+pub at_place_err : (r : Result LinePlace TextKind) (vs : List Vector) (k : TextKind) → at_place r vs ≡ stopped k → r ≡ stopped k
 at_place_err (Ok p) vs k e = absurd cc
-at_place_err (Err l) vs k e = let z : l ≡ k = cc in ap place_stopped z
+at_place_err (Err l) vs k e = let z : l ≡ k = cc in ap stopped z
 
 pub line_uses : (bs : List ℕ) (x : Axis) → line_stands x false bs ≡ uses x (line_seen line_seen_start bs).used
 line_uses bs X = refl
 line_uses bs x = refl
 
-pub line_kind : (nt : Notation) → (before : List ℕ) (b : ℕ) (s : LineState) (k : TextKind) → line_run nt (Ok line_start) before ≡ line_going s → line_step nt (mark nt b) s ≡ line_stopped k → HasLineKind nt before b k
+pub line_kind : (nt : Notation) → (before : List ℕ) (b : ℕ) (s : LineState) (k : TextKind) → line_run nt (Ok line_start) before ≡ going s → line_step nt (mark nt b) s ≡ stopped k → HasLineKind nt before b k
 line_kind nt before b s k w e =
     place_kind nt s.place (line_seen line_seen_start before) (λ a. line_stands a false before) b k (line_agrees nt before s w) (line_uses before) (at_place_err (place_step nt (mark nt b) s.place) (with_vector (completed (mark nt b) s.place) s.vectors) k e)

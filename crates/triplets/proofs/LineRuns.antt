@@ -23,46 +23,46 @@ use Rattle.triplets.specs.declared.line.LinePlace.{LinePlace}
 use Rattle.triplets.specs.declared.line.LinePlace.TheVariants as places
 use Rattle.triplets.specs.Marks.{mark}
 use Rattle.triplets.specs.PartReading.{begin, settled, part_step}
-use Rattle.triplets.specs.TripletReading.{start, step, value}
+use Rattle.triplets.specs.TripletReading.{start, step, value, operation_byte}
 use Rattle.triplets.specs.Grammar.{Blank, blanks_text, sign_byte, Digit, digits_text, Numerator, numerator_text, Term, Lead, bare, sign, more, Written, ThirdPart, part_text, part_row, third_text, third_row}
 use Rattle.triplets.specs.Lines.{IsFirst, IsNumber, Coordinate, coordinate_text, coordinate_value, third_coordinate_text, third_coordinate_value, Centring, centring_text, centring_value, Centrings, one, further, centrings_text, centrings_value, Label, label_text, Form, empty, operation, row, form_text, form_value, comment_text, IsLine}
-use Rattle.triplets.specs.LineReading.{opened, in_operation, in_coordinate, next_coordinate, coordinate_comma, closed_at, is_digits, vector_step, start_step, comment_behind, operation_step, LineState, line_start, at_place, line_step, line_run, line_value, some_operation, listing_by}
-use Rattle.triplets.proofs.Partials.{is_plain, fine}
-use Rattle.triplets.proofs.Wholes.{going, found}
-use Rattle.triplets.proofs.LineBounds.{placed}
+use Rattle.triplets.specs.LineReading.{opened, in_operation, in_coordinate, next_coordinate, coordinate_comma, closed_at, is_digits, vector_step, start_step, comment_behind, operation_step, LineState, line_start, at_place, line_step, line_run, line_value, some_operation, listing_by, line_byte}
+use Rattle.triplets.proofs.Partials.{is_plain}
+use Rattle.triplets.proofs.Wholes.{found}
 use Rattle.triplets.specs.Denominators.{Denominator, denominator_text}
 use Rattle.triplets.proofs.Divisors.{at_most_unit}
 use Rattle.triplets.proofs.NumberTrees.{numerator_tree}
 use Rattle.triplets.specs.TripletReading.{run, value_at}
 use Rattle.triplets.specs.Grammar.{space, tab, carriage_return, letter, multiple, whole, fraction, term_text, IsLead, IsNew, lead_letters}
 use Rattle.triplets.proofs.Bytes.{mark_digit, mark_sign}
-use Rattle.triplets.proofs.PartRuns.{run_part, run_then, after_state, behind_state, lead_state, term_state}
+use Rattle.triplets.proofs.PartRuns.{run_part, after_state, behind_state, lead_state, term_state, part_byte}
 use Rattle.triplets.proofs.Written.{written_run, term_run, after_run, settled_after, still_begin, still_signed}
-use Rattle.triplets.proofs.Wholes.{rows_run, last_state, last_value, err_part, run_err, going_is}
-use Rattle.triplets.proofs.LineBegun.{line_going, lists, line_run-append, state_of, no_label}
+use Rattle.triplets.proofs.Wholes.{rows_run, last_state, last_value}
+use Rattle.triplets.proofs.LineBegun.{lists, state_of, no_label}
+use Rattle.triplets.proofs.Runs.{going, going_is, run-append, run_then, no_run, follows}
 
-line_then : (nt : Notation) → (s t u : LineState) (xs ys : List ℕ) → line_run nt (Ok s) xs ≡ line_going t → line_run nt (Ok t) ys ≡ line_going u → line_run nt (Ok s) (xs ++ ys) ≡ line_going u
-line_then nt s t u xs ys p q = line_run-append nt (Ok s) xs ys ∙ (ap (λ (r : Result LineState TextKind). line_run nt r ys) p ∙ q)
+line_then : (nt : Notation) → (s t u : LineState) (xs ys : List ℕ) → line_run nt (Ok s) xs ≡ going t → line_run nt (Ok t) ys ≡ going u → line_run nt (Ok s) (xs ++ ys) ≡ going u
+line_then nt s t u = run_then (line_byte nt) (Ok s) (Ok t) (Ok u)
 
 -- one byte and then more
-byte_then : (nt : Notation) → (b : ℕ) (m : Mark) (s t u : LineState) (ys : List ℕ) → mark nt b ≡ m → line_step nt m s ≡ line_going t → line_run nt (Ok t) ys ≡ line_going u → line_run nt (Ok s) (b ∷ ys) ≡ line_going u
+byte_then : (nt : Notation) → (b : ℕ) (m : Mark) (s t u : LineState) (ys : List ℕ) → mark nt b ≡ m → line_step nt m s ≡ going t → line_run nt (Ok t) ys ≡ going u → line_run nt (Ok s) (b ∷ ys) ≡ going u
 byte_then nt b m s t u ys i p q = ap (λ (r : Result LineState TextKind). line_run nt r ys) (ap (λ x. line_step nt x s) i ∙ p) ∙ q
 
 -- ---- blanks
 
-still_start : (nt : Notation) → (vs : List Vector) (bs : List Blank) → line_run nt (Ok (state_of places.Start vs)) (blanks_text bs) ≡ line_going (state_of places.Start vs)
+still_start : (nt : Notation) → (vs : List Vector) (bs : List Blank) → line_run nt (Ok (state_of places.Start vs)) (blanks_text bs) ≡ going (state_of places.Start vs)
 still_start nt vs [] = refl
 still_start nt vs (space ∷ bs) = still_start nt vs bs
 still_start nt vs (tab ∷ bs) = still_start nt vs bs
 still_start nt vs (carriage_return ∷ bs) = still_start nt vs bs
 
-still_behind_row : (nt : Notation) → (vs : List Vector) (bs : List Blank) → line_run nt (Ok (state_of places.Behind vs)) (blanks_text bs) ≡ line_going (state_of places.Behind vs)
+still_behind_row : (nt : Notation) → (vs : List Vector) (bs : List Blank) → line_run nt (Ok (state_of places.Behind vs)) (blanks_text bs) ≡ going (state_of places.Behind vs)
 still_behind_row nt vs [] = refl
 still_behind_row nt vs (space ∷ bs) = still_behind_row nt vs bs
 still_behind_row nt vs (tab ∷ bs) = still_behind_row nt vs bs
 still_behind_row nt vs (carriage_return ∷ bs) = still_behind_row nt vs bs
 
-still_closed : (nt : Notation) → (v : List Part) (vs : List Vector) (bs : List Blank) → line_run nt (Ok (state_of (places.Closed v) vs)) (blanks_text bs) ≡ line_going (state_of (places.Closed v) vs)
+still_closed : (nt : Notation) → (v : List Part) (vs : List Vector) (bs : List Blank) → line_run nt (Ok (state_of (places.Closed v) vs)) (blanks_text bs) ≡ going (state_of (places.Closed v) vs)
 still_closed nt v vs [] = refl
 still_closed nt v vs (space ∷ bs) = still_closed nt v vs bs
 still_closed nt v vs (tab ∷ bs) = still_closed nt v vs bs
@@ -70,13 +70,13 @@ still_closed nt v vs (carriage_return ∷ bs) = still_closed nt v vs bs
 
 -- ---- a comment
 
-comment_run : (nt : Notation) → (o : Option Motion3) (vs : List Vector) (cs : List ℕ) → line_run nt (Ok (state_of (places.Comment o) vs)) cs ≡ line_going (state_of (places.Comment o) vs)
+comment_run : (nt : Notation) → (o : Option Motion3) (vs : List Vector) (cs : List ℕ) → line_run nt (Ok (state_of (places.Comment o) vs)) cs ≡ going (state_of (places.Comment o) vs)
 comment_run nt o vs [] = refl
 comment_run nt o vs (c ∷ cs) = comment_run nt o vs cs
 
 record Commented (nt : Notation) (p : LinePlace) (vs : List Vector) (a : Listing) : Type 0 where
   of : Option Motion3
-  step_is : line_step nt marks.Hash (state_of p vs) ≡ line_going (state_of (places.Comment of) vs)
+  step_is : line_step nt marks.Hash (state_of p vs) ≡ going (state_of (places.Comment of) vs)
   value_is : line_value nt (state_of (places.Comment of) vs) ≡ lists a
 
 commented_operation : (nt : Notation) → (v : Option Motion3) (t : TripletReader) (vs : List Vector) (a : Listing) → value nt t ≡ v → listing_by (some_operation v) vs ≡ lists a → Commented nt (places.Operation t) vs a
@@ -93,7 +93,7 @@ commented nt (places.Comment o) vs a e = record { of = o; step_is = refl; value_
 
 pub record IsLineRead (nt : Notation) (bytes : List ℕ) (a : Listing) : Type 0 where
   pub last : LineState
-  pub run_is : line_run nt (Ok line_start) bytes ≡ line_going last
+  pub run_is : line_run nt (Ok line_start) bytes ≡ going last
   pub value_is : line_value nt last ≡ lists a
 
 with_comment : (nt : Notation) → (text : List ℕ) (c : Option (List ℕ)) (a : Listing) → IsLineRead nt text a → IsLineRead nt (text ++ comment_text c) a
@@ -109,39 +109,33 @@ with_comment nt text (Some cs) a h =
 
 -- ---- an operation
 
-operation_at : (nt : Notation) → (m : Mark) (t u : TripletReader) → step nt m t ≡ going u → operation_step nt m t ≡ placed (places.Operation u)
+operation_at : (nt : Notation) → (m : Mark) (t u : TripletReader) → step nt m t ≡ going u → operation_step nt m t ≡ going (places.Operation u)
 operation_at nt marks.Hash t u e = absurd cc
 operation_at nt m t u e = ap in_operation e
 
 abbrev in_op : TripletReader → LineState
 in_op t = state_of (places.Operation t) []
 
-operation_by : (nt : Notation) → (r : Result TripletReader TextKind) (b : ℕ) (bs : List ℕ) (t u : TripletReader) → ((x : TripletReader) → run nt (Ok x) bs ≡ going u → line_run nt (Ok (in_op x)) bs ≡ line_going (in_op u)) →
-    step nt (mark nt b) t ≡ r → run nt r bs ≡ going u → line_run nt (Ok (in_op t)) (b ∷ bs) ≡ line_going (in_op u)
-operation_by nt (Err k) b bs t u then_on h e = absurd (run_err nt k bs u e)
-operation_by nt (Ok x) b bs t u then_on h e = ap (λ (r : Result LinePlace TextKind). line_run nt (at_place r []) bs) (operation_at nt (mark nt b) t x h) ∙ then_on x e
-
-operation_run : (nt : Notation) → (bs : List ℕ) (t u : TripletReader) → run nt (Ok t) bs ≡ going u → line_run nt (Ok (in_op t)) bs ≡ line_going (in_op u)
-operation_run nt [] t u e = ap (λ (x : TripletReader). line_going (in_op x)) (sym (going_is t u e))
-operation_run nt (b ∷ bs) t u e = operation_by nt (step nt (mark nt b) t) b bs t u (λ x. operation_run nt bs x u) refl e
+operation_run : (nt : Notation) → (bs : List ℕ) (t u : TripletReader) → run nt (Ok t) bs ≡ going u → line_run nt (Ok (in_op t)) bs ≡ going (in_op u)
+operation_run nt = follows (operation_byte nt) (line_byte nt) in_op (λ b t u e. ap (λ (r : Result LinePlace TextKind). at_place r []) (operation_at nt (mark nt b) t u e))
 
 -- from the start of a line
 abbrev FromStart : (nt : Notation) → List ℕ → TripletReader → Type 0
-FromStart nt bs u = ((line_run nt (Ok line_start) bs ≡ line_going line_start) × (u ≡ start)) ⊎ (line_run nt (Ok line_start) bs ≡ line_going (in_op u))
+FromStart nt bs u = ((line_run nt (Ok line_start) bs ≡ going line_start) × (u ≡ start)) ⊎ (line_run nt (Ok line_start) bs ≡ going (in_op u))
 
-first_by : (nt : Notation) → (m : Mark) (r : Result TripletReader TextKind) (bs : List ℕ) (u : TripletReader) → start_step nt m ≡ in_operation (step nt m start) → step nt m start ≡ r → run nt r bs ≡ going u → line_run nt (at_place (start_step nt m) []) bs ≡ line_going (in_op u)
-first_by nt m (Err k) bs u i h e = absurd (run_err nt k bs u e)
+first_by : (nt : Notation) → (m : Mark) (r : Result TripletReader TextKind) (bs : List ℕ) (u : TripletReader) → start_step nt m ≡ in_operation (step nt m start) → step nt m start ≡ r → run nt r bs ≡ going u → line_run nt (at_place (start_step nt m) []) bs ≡ going (in_op u)
+first_by nt m (Err k) bs u i h e = (no_run (operation_byte nt) k bs u e)
 first_by nt m (Ok x) bs u i h e = ap (λ (r : Result LinePlace TextKind). line_run nt (at_place r []) bs) (i ∙ ap in_operation h) ∙ operation_run nt bs x u e
 
 abbrev FromMark : (nt : Notation) → Mark → List ℕ → TripletReader → Type 0
-FromMark nt m bs u = ((line_run nt (at_place (start_step nt m) []) bs ≡ line_going line_start) × (u ≡ start)) ⊎ (line_run nt (at_place (start_step nt m) []) bs ≡ line_going (in_op u))
+FromMark nt m bs u = ((line_run nt (at_place (start_step nt m) []) bs ≡ going line_start) × (u ≡ start)) ⊎ (line_run nt (at_place (start_step nt m) []) bs ≡ going (in_op u))
 
 start_by : (nt : Notation) → (m : Mark) (bs : List ℕ) (u : TripletReader) → (run nt (Ok start) bs ≡ going u → FromStart nt bs u) → run nt (step nt m start) bs ≡ going u → FromMark nt m bs u
 start_by nt marks.Blank bs u h e = h e
 start_by nt (marks.Signs s) bs u h e = inr (first_by nt (marks.Signs s) (step nt (marks.Signs s) start) bs u refl refl e)
 start_by nt (marks.Letter a) bs u h e = inr (first_by nt (marks.Letter a) (step nt (marks.Letter a) start) bs u refl refl e)
 start_by nt (marks.Digit n) bs u h e = inr (first_by nt (marks.Digit n) (step nt (marks.Digit n) start) bs u refl refl e)
-start_by nt m bs u h e = absurd (run_err nt _ bs u e)
+start_by nt m bs u h e = (no_run (operation_byte nt) _ bs u e)
 
 from_start : (nt : Notation) → (bs : List ℕ) (u : TripletReader) → run nt (Ok start) bs ≡ going u → FromStart nt bs u
 from_start nt [] u e = inl (refl, going_is start u e)
@@ -155,7 +149,7 @@ not_first : (nt : Notation) (v w : Written nt) (x : ThirdPart nt) → nth_of (la
 not_first Triplets v w x e = cc
 not_first Pairs v w x e = cc
 
-bare_operation : (nt : Notation) → (v w : Written nt) (x : ThirdPart nt) → line_run nt (Ok line_start) (part_text nt v ++ (44 ∷ (part_text nt w ++ third_text nt x))) ≡ line_going (in_op (last_state nt v w x))
+bare_operation : (nt : Notation) → (v w : Written nt) (x : ThirdPart nt) → line_run nt (Ok line_start) (part_text nt v ++ (44 ∷ (part_text nt w ++ third_text nt x))) ≡ going (in_op (last_state nt v w x))
 bare_operation nt v w x =
     elim (from_start nt (part_text nt v ++ (44 ∷ (part_text nt w ++ third_text nt x))) (last_state nt v w x) (rows_run nt v w x)) [
       | inl h ↦ absurd (not_first nt v w x (ap nth_of h.1))
@@ -207,7 +201,7 @@ labels nt l (b ∷ bs) = labels nt (is_digit_mark (mark nt b) && l) bs
 abbrev vector_at : VectorReader → PartReader → Bool → VectorReader
 vector_at v p l = record v { part = p; label = l }
 
-plain_at : (nt : Notation) → (m : Mark) (v : VectorReader) (p q : PartReader) (l : Bool) → is_plain m ≡ true → part_step m p ≡ fine q → vector_step nt m (vector_at v p l) ≡ placed (places.Coordinates (vector_at v q (is_digit_mark m && l)))
+plain_at : (nt : Notation) → (m : Mark) (v : VectorReader) (p q : PartReader) (l : Bool) → is_plain m ≡ true → part_step m p ≡ going q → vector_step nt m (vector_at v p l) ≡ going (places.Coordinates (vector_at v q (is_digit_mark m && l)))
 plain_at nt marks.Blank v p q l i e = ap (in_coordinate false (vector_at v p l)) e
 plain_at nt (marks.Digit n) v p q l i e = ap (in_coordinate l (vector_at v p l)) e
 plain_at nt marks.Slash v p q l i e = ap (in_coordinate false (vector_at v p l)) e
@@ -217,13 +211,13 @@ abbrev in_v : VectorReader → List Vector → LineState
 in_v v vs = state_of (places.Coordinates v) vs
 
 plain_by : (nt : Notation) → (r : Result PartReader TextKind) (b : ℕ) (bs : List ℕ) (v : VectorReader) (p q : PartReader) (l : Bool) (vs : List Vector) →
-    ((x : PartReader) (k : Bool) → run_part nt (Ok x) bs ≡ fine q → line_run nt (Ok (in_v (vector_at v x k) vs)) bs ≡ line_going (in_v (vector_at v q (labels nt k bs)) vs)) →
-    is_plain (mark nt b) ≡ true → part_step (mark nt b) p ≡ r → run_part nt r bs ≡ fine q → line_run nt (Ok (in_v (vector_at v p l) vs)) (b ∷ bs) ≡ line_going (in_v (vector_at v q (labels nt l (b ∷ bs))) vs)
-plain_by nt (Err k) b bs v p q l vs then_on i h e = absurd (err_part nt k bs q e)
+    ((x : PartReader) (k : Bool) → run_part nt (Ok x) bs ≡ going q → line_run nt (Ok (in_v (vector_at v x k) vs)) bs ≡ going (in_v (vector_at v q (labels nt k bs)) vs)) →
+    is_plain (mark nt b) ≡ true → part_step (mark nt b) p ≡ r → run_part nt r bs ≡ going q → line_run nt (Ok (in_v (vector_at v p l) vs)) (b ∷ bs) ≡ going (in_v (vector_at v q (labels nt l (b ∷ bs))) vs)
+plain_by nt (Err k) b bs v p q l vs then_on i h e = (no_run (part_byte nt) k bs q e)
 plain_by nt (Ok x) b bs v p q l vs then_on i h e = ap (λ (r : Result LinePlace TextKind). line_run nt (at_place r vs) bs) (plain_at nt (mark nt b) v p x l i h) ∙ then_on x (is_digit_mark (mark nt b) && l) e
 
-plain_run : (nt : Notation) → (bs : List ℕ) (v : VectorReader) (p q : PartReader) (l : Bool) (vs : List Vector) → AllPlain nt bs → run_part nt (Ok p) bs ≡ fine q → line_run nt (Ok (in_v (vector_at v p l) vs)) bs ≡ line_going (in_v (vector_at v q (labels nt l bs)) vs)
-plain_run nt [] v p q l vs h e = let z : q ≡ p = cc in ap (λ (x : PartReader). line_going (in_v (vector_at v x l) vs)) (sym z)
+plain_run : (nt : Notation) → (bs : List ℕ) (v : VectorReader) (p q : PartReader) (l : Bool) (vs : List Vector) → AllPlain nt bs → run_part nt (Ok p) bs ≡ going q → line_run nt (Ok (in_v (vector_at v p l) vs)) bs ≡ going (in_v (vector_at v q (labels nt l bs)) vs)
+plain_run nt [] v p q l vs h e = let z : q ≡ p = cc in ap (λ (x : PartReader). going (in_v (vector_at v x l) vs)) (sym z)
 plain_run nt (b ∷ bs) v p q l vs h e = plain_by nt (part_step (mark nt b) p) b bs v p q l vs (λ x k. plain_run nt bs v x q k vs h.1) h.0 refl e
 
 unlabelled : (nt : Notation) → (bs : List ℕ) → labels nt false bs ≡ false
@@ -239,7 +233,7 @@ unlabelled nt (b ∷ bs) = ap (λ l. labels nt l bs) (and_false (is_digit_mark (
 record ReadCoordinate (nt : Notation) (c : Coordinate nt) (v : VectorReader) (l : Bool) (vs : List Vector) : Type 0 where
   label : Bool
   label_is : l ≡ false → label ≡ false
-  run_is : line_run nt (Ok (in_v (vector_at v begin l) vs)) (coordinate_text nt c) ≡ line_going (in_v (vector_at v (after_state c.part.lead c.part.last c.part.after) label) vs)
+  run_is : line_run nt (Ok (in_v (vector_at v begin l) vs)) (coordinate_text nt c) ≡ going (in_v (vector_at v (after_state c.part.lead c.part.last c.part.after) label) vs)
 
 tail_plain : (nt : Notation) → (t : Term) (bs : List Blank) → IsNumber t → AllPlain nt (term_text t ++ blanks_text bs)
 tail_plain nt t bs h = plain_append nt (term_text t) (blanks_text bs) (plain_term nt t h) (plain_blanks nt bs)
@@ -275,14 +269,14 @@ read_lead nt (sign fs s cs) t bs good new first number v b vs =
           (sign_vectors s v (labels nt b (blanks_text fs)) vs fs cs)
           (plain_run nt rest v signed (after_state (sign fs s cs) t bs) false vs
           (plain_append nt (blanks_text cs) (term_text t ++ blanks_text bs) (plain_blanks nt cs) (tail_plain nt t bs number))
-          (run_then nt (Ok signed) (Ok signed) (Ok (after_state (sign fs s cs) t bs)) (blanks_text cs) (term_text t ++ blanks_text bs)
+          (run_then (part_byte nt) (Ok signed) (Ok signed) (Ok (after_state (sign fs s cs) t bs)) (blanks_text cs) (term_text t ++ blanks_text bs)
           (still_signed nt signed.row signed.used signed.sign cs)
-          (run_then nt (Ok signed) (Ok (term_state (sign fs s cs) t)) (Ok (after_state (sign fs s cs) t bs)) (term_text t) (blanks_text bs)
+          (run_then (part_byte nt) (Ok signed) (Ok (term_state (sign fs s cs) t)) (Ok (after_state (sign fs s cs) t bs)) (term_text t) (blanks_text bs)
           (term_run nt (sign fs s cs) t new) (after_run nt (sign fs s cs) t bs)))
-          ∙ ap (λ x. line_going (in_v (vector_at v (after_state (sign fs s cs) t bs) x) vs)) (unlabelled nt rest)));
+          ∙ ap (λ x. going (in_v (vector_at v (after_state (sign fs s cs) t bs) x) vs)) (unlabelled nt rest)));
     }
   where
-    sign_vectors : (s : Sign) (v : VectorReader) (l : Bool) (vs : List Vector) (fs cs : List Blank) → line_step nt (marks.Signs s) (in_v (vector_at v begin l) vs) ≡ line_going (in_v (vector_at v (lead_state (sign fs s cs)) false) vs)
+    sign_vectors : (s : Sign) (v : VectorReader) (l : Bool) (vs : List Vector) (fs cs : List Blank) → line_step nt (marks.Signs s) (in_v (vector_at v begin l) vs) ≡ going (in_v (vector_at v (lead_state (sign fs s cs)) false) vs)
     sign_vectors Plus v l vs fs cs = refl
     sign_vectors Minus v l vs fs cs = refl
 
@@ -308,7 +302,7 @@ last_row nt e = behind_state e.part.lead e.part.last
 
 close_at_coordinate : (nt : Notation) (v : VectorReader) (e : Coordinate nt) (l : Bool) (vs : List Vector) → l ≡ false → line_step nt marks.Close (in_v (vector_at v (after nt e) l) vs) ≡ at_place (closed_at nt v.nth (Some (last_row nt e)) (vector_at v (after nt e) l)) vs
 close_at_coordinate nt v e l vs h =
-    ap (λ (r : Result LinePlace TextKind). at_place r vs) (no_label l (is_digits (after nt e).spot) (placed (places.Operation start)) (closed_at nt v.nth (settled (after nt e)) (vector_at v (after nt e) l)) h)
+    ap (λ (r : Result LinePlace TextKind). at_place r vs) (no_label l (is_digits (after nt e).spot) (going (places.Operation start)) (closed_at nt v.nth (settled (after nt e)) (vector_at v (after nt e) l)) h)
     ∙ ap (λ (o : Option PartReader). at_place (closed_at nt v.nth o (vector_at v (after nt e) l)) vs) (settled_after e.part.lead e.part.last e.part.after)
 
 -- the vector as an array
@@ -316,8 +310,8 @@ abbrev pub centring_parts : (nt : Notation) → Centring nt → List Part
 centring_parts nt v = parts_with (coordinate_value nt v.one) (coordinate_value nt v.two) (third_coordinate_value nt v.three)
 
 -- from behind the second coordinate on
-close_run : (nt : Notation) (v : Centring nt) (l : Bool) (vs : List Vector) (last : LineState) (rest : List ℕ) → l ≡ false → line_run nt (Ok (state_of (places.Closed (centring_parts nt v)) vs)) rest ≡ line_going last →
-    line_run nt (Ok (in_v (vector_at (second_of nt v.one) (after nt v.two) l) vs)) (third_coordinate_text nt v.three ++ (41 ∷ rest)) ≡ line_going last
+close_run : (nt : Notation) (v : Centring nt) (l : Bool) (vs : List Vector) (last : LineState) (rest : List ℕ) → l ≡ false → line_run nt (Ok (state_of (places.Closed (centring_parts nt v)) vs)) rest ≡ going last →
+    line_run nt (Ok (in_v (vector_at (second_of nt v.one) (after nt v.two) l) vs)) (third_coordinate_text nt v.three ++ (41 ∷ rest)) ≡ going last
 close_run Triplets v l vs last rest h w =
     let nt : Notation = Triplets in
     let third : VectorReader = third_of nt v.one v.two in
@@ -330,7 +324,7 @@ close_run Pairs v l vs last rest h w =
 
 -- from the opening bracket on
 inside_run : (nt : Notation) → (l : Bool) (v : Centring nt) (vs : List Vector) →
-    line_run nt (Ok (in_v (opened l) vs)) (coordinate_text nt v.one ++ (44 ∷ (coordinate_text nt v.two ++ (third_coordinate_text nt v.three ++ (41 ∷ (blanks_text v.between ++ 43 ∷ [])))))) ≡ line_going (state_of places.Behind (vs ++ centring_value nt v ∷ []))
+    line_run nt (Ok (in_v (opened l) vs)) (coordinate_text nt v.one ++ (44 ∷ (coordinate_text nt v.two ++ (third_coordinate_text nt v.three ++ (41 ∷ (blanks_text v.between ++ 43 ∷ [])))))) ≡ going (state_of places.Behind (vs ++ centring_value nt v ∷ []))
 inside_run nt l v vs =
     let c = read_coordinate nt v.one (opened l) l vs in
     let d = read_coordinate nt v.two (second_of nt v.one) false vs in
@@ -348,7 +342,7 @@ inside_run nt l v vs =
 abbrev inside_text : (nt : Notation) → Centring nt → List ℕ
 inside_text nt v = coordinate_text nt v.one ++ (44 ∷ (coordinate_text nt v.two ++ (third_coordinate_text nt v.three ++ (41 ∷ (blanks_text v.between ++ 43 ∷ [])))))
 
-pub centrings_run : (nt : Notation) → (r : Centrings nt) → line_run nt (Ok line_start) (centrings_text nt r) ≡ line_going (state_of places.Behind (centrings_value nt r))
+pub centrings_run : (nt : Notation) → (r : Centrings nt) → line_run nt (Ok line_start) (centrings_text nt r) ≡ going (state_of places.Behind (centrings_value nt r))
 centrings_run nt (one v) =
     line_then nt line_start line_start (state_of places.Behind (centrings_value nt (one v))) (blanks_text v.before) (40 ∷ inside_text nt v) (still_start nt [] v.before) (inside_run nt true v [])
 centrings_run nt (further r v) =
@@ -362,14 +356,14 @@ label_digits : (nt : Notation) → (ds : List Digit) → labels nt true (digits_
 label_digits nt [] = refl
 label_digits nt (d ∷ ds) = ap (λ m. labels nt (is_digit_mark m && true) (digits_text ds)) (mark_digit nt d) ∙ label_digits nt ds
 
-label_run : (nt : Notation) → (l : Label) → line_run nt (Ok line_start) (label_text (Some l)) ≡ line_going (in_op start)
+label_run : (nt : Notation) → (l : Label) → line_run nt (Ok line_start) (label_text (Some l)) ≡ going (in_op start)
 label_run nt l =
     let number : Term = whole l.number in
     let digits_at = in_v (vector_at (opened true) (term_state (bare []) number) true) [] in
     line_then nt line_start line_start (in_op start) (blanks_text l.before) (40 ∷ (numerator_text l.number ++ 41 ∷ [])) (still_start nt [] l.before)
     (line_then nt (in_v (opened true) []) digits_at (in_op start) (numerator_text l.number) (41 ∷ [])
     (plain_run nt (numerator_text l.number) (opened true) begin (term_state (bare []) number) true [] (plain_numerator nt l.number) (term_run nt (bare []) number tt)
-    ∙ ap (λ x. line_going (in_v (vector_at (opened true) (term_state (bare []) number) x) []))
+    ∙ ap (λ x. going (in_v (vector_at (opened true) (term_state (bare []) number) x) []))
     (ap (λ m. labels nt (is_digit_mark m && true) (digits_text l.number.others)) (mark_digit nt l.number.first) ∙ label_digits nt l.number.others))
     refl)
 

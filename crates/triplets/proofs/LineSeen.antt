@@ -30,14 +30,15 @@ use Rattle.triplets.specs.Rows.{unused, with_used}
 use Rattle.triplets.specs.PartReading.{begin, settled, part_step, on_blank, on_sign, on_sign_at, on_digit, on_slash, on_new_letter_at, with_letter, with_sign}
 use Rattle.triplets.specs.TripletReading.{start, in_part, next_part, comma_at, value, step}
 use Rattle.triplets.specs.Grammar.{Blank, space, tab, carriage_return, blank_byte, sign_byte, letter_byte, Digit}
-use Rattle.triplets.specs.LineReading.{opened, in_operation, in_coordinate, next_coordinate, coordinate_comma, closed_at, is_digits, coordinate_sign, vector_step, start_step, comment_behind, operation_step, closed_step, behind_step, place_step, completed, with_vector, LineState, line_start, line_step, line_run}
+use Rattle.triplets.specs.LineReading.{opened, in_operation, in_coordinate, next_coordinate, coordinate_comma, closed_at, is_digits, coordinate_sign, vector_step, start_step, comment_behind, operation_step, closed_step, behind_step, place_step, completed, with_vector, LineState, line_start, line_step, line_run, line_byte}
 use Rattle.triplets.specs.Faults.{is_digit, is_blank, is_letter, last_mark, last_other, digits_at_end}
 use Rattle.triplets.specs.LineFaults.{last_bracket, commas, line_stands, is_end_of_part}
 use Rattle.triplets.proofs.Bytes.{IsMark, mark_is}
-use Rattle.triplets.proofs.Partials.{fine, ok_is, err_is, passed, met, below_is}
+use Rattle.triplets.proofs.Partials.{passed, met, below_is}
 use Rattle.triplets.proofs.Seen.{Seen, nothing_seen, seen_step, seen_digit, Agrees, agrees_part, digit_true, digit_not_letter, at}
-use Rattle.triplets.proofs.LineBounds.{placed, placed_is}
-use Rattle.triplets.proofs.LineBegun.{line_going, run_line_stopped, going_line_is, placed_by, no_place}
+use Rattle.triplets.proofs.LineBegun.{placed_by}
+use Rattle.triplets.proofs.Runs.{going, going_is, not_going, no_run, follows, carries}
+use Rattle.triplets.specs.Runs.{run_by}
 
 -- what stands before, in words
 pub record LineSeen : Type 0 where
@@ -186,32 +187,32 @@ settles Behind = true
 pub spot_of : (p q : PartReader) → q ≡ p → settles q.spot ≡ settles p.spot
 spot_of p q e = ap (λ (x : PartReader). settles x.spot) e
 
-pub settles_blank : (spot : Spot) (r : rows.Row) (u : Used) (g : Sign) (q : PartReader) → on_blank (at r u g spot) ≡ fine q → settles q.spot ≡ settles spot
-settles_blank (Divided v) r u g q w = err_is _ q w
-settles_blank spot r u g q w = spot_of _ q (ok_is _ q w)
+pub settles_blank : (spot : Spot) (r : rows.Row) (u : Used) (g : Sign) (q : PartReader) → on_blank (at r u g spot) ≡ going q → settles q.spot ≡ settles spot
+settles_blank (Divided v) r u g q w = not_going _ q w
+settles_blank spot r u g q w = spot_of _ q (going_is _ q w)
 
-pub settles_sign : (spot : Spot) (r : rows.Row) (u : Used) (g s : Sign) (q : PartReader) → on_sign s (at r u g spot) ≡ fine q → settles q.spot ≡ false
-settles_sign Signed r u g s q w = err_is _ q w
-settles_sign (Divided v) r u g s q w = err_is _ q w
-settles_sign spot r u g s q w = spot_of _ q (ok_is _ q w)
+pub settles_sign : (spot : Spot) (r : rows.Row) (u : Used) (g s : Sign) (q : PartReader) → on_sign s (at r u g spot) ≡ going q → settles q.spot ≡ false
+settles_sign Signed r u g s q w = not_going _ q w
+settles_sign (Divided v) r u g s q w = not_going _ q w
+settles_sign spot r u g s q w = spot_of _ q (going_is _ q w)
 
-pub settles_letter : (spot : Spot) (r : rows.Row) (u : Used) (g : Sign) (a : Axis) (q : PartReader) → on_new_letter_at a spot (at r u g spot) ≡ fine q → settles q.spot ≡ true
-settles_letter Begin r u g a q w = spot_of (with_letter a 1 (at r u g Begin)) q (ok_is _ q w)
-settles_letter Signed r u g a q w = spot_of (with_letter a 1 (at r u g Signed)) q (ok_is _ q w)
-settles_letter (Digits n v) r u g a q w = spot_of (with_letter a v (at r u g (Digits n v))) q (ok_is _ q (met _ kinds.Coefficient _ q w).1)
-settles_letter spot r u g a q w = err_is _ q w
+pub settles_letter : (spot : Spot) (r : rows.Row) (u : Used) (g : Sign) (a : Axis) (q : PartReader) → on_new_letter_at a spot (at r u g spot) ≡ going q → settles q.spot ≡ true
+settles_letter Begin r u g a q w = spot_of (with_letter a 1 (at r u g Begin)) q (going_is _ q w)
+settles_letter Signed r u g a q w = spot_of (with_letter a 1 (at r u g Signed)) q (going_is _ q w)
+settles_letter (Digits n v) r u g a q w = spot_of (with_letter a v (at r u g (Digits n v))) q (going_is _ q (met _ kinds.Coefficient _ q w).1)
+settles_letter spot r u g a q w = not_going _ q w
 
-pub settles_digit : (spot : Spot) (r : rows.Row) (u : Used) (g : Sign) (d : ℕ) (q : PartReader) → on_digit d (at r u g spot) ≡ fine q → settles q.spot ≡ true
-settles_digit Begin r u g d q w = spot_of (at r u g (Digits 1 d)) q (ok_is _ q w)
-settles_digit Signed r u g d q w = spot_of (at r u g (Digits 1 d)) q (ok_is _ q w)
-settles_digit (Digits n v) r u g d q w = spot_of (at r u g (Digits (n + 1) (10 * v + d))) q (ok_is _ q (passed _ _ _ q w).1)
+pub settles_digit : (spot : Spot) (r : rows.Row) (u : Used) (g : Sign) (d : ℕ) (q : PartReader) → on_digit d (at r u g spot) ≡ going q → settles q.spot ≡ true
+settles_digit Begin r u g d q w = spot_of (at r u g (Digits 1 d)) q (going_is _ q w)
+settles_digit Signed r u g d q w = spot_of (at r u g (Digits 1 d)) q (going_is _ q w)
+settles_digit (Digits n v) r u g d q w = spot_of (at r u g (Digits (n + 1) (10 * v + d))) q (going_is _ q (passed _ _ _ q w).1)
 settles_digit (Divided v) r u g d q w = spot_of (at r u g (Below v (below_is _ _ _ q w).0)) q (below_is _ _ _ q w).2
 settles_digit (Below v t) r u g d q w = spot_of (at r u g (Below v (below_is _ _ _ q w).0)) q (below_is _ _ _ q w).2
-settles_digit Behind r u g d q w = err_is _ q w
+settles_digit Behind r u g d q w = not_going _ q w
 
-pub settles_slash : (spot : Spot) (r : rows.Row) (u : Used) (g : Sign) (q : PartReader) → on_slash (at r u g spot) ≡ fine q → settles q.spot ≡ false
-settles_slash (Digits n v) r u g q w = spot_of (at r u g (Divided v)) q (ok_is _ q w)
-settles_slash spot r u g q w = err_is _ q w
+pub settles_slash : (spot : Spot) (r : rows.Row) (u : Used) (g : Sign) (q : PartReader) → on_slash (at r u g spot) ≡ going q → settles q.spot ≡ false
+settles_slash (Digits n v) r u g q w = spot_of (at r u g (Divided v)) q (going_is _ q w)
+settles_slash spot r u g q w = not_going _ q w
 
 pub sign_no_end : (s : Sign) → is_end_of_part (sign_byte s) ≡ false
 sign_no_end Plus = refl
@@ -235,21 +236,21 @@ digit_end d = rw (digit_true d) refl
 pub mark_at : (f g : LineSeen) (b c : ℕ) (T : ℕ → Bool) (t : Bool) → b ≡ c → line_seen_step f c ≡ g → T g.mark ≡ t → T (line_seen_step f b).mark ≡ t
 mark_at f g b c T t e h s = subst (λ x. T (line_seen_step f x).mark ≡ t) (sym e) (subst (λ (x : LineSeen). T x.mark ≡ t) (sym h) s)
 
-pub ends_by : (nt : Notation) → (m : Mark) (f : LineSeen) (p q : PartReader) (b : ℕ) → IsMark nt b m → is_end_of_part f.mark ≡ settles p.spot → part_step m p ≡ fine q → is_end_of_part (line_seen_step f b).mark ≡ settles q.spot
+pub ends_by : (nt : Notation) → (m : Mark) (f : LineSeen) (p q : PartReader) (b : ℕ) → IsMark nt b m → is_end_of_part f.mark ≡ settles p.spot → part_step m p ≡ going q → is_end_of_part (line_seen_step f b).mark ≡ settles q.spot
 ends_by nt marks.Blank f p q b i h w = mark_at f _ b _ is_end_of_part _ i.1 (l_blank f i.0) (h ∙ sym (settles_blank p.spot p.row p.used p.sign q w))
 ends_by nt (marks.Signs s) f p q b i h w = mark_at f _ b _ is_end_of_part _ i (l_sign f s) (sign_no_end s ∙ sym (settles_sign p.spot p.row p.used p.sign s q w))
 ends_by nt (marks.Letter a) f p q b i h w = mark_at f _ b _ is_end_of_part _ i.1 (l_letter f a i.0) (letter_end a i.0 ∙ sym (settles_letter p.spot p.row p.used p.sign a q (passed _ _ _ q w).1))
 ends_by nt (marks.Digit n) f p q b i h w = mark_at f _ b _ is_end_of_part _ i.1 (l_digit f i.0) (digit_end i.0 ∙ sym (settles_digit p.spot p.row p.used p.sign n q w))
 ends_by nt marks.Slash f p q b i h w = mark_at f (line_seen_step f 47) b 47 is_end_of_part _ i refl (sym (settles_slash p.spot p.row p.used p.sign q w))
-ends_by nt m f p q b i h w = err_is _ q w
+ends_by nt m f p q b i h w = not_going _ q w
 
-pub digits_by : (nt : Notation) → (m : Mark) (f : LineSeen) (p q : PartReader) (b : ℕ) → IsMark nt b m → is_digit f.mark ≡ settles p.spot → ((a : Axis) → m ≡ marks.Letter a → ⊥) → part_step m p ≡ fine q → is_digit (line_seen_step f b).mark ≡ settles q.spot
+pub digits_by : (nt : Notation) → (m : Mark) (f : LineSeen) (p q : PartReader) (b : ℕ) → IsMark nt b m → is_digit f.mark ≡ settles p.spot → ((a : Axis) → m ≡ marks.Letter a → ⊥) → part_step m p ≡ going q → is_digit (line_seen_step f b).mark ≡ settles q.spot
 digits_by nt marks.Blank f p q b i h n w = mark_at f _ b _ is_digit _ i.1 (l_blank f i.0) (h ∙ sym (settles_blank p.spot p.row p.used p.sign q w))
 digits_by nt (marks.Signs s) f p q b i h n w = mark_at f _ b _ is_digit _ i (l_sign f s) (sign_no_digit s ∙ sym (settles_sign p.spot p.row p.used p.sign s q w))
 digits_by nt (marks.Letter a) f p q b i h n w = absurd (n a refl)
 digits_by nt (marks.Digit k) f p q b i h n w = mark_at f _ b _ is_digit _ i.1 (l_digit f i.0) (digit_true i.0 ∙ sym (settles_digit p.spot p.row p.used p.sign k q w))
 digits_by nt marks.Slash f p q b i h n w = mark_at f (line_seen_step f 47) b 47 is_digit _ i refl (sym (settles_slash p.spot p.row p.used p.sign q w))
-digits_by nt m f p q b i h n w = err_is _ q w
+digits_by nt m f p q b i h n w = not_going _ q w
 
 -- ---- what the place of the reader says
 
@@ -265,7 +266,7 @@ pub record PartKnown (f : LineSeen) (p : PartReader) (n : Nth) : Type 0 where
   pub end : is_end_of_part f.mark ≡ settles p.spot
   pub commas : f.commas ≡ index n
 
-pub known_step : (nt : Notation) → (m : Mark) (f : LineSeen) (p q : PartReader) (n : Nth) (b : ℕ) → in_a_part m ≡ true → IsMark nt b m → PartKnown f p n → part_step m p ≡ fine q → PartKnown (line_seen_step f b) q n
+pub known_step : (nt : Notation) → (m : Mark) (f : LineSeen) (p q : PartReader) (n : Nth) (b : ℕ) → in_a_part m ≡ true → IsMark nt b m → PartKnown f p n → part_step m p ≡ going q → PartKnown (line_seen_step f b) q n
 known_step nt m f p q n b a i k w = record {
   core = seen_step k.core b;
   follows = follow_by nt m f k.core b a i k.follows;
@@ -315,8 +316,8 @@ LineAgrees (places.Closed w) f = Between f × (1 ≤ f.commas) × (f.mark ≡ 41
 LineAgrees places.Behind f = Between f × (f.mark ≡ 43)
 LineAgrees (places.Comment o) f = Unit {0}
 
-pub to_place : (p q : LinePlace) (f : LineSeen) → placed p ≡ placed q → LineAgrees p f → LineAgrees q f
-to_place p q f e h = subst (λ x. LineAgrees x f) (sym (placed_is p q e)) h
+pub to_place : (p q : LinePlace) (f : LineSeen) → going p ≡ going q → LineAgrees p f → LineAgrees q f
+to_place p q f e h = subst (λ x. LineAgrees x f) (sym (going_is p q e)) h
 
 abbrev pub bracket_same : LineSeen → ℕ → Type 0
 bracket_same f b = (line_seen_step f b).bracket ≡ f.bracket
@@ -325,42 +326,42 @@ pub not_bracket : (f g : LineSeen) → g.bracket ≡ f.bracket → f.bracket ≢
 not_bracket f g e h z = h (sym e ∙ z)
 
 -- in an operation
-pub op_in_part : (nt : Notation) → (m : Mark) (t : TripletReader) (f : LineSeen) (b : ℕ) (q : LinePlace) → in_a_part m ≡ true → IsMark nt b m → LineAgrees (places.Operation t) f → in_operation (in_part t (part_step m t.part)) ≡ placed q → LineAgrees q (line_seen_step f b)
+pub op_in_part : (nt : Notation) → (m : Mark) (t : TripletReader) (f : LineSeen) (b : ℕ) (q : LinePlace) → in_a_part m ≡ true → IsMark nt b m → LineAgrees (places.Operation t) f → in_operation (in_part t (part_step m t.part)) ≡ going q → LineAgrees q (line_seen_step f b)
 op_in_part nt m t f b q a i h e = op_by (part_step m t.part) m t f b q a i h refl e
   where
-    op_by : (r : Result PartReader TextKind) (m : Mark) (t : TripletReader) (f : LineSeen) (b : ℕ) (q : LinePlace) → in_a_part m ≡ true → IsMark nt b m → LineAgrees (places.Operation t) f → part_step m t.part ≡ r → in_operation (in_part t r) ≡ placed q → LineAgrees q (line_seen_step f b)
+    op_by : (r : Result PartReader TextKind) (m : Mark) (t : TripletReader) (f : LineSeen) (b : ℕ) (q : LinePlace) → in_a_part m ≡ true → IsMark nt b m → LineAgrees (places.Operation t) f → part_step m t.part ≡ r → in_operation (in_part t r) ≡ going q → LineAgrees q (line_seen_step f b)
     op_by (Ok p) m t f b q a i h w e = to_place _ q (line_seen_step f b) e (known_step nt m f t.part p t.nth b a i h.0 w, not_bracket f (line_seen_step f b) (stays_by nt m f b a i).bracket h.1)
-    op_by (Err k) m t f b q a i h w e = no_place _ q e
+    op_by (Err k) m t f b q a i h w e = not_going _ q e
 
-pub op_comma : (nt : Notation) → (o : Option PartReader) (n : Nth) (t : TripletReader) (f : LineSeen) (q : LinePlace) → t.nth ≡ n → LineAgrees (places.Operation t) f → in_operation (comma_at nt o t) ≡ placed q → LineAgrees q (line_seen_step f 44)
-op_comma nt None n t f q i h e = no_place _ q e
+pub op_comma : (nt : Notation) → (o : Option PartReader) (n : Nth) (t : TripletReader) (f : LineSeen) (q : LinePlace) → t.nth ≡ n → LineAgrees (places.Operation t) f → in_operation (comma_at nt o t) ≡ going q → LineAgrees q (line_seen_step f 44)
+op_comma nt None n t f q i h e = not_going _ q e
 op_comma nt (Some p) n t f q i h e = op_next nt n t p.row f q (h.0.commas ∙ ap index i) h.1 (ap (λ m. in_operation (next_part nt m t p.row)) (sym i) ∙ e)
   where
-    op_next : (nt : Notation) (n : Nth) (t : TripletReader) (r : rows.Row) (f : LineSeen) (q : LinePlace) → f.commas ≡ index n → f.bracket ≢ 40 → in_operation (next_part nt n t r) ≡ placed q → LineAgrees q (line_seen_step f 44)
+    op_next : (nt : Notation) (n : Nth) (t : TripletReader) (r : rows.Row) (f : LineSeen) (q : LinePlace) → f.commas ≡ index n → f.bracket ≢ 40 → in_operation (next_part nt n t r) ≡ going q → LineAgrees q (line_seen_step f 44)
     op_next nt First t r f q c h e = to_place _ q (line_seen_step f 44) e (known_comma f Second (omega (arith, c)), h)
-    op_next Pairs Second t r f q c h e = no_place _ q e
+    op_next Pairs Second t r f q c h e = not_going _ q e
     op_next Triplets Second t r f q c h e = to_place _ q (line_seen_step f 44) e (known_comma f Third (omega (arith, c)), h)
-    op_next nt Third t r f q c h e = no_place _ q e
+    op_next nt Third t r f q c h e = not_going _ q e
 
-pub op_step : (nt : Notation) → (m : Mark) (t : TripletReader) (f : LineSeen) (b : ℕ) (q : LinePlace) → IsMark nt b m → LineAgrees (places.Operation t) f → in_operation (step nt m t) ≡ placed q → LineAgrees q (line_seen_step f b)
+pub op_step : (nt : Notation) → (m : Mark) (t : TripletReader) (f : LineSeen) (b : ℕ) (q : LinePlace) → IsMark nt b m → LineAgrees (places.Operation t) f → in_operation (step nt m t) ≡ going q → LineAgrees q (line_seen_step f b)
 op_step nt marks.Comma t f b q i h e = subst (λ x. LineAgrees q (line_seen_step f x)) (sym i) (op_comma nt (settled t.part) t.nth t f q refl h e)
-op_step nt marks.Hash t f b q i h e = no_place _ q e
-op_step nt marks.Open t f b q i h e = no_place _ q e
-op_step nt marks.Close t f b q i h e = no_place _ q e
-op_step nt marks.Other t f b q i h e = no_place _ q e
+op_step nt marks.Hash t f b q i h e = not_going _ q e
+op_step nt marks.Open t f b q i h e = not_going _ q e
+op_step nt marks.Close t f b q i h e = not_going _ q e
+op_step nt marks.Other t f b q i h e = not_going _ q e
 op_step nt m t f b q i h e = op_in_part nt m t f b q refl i h e
 
-pub from_start_step : (nt : Notation) → (m : Mark) (f : LineSeen) (b : ℕ) (q : LinePlace) → IsMark nt b m → LineAgrees places.Start f → start_step nt m ≡ placed q → LineAgrees q (line_seen_step f b)
+pub from_start_step : (nt : Notation) → (m : Mark) (f : LineSeen) (b : ℕ) (q : LinePlace) → IsMark nt b m → LineAgrees places.Start f → start_step nt m ≡ going q → LineAgrees q (line_seen_step f b)
 from_start_step nt marks.Blank f b q i h e = to_place places.Start q (line_seen_step f b) e (known_step nt marks.Blank f begin begin First b refl i h.0 refl, not_bracket f (line_seen_step f b) (stays_by nt marks.Blank f b refl i).bracket h.1)
 from_start_step nt marks.Open f b q i h e = subst (λ x. LineAgrees q (line_seen_step f x)) (sym i) (to_place _ q (line_seen_step f 40) e (known_open f, refl, refl, refl, λ z. refl))
 from_start_step nt marks.Hash f b q i h e = to_place (places.Comment None) q (line_seen_step f b) e tt
 from_start_step nt m f b q i h e = op_step nt m start f b q i h e
 
-pub in_op_step : (nt : Notation) → (m : Mark) (t : TripletReader) (f : LineSeen) (b : ℕ) (q : LinePlace) → IsMark nt b m → LineAgrees (places.Operation t) f → operation_step nt m t ≡ placed q → LineAgrees q (line_seen_step f b)
+pub in_op_step : (nt : Notation) → (m : Mark) (t : TripletReader) (f : LineSeen) (b : ℕ) (q : LinePlace) → IsMark nt b m → LineAgrees (places.Operation t) f → operation_step nt m t ≡ going q → LineAgrees q (line_seen_step f b)
 in_op_step nt marks.Hash t f b q i h e = hash_by (value nt t) f b q e
   where
-    hash_by : (v : Option Motion3) (f : LineSeen) (b : ℕ) (q : LinePlace) → comment_behind v ≡ placed q → LineAgrees q (line_seen_step f b)
-    hash_by None f b q e = no_place _ q e
+    hash_by : (v : Option Motion3) (f : LineSeen) (b : ℕ) (q : LinePlace) → comment_behind v ≡ going q → LineAgrees q (line_seen_step f b)
+    hash_by None f b q e = not_going _ q e
     hash_by (Some t) f b q e = to_place (places.Comment (Some t)) q (line_seen_step f b) e tt
 in_op_step nt m t f b q i h e = op_step nt m t f b q i h e
 
@@ -377,60 +378,60 @@ used_by nt (marks.Digit k) f b p n i h = used_at f _ b _ i.1 (l_digit f i.0) h
 used_by nt marks.Slash f b p n i h = used_at f (line_seen_step f 47) b 47 i refl h
 used_by nt m f b p n i h = absurd cc
 
-pub vec_moved : (nt : Notation) → (m : Mark) (v : VectorReader) (f : LineSeen) (b : ℕ) (p : PartReader) (l : Bool) → in_a_part m ≡ true → ((a : Axis) → m ≡ marks.Letter a → ⊥) → (l ≡ true → v.nth ≡ First) → IsMark nt b m → LineAgrees (places.Coordinates v) f → part_step m v.part ≡ fine p →
+pub vec_moved : (nt : Notation) → (m : Mark) (v : VectorReader) (f : LineSeen) (b : ℕ) (p : PartReader) (l : Bool) → in_a_part m ≡ true → ((a : Axis) → m ≡ marks.Letter a → ⊥) → (l ≡ true → v.nth ≡ First) → IsMark nt b m → LineAgrees (places.Coordinates v) f → part_step m v.part ≡ going p →
     LineAgrees (places.Coordinates (record v { part = p; label = l })) (line_seen_step f b)
 vec_moved nt m v f b p l a n c i h w =
     (known_step nt m f v.part p v.nth b a i h.0 w, (stays_by nt m f b a i).bracket ∙ h.1, digits_by nt m f v.part p b i h.2 n w, used_by nt m f b a n i h.3, c)
 
 pub vec_by : (nt : Notation) → (r : Result PartReader TextKind) (m : Mark) (v : VectorReader) (f : LineSeen) (b : ℕ) (l : Bool) (q : LinePlace) → in_a_part m ≡ true → ((a : Axis) → m ≡ marks.Letter a → ⊥) → (l ≡ true → v.nth ≡ First) → IsMark nt b m → LineAgrees (places.Coordinates v) f →
-    part_step m v.part ≡ r → in_coordinate l v r ≡ placed q → LineAgrees q (line_seen_step f b)
+    part_step m v.part ≡ r → in_coordinate l v r ≡ going q → LineAgrees q (line_seen_step f b)
 vec_by nt (Ok p) m v f b l q a n c i h w e = to_place _ q (line_seen_step f b) e (vec_moved nt m v f b p l a n c i h w)
-vec_by nt (Err k) m v f b l q a n c i h w e = no_place _ q e
+vec_by nt (Err k) m v f b l q a n c i h w e = not_going _ q e
 
 pub unlabel : (n : Nth) → false ≡ true → n ≡ First
 unlabel n e = absurd cc
 
-pub vec_sign : (nt : Notation) → (spot : Spot) (s : Sign) (v : VectorReader) (f : LineSeen) (b : ℕ) (q : LinePlace) → v.part.spot ≡ spot → IsMark nt b (marks.Signs s) → LineAgrees (places.Coordinates v) f → coordinate_sign s spot v ≡ placed q → LineAgrees q (line_seen_step f b)
+pub vec_sign : (nt : Notation) → (spot : Spot) (s : Sign) (v : VectorReader) (f : LineSeen) (b : ℕ) (q : LinePlace) → v.part.spot ≡ spot → IsMark nt b (marks.Signs s) → LineAgrees (places.Coordinates v) f → coordinate_sign s spot v ≡ going q → LineAgrees q (line_seen_step f b)
 vec_sign nt Begin s v f b q g i h e =
     to_place _ q (line_seen_step f b) e (vec_moved nt (marks.Signs s) v f b (with_sign s v.part) false refl (λ a z. cc) (unlabel v.nth) i h (ap (λ x. on_sign_at s x v.part) g))
-vec_sign nt spot s v f b q g i h e = no_place _ q e
+vec_sign nt spot s v f b q g i h e = not_going _ q e
 
-pub vec_comma : (nt : Notation) → (o : Option PartReader) (n : Nth) (v : VectorReader) (f : LineSeen) (q : LinePlace) → v.nth ≡ n → LineAgrees (places.Coordinates v) f → coordinate_comma nt o v ≡ placed q → LineAgrees q (line_seen_step f 44)
-vec_comma nt None n v f q i h e = no_place _ q e
+pub vec_comma : (nt : Notation) → (o : Option PartReader) (n : Nth) (v : VectorReader) (f : LineSeen) (q : LinePlace) → v.nth ≡ n → LineAgrees (places.Coordinates v) f → coordinate_comma nt o v ≡ going q → LineAgrees q (line_seen_step f 44)
+vec_comma nt None n v f q i h e = not_going _ q e
 vec_comma nt (Some p) n v f q i h e = vec_next nt n v p.row.shift f q (h.0.commas ∙ ap index i) h.1 (ap (λ m. next_coordinate nt m v p.row.shift) (sym i) ∙ e)
   where
-    vec_next : (nt : Notation) (n : Nth) (v : VectorReader) (x : ℤ) (f : LineSeen) (q : LinePlace) → f.commas ≡ index n → f.bracket ≡ 40 → next_coordinate nt n v x ≡ placed q → LineAgrees q (line_seen_step f 44)
+    vec_next : (nt : Notation) (n : Nth) (v : VectorReader) (x : ℤ) (f : LineSeen) (q : LinePlace) → f.commas ≡ index n → f.bracket ≡ 40 → next_coordinate nt n v x ≡ going q → LineAgrees q (line_seen_step f 44)
     vec_next nt First v x f q c h e = to_place _ q (line_seen_step f 44) e (known_comma f Second (omega (arith, c)), h, refl, refl, λ z. absurd cc)
-    vec_next Pairs Second v x f q c h e = no_place _ q e
+    vec_next Pairs Second v x f q c h e = not_going _ q e
     vec_next Triplets Second v x f q c h e = to_place _ q (line_seen_step f 44) e (known_comma f Third (omega (arith, c)), h, refl, refl, λ z. absurd cc)
-    vec_next nt Third v x f q c h e = no_place _ q e
+    vec_next nt Third v x f q c h e = not_going _ q e
 
 pub between_close : (f : LineSeen) → Between (line_seen_step f 41)
 between_close f = record { count = refl; other = λ e. omega arith; bracket = λ e. omega arith; used = refl }
 
-pub vec_closed : (nt : Notation) → (n : Nth) (o : Option PartReader) (v : VectorReader) (f : LineSeen) (q : LinePlace) → f.commas ≡ index n → closed_at nt n o v ≡ placed q → LineAgrees q (line_seen_step f 41)
-vec_closed nt First None v f q c e = no_place _ q e
-vec_closed nt Second None v f q c e = no_place _ q e
-vec_closed nt Third None v f q c e = no_place _ q e
-vec_closed nt First (Some p) v f q c e = no_place _ q e
-vec_closed Triplets Second (Some p) v f q c e = no_place _ q e
+pub vec_closed : (nt : Notation) → (n : Nth) (o : Option PartReader) (v : VectorReader) (f : LineSeen) (q : LinePlace) → f.commas ≡ index n → closed_at nt n o v ≡ going q → LineAgrees q (line_seen_step f 41)
+vec_closed nt First None v f q c e = not_going _ q e
+vec_closed nt Second None v f q c e = not_going _ q e
+vec_closed nt Third None v f q c e = not_going _ q e
+vec_closed nt First (Some p) v f q c e = not_going _ q e
+vec_closed Triplets Second (Some p) v f q c e = not_going _ q e
 vec_closed Pairs Second (Some p) v f q c e = to_place _ q (line_seen_step f 41) e (between_close f, omega (arith, c), refl)
 vec_closed Triplets Third (Some p) v f q c e = to_place _ q (line_seen_step f 41) e (between_close f, omega (arith, c), refl)
-vec_closed Pairs Third (Some p) v f q c e = no_place _ q e
+vec_closed Pairs Third (Some p) v f q c e = not_going _ q e
 
-pub vec_close : (nt : Notation) → (l d : Bool) (v : VectorReader) (f : LineSeen) (q : LinePlace) → v.label ≡ l → LineAgrees (places.Coordinates v) f → cond (l && d) (placed (places.Operation start)) (closed_at nt v.nth (settled v.part) v) ≡ placed q → LineAgrees q (line_seen_step f 41)
+pub vec_close : (nt : Notation) → (l d : Bool) (v : VectorReader) (f : LineSeen) (q : LinePlace) → v.label ≡ l → LineAgrees (places.Coordinates v) f → cond (l && d) (going (places.Operation start)) (closed_at nt v.nth (settled v.part) v) ≡ going q → LineAgrees q (line_seen_step f 41)
 vec_close nt true true v f q i h e = to_place (places.Operation start) q (line_seen_step f 41) e (known_label f (h.0.commas ∙ ap index (h.4 i)), λ z. omega arith)
 vec_close nt true false v f q i h e = vec_closed nt v.nth (settled v.part) v f q h.0.commas e
 vec_close nt false d v f q i h e = vec_closed nt v.nth (settled v.part) v f q h.0.commas e
 
-pub vec_step : (nt : Notation) → (m : Mark) (v : VectorReader) (f : LineSeen) (b : ℕ) (q : LinePlace) → IsMark nt b m → LineAgrees (places.Coordinates v) f → vector_step nt m v ≡ placed q → LineAgrees q (line_seen_step f b)
+pub vec_step : (nt : Notation) → (m : Mark) (v : VectorReader) (f : LineSeen) (b : ℕ) (q : LinePlace) → IsMark nt b m → LineAgrees (places.Coordinates v) f → vector_step nt m v ≡ going q → LineAgrees q (line_seen_step f b)
 vec_step nt (marks.Signs s) v f b q i h e = vec_sign nt v.part.spot s v f b q refl i h e
 vec_step nt marks.Comma v f b q i h e = subst (λ x. LineAgrees q (line_seen_step f x)) (sym i) (vec_comma nt (settled v.part) v.nth v f q refl h e)
 vec_step nt marks.Close v f b q i h e = subst (λ x. LineAgrees q (line_seen_step f x)) (sym i) (vec_close nt v.label (is_digits v.part.spot) v f q refl h e)
 vec_step nt (marks.Digit n) v f b q i h e = vec_by nt (part_step (marks.Digit n) v.part) (marks.Digit n) v f b v.label q refl (λ a z. cc) h.4 i h refl e
 vec_step nt marks.Blank v f b q i h e = vec_by nt (part_step marks.Blank v.part) marks.Blank v f b false q refl (λ a z. cc) (unlabel v.nth) i h refl e
 vec_step nt marks.Slash v f b q i h e = vec_by nt (part_step marks.Slash v.part) marks.Slash v f b false q refl (λ a z. cc) (unlabel v.nth) i h refl e
-vec_step nt m v f b q i h e = no_place _ q e
+vec_step nt m v f b q i h e = not_going _ q e
 
 pub between_blank : (f : LineSeen) (k : Blank) → Between f → Between (line_seen_step f (blank_byte k))
 between_blank f space h = record { count = refl; other = λ e. omega arith; bracket = h.bracket; used = h.used }
@@ -440,18 +441,18 @@ pub blank_keeps : (f : LineSeen) (k : Blank) → ((line_seen_step f (blank_byte 
 blank_keeps f space = (refl, refl)
 blank_keeps f k = (refl, refl)
 
-pub shut_step : (nt : Notation) → (m : Mark) (w : List Part) (f : LineSeen) (b : ℕ) (q : LinePlace) → IsMark nt b m → LineAgrees (places.Closed w) f → closed_step m w ≡ placed q → LineAgrees q (line_seen_step f b)
+pub shut_step : (nt : Notation) → (m : Mark) (w : List Part) (f : LineSeen) (b : ℕ) (q : LinePlace) → IsMark nt b m → LineAgrees (places.Closed w) f → closed_step m w ≡ going q → LineAgrees q (line_seen_step f b)
 shut_step nt marks.Blank w f b q i h e = subst (λ x. LineAgrees q (line_seen_step f x)) (sym i.1) (to_place (places.Closed w) q (line_seen_step f (blank_byte i.0)) e (between_blank f i.0 h.0, omega (arith, (blank_keeps f i.0).1, h.1), (blank_keeps f i.0).0 ∙ h.2))
 shut_step nt (marks.Signs Plus) w f b q i h e = subst (λ x. LineAgrees q (line_seen_step f x)) (sym i) (to_place places.Behind q (line_seen_step f 43) e (record { count = refl; other = λ e. omega arith; bracket = h.0.bracket; used = h.0.used }, refl))
-shut_step nt m w f b q i h e = no_place _ q e
+shut_step nt m w f b q i h e = not_going _ q e
 
-pub row_step : (nt : Notation) → (m : Mark) (f : LineSeen) (b : ℕ) (q : LinePlace) → IsMark nt b m → LineAgrees places.Behind f → behind_step m ≡ placed q → LineAgrees q (line_seen_step f b)
+pub row_step : (nt : Notation) → (m : Mark) (f : LineSeen) (b : ℕ) (q : LinePlace) → IsMark nt b m → LineAgrees places.Behind f → behind_step m ≡ going q → LineAgrees q (line_seen_step f b)
 row_step nt marks.Blank f b q i h e = subst (λ x. LineAgrees q (line_seen_step f x)) (sym i.1) (to_place places.Behind q (line_seen_step f (blank_byte i.0)) e (between_blank f i.0 h.0, (blank_keeps f i.0).0 ∙ h.1))
 row_step nt marks.Open f b q i h e = subst (λ x. LineAgrees q (line_seen_step f x)) (sym i) (to_place (places.Coordinates (opened false)) q (line_seen_step f 40) e (known_open f, refl, refl, refl, λ z. refl))
 row_step nt marks.Hash f b q i h e = to_place (places.Comment None) q (line_seen_step f b) e tt
-row_step nt m f b q i h e = no_place _ q e
+row_step nt m f b q i h e = not_going _ q e
 
-pub place_agrees : (nt : Notation) → (p : LinePlace) (f : LineSeen) (b : ℕ) (q : LinePlace) → LineAgrees p f → place_step nt (mark nt b) p ≡ placed q → LineAgrees q (line_seen_step f b)
+pub place_agrees : (nt : Notation) → (p : LinePlace) (f : LineSeen) (b : ℕ) (q : LinePlace) → LineAgrees p f → place_step nt (mark nt b) p ≡ going q → LineAgrees q (line_seen_step f b)
 place_agrees nt places.Start f b q h e = from_start_step nt (mark nt b) f b q (mark_is nt b) h e
 place_agrees nt (places.Operation t) f b q h e = in_op_step nt (mark nt b) t f b q (mark_is nt b) h e
 place_agrees nt (places.Coordinates v) f b q h e = vec_step nt (mark nt b) v f b q (mark_is nt b) h e
@@ -459,18 +460,17 @@ place_agrees nt (places.Closed w) f b q h e = shut_step nt (mark nt b) w f b q (
 place_agrees nt places.Behind f b q h e = row_step nt (mark nt b) f b q (mark_is nt b) h e
 place_agrees nt (places.Comment o) f b q h e = to_place (places.Comment o) q (line_seen_step f b) e tt
 
-pub run_by : (nt : Notation) → (r : Result LineState TextKind) (b : ℕ) (bs : List ℕ) (s t : LineState) (f : LineSeen) → ((u : LineState) (g : LineSeen) → LineAgrees u.place g → line_run nt (Ok u) bs ≡ line_going t → LineAgrees t.place (line_seen g bs)) →
-    LineAgrees s.place f → line_step nt (mark nt b) s ≡ r → line_run nt r bs ≡ line_going t → LineAgrees t.place (line_seen (line_seen_step f b) bs)
-run_by nt (Ok u) b bs s t f then_on h w e =
-    let p = placed_by (place_step nt (mark nt b) s.place) (with_vector (completed (mark nt b) s.place) s.vectors) u w in
-    then_on u (line_seen_step f b) (subst (λ (x : LineState). LineAgrees x.place (line_seen_step f b)) (sym p.state) (place_agrees nt s.place f b p.place h p.place_is)) e
-run_by nt (Err k) b bs s t f then_on h w e = absurd (let z = run_line_stopped nt k bs in cc)
+step_agrees : (nt : Notation) → (b : ℕ) (s t : LineState) (f : LineSeen) → LineAgrees s.place f → line_byte nt b s ≡ going t → LineAgrees t.place (line_seen_step f b)
+step_agrees nt b s t f h w =
+    let p = placed_by (place_step nt (mark nt b) s.place) (with_vector (completed (mark nt b) s.place) s.vectors) t w in
+    subst (λ (x : LineState). LineAgrees x.place (line_seen_step f b)) (sym p.state) (place_agrees nt s.place f b p.place h p.place_is)
 
-pub run_agrees : (nt : Notation) → (bs : List ℕ) (s t : LineState) (f : LineSeen) → LineAgrees s.place f → line_run nt (Ok s) bs ≡ line_going t → LineAgrees t.place (line_seen f bs)
-run_agrees nt [] s t f h e = subst (λ (x : LineState). LineAgrees x.place f) (sym (going_line_is _ t e)) h
-run_agrees nt (b ∷ bs) s t f h e = run_by nt (line_step nt (mark nt b) s) b bs s t f (λ u g. run_agrees nt bs u t g) h refl e
+pub run_agrees : (nt : Notation) → (bs : List ℕ) (s t : LineState) (f : LineSeen) → LineAgrees s.place f → line_run nt (Ok s) bs ≡ going t → LineAgrees t.place (line_seen f bs)
+run_agrees nt bs s t f h e =
+    let x = carries (line_byte nt) (λ u xs. (g : LineSeen) × LineAgrees u.place g × (line_seen g xs ≡ line_seen f bs)) (λ b xs u v k i. (line_seen_step k.0 b, step_agrees nt b u v k.0 k.1 i, k.2)) bs s t (f, h, refl) e in
+    subst (LineAgrees t.place) x.2 x.1
 
-pub line_agrees : (nt : Notation) → (bs : List ℕ) (t : LineState) → line_run nt (Ok line_start) bs ≡ line_going t → LineAgrees t.place (line_seen line_seen_start bs)
+pub line_agrees : (nt : Notation) → (bs : List ℕ) (t : LineState) → line_run nt (Ok line_start) bs ≡ going t → LineAgrees t.place (line_seen line_seen_start bs)
 line_agrees nt bs t e = run_agrees nt bs line_start t line_seen_start (
   record {
     core = nothing_seen;

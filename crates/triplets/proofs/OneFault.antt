@@ -7,12 +7,12 @@ use Rattle.triplets.specs.declared.notation.Notation.{Notation}
 use Rattle.triplets.specs.declared.fault.TextKind.{TextKind}
 use Rattle.triplets.specs.Faults.{TableRow}
 use Rattle.triplets.specs.Places.{IsPrefixIn, IsPlaceIn}
-use Rattle.triplets.specs.LineFaults.{IsGoodLine, IsGoodFirstLine, HasLineKind, HasLineKindAt, IsFaultIn}
+use Rattle.triplets.specs.LineFaults.{IsGoodLine, IsGoodFirstLine, HasLineKind, IsFaultIn}
 use Rattle.triplets.specs.Texts.{lines_of, IsGroupText, IsFirstBad, Fault, IsTextFault}
 use Rattle.triplets.specs.TextReading.{Said}
-use Rattle.triplets.proofs.LinePlaces.{shorter}
 use Rattle.triplets.proofs.TextEnds.{make_said}
 use Rattle.triplets.proofs.Answered.{only_group, bad_text_lines}
+use Rattle.triplets.proofs.Places.{row_one, one_fault_by}
 
 said_one : (a a' : Said) → (let x : Result Said Fault = Ok a in x) ≡ Ok a' → a ≡ a'
 said_one a a' e = cc
@@ -26,41 +26,15 @@ one_flag nt text b b' g g' h h' = ap (λ (x : Said). x.generated) (one_said nt t
 pub one_listing : (nt : Notation) → (text : List ℕ) (b b' : Bool) (g g' : Listing) → IsGroupText nt text b g → IsGroupText nt text b' g' → g ≡ g'
 one_listing nt text b b' g g' h h' = ap (λ (x : Said). x.listing) (one_said nt text b b' g g' h h')
 
--- ---- the place
-
--- the beginning of a good line stops before the place of its fault
-not_behind : (Good : List ℕ → Type 0) (l : List ℕ) (m n : ℕ) → IsPlaceIn Good l m → IsPlaceIn Good l n → m < n → ⊥
-not_behind Good l m n h h' lt =
-    h.here (omega (arith, h'.within)) (subst (IsPrefixIn Good) (take-take (m + 1) n l (omega arith)) (shorter Good (take n l) (m + 1) h'.prefix))
-
-one_place : (Good : List ℕ → Type 0) (l : List ℕ) (m n : ℕ) → IsPlaceIn Good l m → IsPlaceIn Good l n → m ≡ n
-one_place Good l m n h h' =
-    let a : m < n → ⊥ = not_behind Good l m n h h' in
-    let b : n < m → ⊥ = not_behind Good l n m h' h in
-    omega arith
-
 -- ---- the kind
-
--- a row gives one kind, where the rows below it do
-row_one : {P Q Q' : Type 0} {named k k' : TextKind} → (Q → Q' → k ≡ k') → TableRow P named k Q → TableRow P named k' Q' → k ≡ k'
-row_one below (inl h) (inl h') = h.1 ∙ sym h'.1
-row_one below (inl h) (inr h') = absurd (h'.0 h.0)
-row_one below (inr h) (inl h') = absurd (h.0 h'.0)
-row_one below (inr h) (inr h') = below h.1 h'.1
 
 pub one_line_kind : (nt : Notation) → (before : List ℕ) (b : ℕ) (k k' : TextKind) → HasLineKind nt before b k → HasLineKind nt before b k' → k ≡ k'
 one_line_kind nt before b k k' = row_one (row_one (row_one (row_one (row_one (row_one (row_one (row_one (λ e e'. e ∙ sym e'))))))))
 
-one_kind_at : (nt : Notation) → (before : List ℕ) (at : Option ℕ) (k k' : TextKind) → HasLineKindAt nt before at k → HasLineKindAt nt before at k' → k ≡ k'
-one_kind_at nt before None k k' e e' = e ∙ sym e'
-one_kind_at nt before (Some b) k k' h h' = one_line_kind nt before b k k' h h'
-
 -- ---- the first bad line
 
 one_line_fault : (nt : Notation) → (Good : List ℕ → Type 0) (l : List ℕ) (m n : ℕ) (k k' : TextKind) → IsFaultIn nt Good l m k → IsFaultIn nt Good l n k' → (m ≡ n) × (k ≡ k')
-one_line_fault nt Good l m n k k' h h' =
-    let e = one_place Good l m n h.place h'.place in
-    (e, one_kind_at nt (take m l) (slice_get l m) k k' h.kind_is (subst (λ i. HasLineKindAt nt (take i l) (slice_get l i) k') (sym e) h'.kind_is))
+one_line_fault nt Good = one_fault_by (HasLineKind nt) Good (one_line_kind nt)
 
 one_bad : (nt : Notation) → (Good : List ℕ → Type 0) (ls : List (List ℕ)) (i j m n : ℕ) (k k' : TextKind) → IsFirstBad nt Good ls i m k → IsFirstBad nt Good ls j n k' → (i ≡ j) × ((m ≡ n) × (k ≡ k'))
 one_bad nt Good [] i j m n k k' h h' = absurd h

@@ -8,22 +8,14 @@ use Rattle.triplets.specs.declared.part.Spot.TheVariants.{Begin, Signed, Digits,
 use Rattle.triplets.specs.Marks.{mark}
 use Rattle.triplets.specs.PartReading.{part_step}
 use Rattle.triplets.specs.Grammar.{Blank, Term, letter, multiple, whole, fraction, Lead, bare, sign, more, lead_row, lead_sign, lead_letters, with_term, with_letters, numerator_value}
+use Rattle.triplets.specs.Runs.{run_by}
 
-abbrev pub part_advance : (nt : Notation) → Result PartReader TextKind → ℕ → Result PartReader TextKind
-part_advance nt (Ok p) b = part_step (mark nt b) p
-part_advance nt (Err k) b = Err k
+-- a byte, by its mark
+abbrev pub part_byte : (nt : Notation) → ℕ → PartReader → Result PartReader TextKind
+part_byte nt b p = part_step (mark nt b) p
 
 abbrev pub run_part : (nt : Notation) → Result PartReader TextKind → List ℕ → Result PartReader TextKind
-run_part nt r [] = r
-run_part nt r (b ∷ bs) = run_part nt (part_advance nt r b) bs
-
-pub run_part-append : (nt : Notation) → (r : Result PartReader TextKind) (xs ys : List ℕ) → run_part nt r (xs ++ ys) ≡ run_part nt (run_part nt r xs) ys
-run_part-append nt r [] ys = refl
-run_part-append nt r (x ∷ xs) ys = run_part-append nt (part_advance nt r x) xs ys
-
--- one run behind another
-pub run_then : (nt : Notation) → (r s t : Result PartReader TextKind) (xs ys : List ℕ) → run_part nt r xs ≡ s → run_part nt s ys ≡ t → run_part nt r (xs ++ ys) ≡ t
-run_then nt r s t xs ys p q = run_part-append nt r xs ys ∙ (ap (λ (u : Result PartReader TextKind). run_part nt u ys) p ∙ q)
+run_part nt = run_by (part_byte nt)
 
 -- where the reader stands behind what is written
 

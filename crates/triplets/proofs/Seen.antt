@@ -23,12 +23,13 @@ use Rattle.triplets.specs.declared.triplet.TripletReader.{TripletReader}
 use Rattle.triplets.specs.Marks.{mark}
 use Rattle.triplets.specs.Rows.{unused, with_used}
 use Rattle.triplets.specs.PartReading.{begin, settled, part_step, on_blank, on_sign, on_digit, on_slash, on_new_letter_at, with_letter, with_spot}
-use Rattle.triplets.specs.TripletReading.{start, in_part, next_part, comma_at, step, run}
+use Rattle.triplets.specs.TripletReading.{start, in_part, next_part, comma_at, step, run, operation_byte}
 use Rattle.triplets.specs.Grammar.{Blank, space, tab, carriage_return, blank_byte, sign_byte, letter_byte, Digit, digit_value}
 use Rattle.triplets.specs.Faults.{is_digit, is_blank, is_letter, last_mark, last_other, digits_at_end, stands}
 use Rattle.triplets.proofs.Bytes.{IsMark, mark_is}
-use Rattle.triplets.proofs.Partials.{fine, ok_is, err_is, passed, met, below_is}
-use Rattle.triplets.proofs.Wholes.{going, stopped, going_is, part_step_is, run_stopped}
+use Rattle.triplets.proofs.Partials.{passed, met, below_is}
+use Rattle.triplets.proofs.Wholes.{part_step_is}
+use Rattle.triplets.proofs.Runs.{going, going_is, not_going, no_run, carries}
 
 -- what stands before, in words
 pub record Seen : Type 0 where
@@ -129,55 +130,55 @@ letter_bounds Z true = (λ e. omega arith, λ e. omega arith, λ e. omega arith,
 abbrev pub at : rows.Row → Used → Sign → Spot → PartReader
 at r u g spot = record { row = r; used = u; sign = g; spot = spot }
 
-pub agrees_blank : (spot : Spot) (r : rows.Row) (u : Used) (g : Sign) (f : Seen) (k : Blank) (q : PartReader) → f.used ≡ u → SpotAgrees spot f → on_blank (at r u g spot) ≡ fine q →
+pub agrees_blank : (spot : Spot) (r : rows.Row) (u : Used) (g : Sign) (f : Seen) (k : Blank) (q : PartReader) → f.used ≡ u → SpotAgrees spot f → on_blank (at r u g spot) ≡ going q →
     Agrees q (record { mark = f.mark; other = blank_byte k; count = 0; used = f.used })
-agrees_blank Begin r u g f k q e h w = agree_at _ q _ (ok_is _ q w) (record { used = e; spot = (h.0, refl, blank_bounds k) })
-agrees_blank Signed r u g f k q e h w = agree_at _ q _ (ok_is _ q w) (record { used = e; spot = (h.0, refl, blank_bounds k) })
-agrees_blank (Digits n v) r u g f k q e h w = agree_at _ q _ (ok_is _ q w) (record { used = e; spot = (h.0, refl, blank_bounds k) })
-agrees_blank (Divided v) r u g f k q e h w = err_is _ q w
-agrees_blank (Below v d) r u g f k q e h w = agree_at _ q _ (ok_is _ q w) (record { used = e; spot = (h.0, refl, blank_bounds k) })
-agrees_blank Behind r u g f k q e h w = agree_at _ q _ (ok_is _ q w) (record { used = e; spot = (h.0, refl, blank_bounds k) })
+agrees_blank Begin r u g f k q e h w = agree_at _ q _ (going_is _ q w) (record { used = e; spot = (h.0, refl, blank_bounds k) })
+agrees_blank Signed r u g f k q e h w = agree_at _ q _ (going_is _ q w) (record { used = e; spot = (h.0, refl, blank_bounds k) })
+agrees_blank (Digits n v) r u g f k q e h w = agree_at _ q _ (going_is _ q w) (record { used = e; spot = (h.0, refl, blank_bounds k) })
+agrees_blank (Divided v) r u g f k q e h w = not_going _ q w
+agrees_blank (Below v d) r u g f k q e h w = agree_at _ q _ (going_is _ q w) (record { used = e; spot = (h.0, refl, blank_bounds k) })
+agrees_blank Behind r u g f k q e h w = agree_at _ q _ (going_is _ q w) (record { used = e; spot = (h.0, refl, blank_bounds k) })
 
-pub agrees_sign : (spot : Spot) (r : rows.Row) (u : Used) (g : Sign) (f : Seen) (s : Sign) (q : PartReader) → f.used ≡ u → SpotAgrees spot f → on_sign s (at r u g spot) ≡ fine q →
+pub agrees_sign : (spot : Spot) (r : rows.Row) (u : Used) (g : Sign) (f : Seen) (s : Sign) (q : PartReader) → f.used ≡ u → SpotAgrees spot f → on_sign s (at r u g spot) ≡ going q →
     Agrees q (record { mark = sign_byte s; other = sign_byte s; count = 0; used = f.used })
-agrees_sign Begin r u g f s q e h w = agree_at _ q _ (ok_is _ q w) (record { used = e; spot = ((sign_bounds s).0, refl, (sign_bounds s).1) })
-agrees_sign Signed r u g f s q e h w = err_is _ q w
-agrees_sign (Digits n v) r u g f s q e h w = agree_at _ q _ (ok_is _ q w) (record { used = e; spot = ((sign_bounds s).0, refl, (sign_bounds s).1) })
-agrees_sign (Divided v) r u g f s q e h w = err_is _ q w
-agrees_sign (Below v d) r u g f s q e h w = agree_at _ q _ (ok_is _ q w) (record { used = e; spot = ((sign_bounds s).0, refl, (sign_bounds s).1) })
-agrees_sign Behind r u g f s q e h w = agree_at _ q _ (ok_is _ q w) (record { used = e; spot = ((sign_bounds s).0, refl, (sign_bounds s).1) })
+agrees_sign Begin r u g f s q e h w = agree_at _ q _ (going_is _ q w) (record { used = e; spot = ((sign_bounds s).0, refl, (sign_bounds s).1) })
+agrees_sign Signed r u g f s q e h w = not_going _ q w
+agrees_sign (Digits n v) r u g f s q e h w = agree_at _ q _ (going_is _ q w) (record { used = e; spot = ((sign_bounds s).0, refl, (sign_bounds s).1) })
+agrees_sign (Divided v) r u g f s q e h w = not_going _ q w
+agrees_sign (Below v d) r u g f s q e h w = agree_at _ q _ (going_is _ q w) (record { used = e; spot = ((sign_bounds s).0, refl, (sign_bounds s).1) })
+agrees_sign Behind r u g f s q e h w = agree_at _ q _ (going_is _ q w) (record { used = e; spot = ((sign_bounds s).0, refl, (sign_bounds s).1) })
 
-pub agrees_letter : (spot : Spot) (r : rows.Row) (u : Used) (g : Sign) (f : Seen) (a : Axis) (c : Bool) (q : PartReader) → f.used ≡ u → on_new_letter_at a spot (at r u g spot) ≡ fine q →
+pub agrees_letter : (spot : Spot) (r : rows.Row) (u : Used) (g : Sign) (f : Seen) (a : Axis) (c : Bool) (q : PartReader) → f.used ≡ u → on_new_letter_at a spot (at r u g spot) ≡ going q →
     Agrees q (record { mark = letter_byte a c; other = letter_byte a c; count = 0; used = with_used a f.used })
-agrees_letter Begin r u g f a c q e w = agree_at _ q _ (ok_is _ q w) (record { used = ap (with_used a) e; spot = ((letter_bounds a c).0, refl, (letter_bounds a c).1) })
-agrees_letter Signed r u g f a c q e w = agree_at _ q _ (ok_is _ q w) (record { used = ap (with_used a) e; spot = ((letter_bounds a c).0, refl, (letter_bounds a c).1) })
-agrees_letter (Digits n v) r u g f a c q e w = agree_at (with_letter a v (at r u g (Digits n v))) q _ (ok_is _ q (met _ kinds.Coefficient _ q w).1) (record { used = ap (with_used a) e; spot = ((letter_bounds a c).0, refl, (letter_bounds a c).1) })
-agrees_letter spot r u g f a c q e w = err_is _ q w
+agrees_letter Begin r u g f a c q e w = agree_at _ q _ (going_is _ q w) (record { used = ap (with_used a) e; spot = ((letter_bounds a c).0, refl, (letter_bounds a c).1) })
+agrees_letter Signed r u g f a c q e w = agree_at _ q _ (going_is _ q w) (record { used = ap (with_used a) e; spot = ((letter_bounds a c).0, refl, (letter_bounds a c).1) })
+agrees_letter (Digits n v) r u g f a c q e w = agree_at (with_letter a v (at r u g (Digits n v))) q _ (going_is _ q (met _ kinds.Coefficient _ q w).1) (record { used = ap (with_used a) e; spot = ((letter_bounds a c).0, refl, (letter_bounds a c).1) })
+agrees_letter spot r u g f a c q e w = not_going _ q w
 
-pub agrees_digit : (spot : Spot) (r : rows.Row) (u : Used) (g : Sign) (f : Seen) (d : Digit) (q : PartReader) → f.used ≡ u → SpotAgrees spot f → on_digit (digit_value d) (at r u g spot) ≡ fine q →
+pub agrees_digit : (spot : Spot) (r : rows.Row) (u : Used) (g : Sign) (f : Seen) (d : Digit) (q : PartReader) → f.used ≡ u → SpotAgrees spot f → on_digit (digit_value d) (at r u g spot) ≡ going q →
     Agrees q (record { mark = d.byte; other = f.other; count = f.count + 1; used = f.used })
-agrees_digit Begin r u g f d q e h w = agree_at _ q _ (ok_is _ q w) (record { used = e; spot = (λ z. omega (arith, d.low), omega (arith, h.1), h.2, omega arith) })
-agrees_digit Signed r u g f d q e h w = agree_at _ q _ (ok_is _ q w) (record { used = e; spot = (λ z. omega (arith, d.low), omega (arith, h.1), h.2, omega arith) })
-agrees_digit (Digits n v) r u g f d q e h w = agree_at (with_spot (Digits (n + 1) (10 * v + digit_value d)) (at r u g (Digits n v))) q _ (ok_is _ q (passed _ _ _ q w).1) (record { used = e; spot = (λ z. omega (arith, d.low), omega (arith, h.1), h.2, omega arith) })
+agrees_digit Begin r u g f d q e h w = agree_at _ q _ (going_is _ q w) (record { used = e; spot = (λ z. omega (arith, d.low), omega (arith, h.1), h.2, omega arith) })
+agrees_digit Signed r u g f d q e h w = agree_at _ q _ (going_is _ q w) (record { used = e; spot = (λ z. omega (arith, d.low), omega (arith, h.1), h.2, omega arith) })
+agrees_digit (Digits n v) r u g f d q e h w = agree_at (with_spot (Digits (n + 1) (10 * v + digit_value d)) (at r u g (Digits n v))) q _ (going_is _ q (passed _ _ _ q w).1) (record { used = e; spot = (λ z. omega (arith, d.low), omega (arith, h.1), h.2, omega arith) })
 agrees_digit (Divided v) r u g f d q e h w = agree_at (with_spot (Below v (below_is _ _ _ q w).0) (at r u g (Divided v))) q _ (below_is _ _ _ q w).2 (record { used = e; spot = (λ z. omega (arith, d.low), omega arith, h.2) })
 agrees_digit (Below v t) r u g f d q e h w = agree_at (with_spot (Below v (below_is _ _ _ q w).0) (at r u g (Below v t))) q _ (below_is _ _ _ q w).2 (record { used = e; spot = (λ z. omega (arith, d.low), omega arith, h.2) })
-agrees_digit Behind r u g f d q e h w = err_is _ q w
+agrees_digit Behind r u g f d q e h w = not_going _ q w
 
-pub agrees_slash : (spot : Spot) (r : rows.Row) (u : Used) (g : Sign) (f : Seen) (q : PartReader) → f.used ≡ u → SpotAgrees spot f → on_slash (at r u g spot) ≡ fine q →
+pub agrees_slash : (spot : Spot) (r : rows.Row) (u : Used) (g : Sign) (f : Seen) (q : PartReader) → f.used ≡ u → SpotAgrees spot f → on_slash (at r u g spot) ≡ going q →
     Agrees q (record { mark = 47; other = 47; count = 0; used = f.used })
-agrees_slash (Digits n v) r u g f q e h w = agree_at _ q _ (ok_is _ q w) (record { used = e; spot = (λ z. omega arith, refl, refl) })
-agrees_slash spot r u g f q e h w = err_is _ q w
+agrees_slash (Digits n v) r u g f q e h w = agree_at _ q _ (going_is _ q w) (record { used = e; spot = (λ z. omega arith, refl, refl) })
+agrees_slash spot r u g f q e h w = not_going _ q w
 
 pub along : (b c : ℕ) (q : PartReader) (f g : Seen) → b ≡ c → seen_step f c ≡ g → Agrees q g → Agrees q (seen_step f b)
 along b c q f g e h a = subst (λ x. Agrees q (seen_step f x)) (sym e) (subst (λ x. Agrees q x) (sym h) a)
 
-pub agrees_part : (nt : Notation) → (m : Mark) (p : PartReader) (f : Seen) (b : ℕ) (q : PartReader) → IsMark nt b m → Agrees p f → part_step m p ≡ fine q → Agrees q (seen_step f b)
+pub agrees_part : (nt : Notation) → (m : Mark) (p : PartReader) (f : Seen) (b : ℕ) (q : PartReader) → IsMark nt b m → Agrees p f → part_step m p ≡ going q → Agrees q (seen_step f b)
 agrees_part nt marks.Blank p f b q i h w = along b _ q f _ i.1 (seen_blank f i.0) (agrees_blank p.spot p.row p.used p.sign f i.0 q h.used h.spot w)
 agrees_part nt (marks.Signs s) p f b q i h w = along b _ q f _ i (seen_sign f s) (agrees_sign p.spot p.row p.used p.sign f s q h.used h.spot w)
 agrees_part nt (marks.Letter a) p f b q i h w = along b _ q f _ i.1 (seen_letter f a i.0) (agrees_letter p.spot p.row p.used p.sign f a i.0 q h.used (passed _ _ _ q w).1)
-agrees_part nt (marks.Digit n) p f b q i h w = along b _ q f _ i.1 (seen_digit f i.0) (agrees_digit p.spot p.row p.used p.sign f i.0 q h.used h.spot (subst (λ k. on_digit k p ≡ fine q) i.2 w))
+agrees_part nt (marks.Digit n) p f b q i h w = along b _ q f _ i.1 (seen_digit f i.0) (agrees_digit p.spot p.row p.used p.sign f i.0 q h.used h.spot (subst (λ k. on_digit k p ≡ going q) i.2 w))
 agrees_part nt marks.Slash p f b q i h w = along b _ q f _ i refl (agrees_slash p.spot p.row p.used p.sign f q h.used h.spot w)
-agrees_part nt m p f b q i h w = err_is _ q w
+agrees_part nt m p f b q i h w = not_going _ q w
 
 pub agrees_begin : Agrees begin (record { mark = 44; other = 44; count = 0; used = unused })
 agrees_begin = record { used = refl; spot = (refl, refl, λ e. omega arith) }
@@ -202,17 +203,10 @@ agrees_by nt marks.Comma s t f b i h w = subst (λ x. Agrees t.part (seen_step f
 agrees_by nt marks.Hash s t f b i h w = absurd cc
 agrees_by nt m s t f b i h w = agrees_in_part nt m s t f b i h w
 
-pub stopped_runs : (nt : Notation) → (k : TextKind) (bs : List ℕ) (t : TripletReader) → run nt (stopped k) bs ≡ going t → ⊥
-stopped_runs nt k bs t e = let h = run_stopped nt k bs in cc
-
-pub agrees_on : (nt : Notation) → (r : Result TripletReader TextKind) (b : ℕ) (bs : List ℕ) (s t : TripletReader) (f : Seen) → ((u : TripletReader) (g : Seen) → Agrees u.part g → run nt (Ok u) bs ≡ going t → Agrees t.part (seen g bs)) →
-    Agrees s.part f → step nt (mark nt b) s ≡ r → run nt r bs ≡ going t → Agrees t.part (seen (seen_step f b) bs)
-agrees_on nt (Ok u) b bs s t f further h e w = further u (seen_step f b) (agrees_by nt (mark nt b) s u f b (mark_is nt b) h e) w
-agrees_on nt (Err k) b bs s t f further h e w = absurd (stopped_runs nt k bs t w)
-
 pub agrees_run : (nt : Notation) → (bs : List ℕ) (s t : TripletReader) (f : Seen) → Agrees s.part f → run nt (Ok s) bs ≡ going t → Agrees t.part (seen f bs)
-agrees_run nt [] s t f h w = subst (λ (x : TripletReader). Agrees x.part f) (sym (going_is _ t w)) h
-agrees_run nt (b ∷ bs) s t f h w = agrees_on nt (step nt (mark nt b) s) b bs s t f (λ u g. agrees_run nt bs u t g) h refl w
+agrees_run nt bs s t f h w =
+    let x = carries (operation_byte nt) (λ u xs. (g : Seen) × Agrees u.part g × (seen g xs ≡ seen f bs)) (λ b xs u v k e. (seen_step k.0 b, agrees_by nt (mark nt b) u v k.0 b (mark_is nt b) k.1 e, k.2)) bs s t (f, h, refl) w in
+    subst (Agrees t.part) x.2 x.1
 
 pub agrees : (nt : Notation) → (bs : List ℕ) (t : TripletReader) → run nt (Ok start) bs ≡ going t → Agrees t.part (seen nothing_seen bs)
 agrees nt bs t w = agrees_run nt bs start t nothing_seen (record { used = refl; spot = (refl, refl, λ e. omega arith) }) w

@@ -15,7 +15,8 @@ use Rattle.triplets.specs.Marks.{mark}
 use Rattle.triplets.specs.LineReading.{start_step, place_step}
 use Rattle.triplets.specs.HeadingReading.{in_heading, in_line, begin_line, text_step, heading_step, IsTextPlaceSmall}
 use Rattle.triplets.specs.PlaceBounds.{IsPlaceWithin, IsTextPlaceWithin}
-use Rattle.triplets.proofs.LineBounds.{placed, place_within, place_small}
+use Rattle.triplets.proofs.LineBounds.{place_within, place_small}
+use Rattle.triplets.proofs.Runs.{going}
 
 abbrev stands_at : TextPlace → Result TextPlace TextKind
 stands_at p = Ok p
@@ -23,7 +24,7 @@ stands_at p = Ok p
 same_place : (n : ℕ) (p q : TextPlace) → stands_at p ≡ stands_at q → IsTextPlaceWithin n p → IsTextPlaceWithin n q
 same_place n p q e h = subst (IsTextPlaceWithin n) (let z : p ≡ q = cc in z) h
 
-line_within : (n : ℕ) (r : Result LinePlace TextKind) (q : TextPlace) → ((p : LinePlace) → r ≡ placed p → IsPlaceWithin n p) → in_line r ≡ stands_at q → IsTextPlaceWithin n q
+line_within : (n : ℕ) (r : Result LinePlace TextKind) (q : TextPlace) → ((p : LinePlace) → r ≡ going p → IsPlaceWithin n p) → in_line r ≡ stands_at q → IsTextPlaceWithin n q
 line_within n (Ok p) q f e = same_place n (texts.Line p) q e (f p refl)
 line_within n (Err k) q f e = absurd cc
 
@@ -35,7 +36,7 @@ first_within : (nt : Notation) → (m : Mark) (b n : ℕ) (q : TextPlace) → ma
 first_within nt m b n q i e = by m i e
   where
     begun : (m : Mark) → mark nt b ≡ m → in_line (start_step nt m) ≡ stands_at q → IsTextPlaceWithin (n + 1) q
-    begun m i e = line_within (n + 1) (start_step nt m) q (λ p w. place_within nt b n places.Start p tt (subst (λ x. start_step nt x ≡ placed p) (sym i) w)) e
+    begun m i e = line_within (n + 1) (start_step nt m) q (λ p w. place_within nt b n places.Start p tt (subst (λ x. start_step nt x ≡ going p) (sym i) w)) e
 
     by : (m : Mark) → mark nt b ≡ m → begin_line nt m ≡ stands_at q → IsTextPlaceWithin (n + 1) q
     by marks.Blank i e = same_place (n + 1) texts.Beginning q e tt

@@ -15,17 +15,16 @@ use Rattle.triplets.specs.declared.line.LinePlace.{LinePlace}
 use Rattle.triplets.specs.declared.line.LinePlace.TheVariants as places
 use Rattle.triplets.specs.Marks.{mark}
 use Rattle.triplets.specs.Lines.{IsLine}
-use Rattle.triplets.specs.LineReading.{LineState, line_start, line_step, line_run, place_step, completed, with_vector, ending, operations_of, at_place, listing_by}
+use Rattle.triplets.specs.LineReading.{LineState, line_start, line_step, line_run, place_step, completed, with_vector, ending, operations_of, at_place, listing_by, line_byte}
 use Rattle.triplets.specs.LineFaults.{IsGoodLine, IsLineFault}
 use Rattle.triplets.specs.declared.place.TextPlace.{TextPlace}
 use Rattle.triplets.specs.declared.place.TextPlace.TheVariants as texts
 use Rattle.triplets.specs.HeadingReading.{in_line, text_step, text_completed, text_ending, is_heading}
 use Rattle.triplets.specs.Texts.{with_front, lines_of, nothing_listed, listed_then, AreLines, IsFirstBad, Fault}
-use Rattle.triplets.specs.TextReading.{Said, Kept, said_vector, moved, new_line, ended, fault_here, with_operation, text_run, outcome}
-use Rattle.triplets.proofs.TextRuns.{run_faulty}
-use Rattle.triplets.proofs.LineBegun.{line_going, line_stopped}
+use Rattle.triplets.specs.TextReading.{Said, Kept, said_vector, moved, new_line, ended, fault_here, with_operation, text_run, outcome, byte_step}
 use Rattle.triplets.proofs.LineEnds.{is_line}
-use Rattle.triplets.proofs.LinePlaces.{line_more, end_fault, byte_fault}
+use Rattle.triplets.proofs.LinePlaces.{end_fault, byte_fault}
+use Rattle.triplets.proofs.Runs.{going, stopped, run_stopped, run_more}
 
 -- what is said with these lines behind
 abbrev pub said_then : Said → Listing → Said
@@ -44,7 +43,7 @@ pub record InLine (nt : Notation) (k : Kept) (here : LinePlace) (base : Said) (n
   pub centrings : k.said.listing.centrings ≡ base.listing.centrings ++ vs
   pub line : k.line ≡ n
   pub column : k.column ≡ length before + 1
-  pub run : line_run nt (Ok line_start) before ≡ line_going (record { place = here; vectors = vs })
+  pub run : line_run nt (Ok line_start) before ≡ going (record { place = here; vectors = vs })
 
 abbrev pub make_listing : List Motion → List Vector → Listing
 make_listing x y = record { ops = x; centrings = y }
@@ -65,9 +64,6 @@ outcome_more nt (Ok said) base a n l lines h t = (
   t.2 ∙ ap (make_said base.generated) (listing_path _ _ (append_assoc base.listing.ops a.ops t.0.ops) (append_assoc base.listing.centrings a.centrings t.0.centrings)),
 )
 outcome_more nt (Err f) base a n l lines h t = (t.0 + 1, t.1, omega (arith, t.2), t.3, rw add-one ((a, h), t.4))
-
-abbrev pub stepped : LinePlace → Result LinePlace TextKind
-stepped p = Ok p
 
 abbrev pub an_ending : Option Motion3 → Option (Option Motion3)
 an_ending o = Some o
@@ -120,7 +116,7 @@ pub front_front : (xs ys : List ℕ) (ls : List (List ℕ)) → with_front (xs +
 front_front xs ys [] = refl
 front_front xs ys (l ∷ ls) = ap (λ (x : List ℕ). x ∷ ls) (append_assoc xs ys l)
 
-first_bad : (nt : Notation) → (ls : List (List ℕ)) (before : List ℕ) (b : ℕ) (s : LineState) (k : TextKind) → line_run nt (Ok line_start) before ≡ line_going s → line_step nt (mark nt b) s ≡ line_stopped k →
+first_bad : (nt : Notation) → (ls : List (List ℕ)) (before : List ℕ) (b : ℕ) (s : LineState) (k : TextKind) → line_run nt (Ok line_start) before ≡ going s → line_step nt (mark nt b) s ≡ stopped k →
     IsFirstBad nt (IsGoodLine nt) (with_front before (with_front (b ∷ []) ls)) 0 (length before) k
 first_bad nt [] before b s k w e = byte_fault nt before [] b s k w e
 first_bad nt (l ∷ ls) before b s k w e = byte_fault nt before l b s k w e
@@ -159,7 +155,7 @@ next_line nt o k here base n before vs h =
 abbrev pub at_next_byte : (nt : Notation) → ℕ → LinePlace → LinePlace → Kept → Kept
 at_next_byte nt b here p k = record { said = said_vector (completed (mark nt b) here) k.said; line = k.line; column = k.column + 1; place = texts.Line p }
 
-pub next_byte : (nt : Notation) → (b : ℕ) (p : LinePlace) (k : Kept) (here : LinePlace) (base : Said) (n : ℕ) (before : List ℕ) (vs : List Vector) → InLine nt k here base n before vs → place_step nt (mark nt b) here ≡ stepped p →
+pub next_byte : (nt : Notation) → (b : ℕ) (p : LinePlace) (k : Kept) (here : LinePlace) (base : Said) (n : ℕ) (before : List ℕ) (vs : List Vector) → InLine nt k here base n before vs → place_step nt (mark nt b) here ≡ going p →
     InLine nt (at_next_byte nt b here p k) p base n (before ++ b ∷ []) (with_vector (completed (mark nt b) here) vs)
 next_byte nt b p k here base n before vs h e = record {
   place = refl;
@@ -168,13 +164,13 @@ next_byte nt b p k here base n before vs h e = record {
   centrings = vectors_more (completed (mark nt b) here) k.said.listing.centrings base.listing.centrings vs h.centrings;
   line = h.line;
   column = omega (arith, h.column, length-append before (b ∷ []));
-  run = line_more nt before b (record { place = here; vectors = vs }) _ h.run (ap (λ (x : Result LinePlace TextKind). at_place x (with_vector (completed (mark nt b) here) vs)) e);
+  run = run_more (line_byte nt) (Ok line_start) before b (record { place = here; vectors = vs }) _ h.run (ap (λ (x : Result LinePlace TextKind). at_place x (with_vector (completed (mark nt b) here) vs)) e);
 }
 
 outcome_line : (nt : Notation) → (o : Option (Option Motion3)) (bs : List ℕ) (k : Kept) (here : LinePlace) (base : Said) (n : ℕ) (before : List ℕ) (vs : List Vector) → ReadAfter nt bs → InLine nt k here base n before vs → ending nt here ≡ o →
     IsOutcome nt (outcome nt (text_run nt (new_line (ended o false k) k) bs)) base n ((before ++ []) ∷ lines_of bs)
 outcome_line nt None bs k here base n before vs further h e =
-    subst (λ r. IsOutcome nt (outcome nt r) base n ((before ++ []) ∷ lines_of bs)) (sym (run_faulty nt (fault_here k kinds.MissingPart) bs)) (bad_end nt k here base n before vs (lines_of bs) h e)
+    subst (λ r. IsOutcome nt (outcome nt r) base n ((before ++ []) ∷ lines_of bs)) (sym (run_stopped (byte_step nt) (fault_here k kinds.MissingPart) bs)) (bad_end nt k here base n before vs (lines_of bs) h e)
 outcome_line nt (Some o) bs k here base n before vs further h e =
     let a = make_listing (operations_of o) vs in
     let k' = at_next_line o k in
@@ -185,7 +181,7 @@ outcome_line nt (Some o) bs k here base n before vs further h e =
 outcome_moved : (nt : Notation) → (r : Result LinePlace TextKind) (b : ℕ) (bs : List ℕ) (k : Kept) (here : LinePlace) (base : Said) (n : ℕ) (before : List ℕ) (vs : List Vector) → ReadAfter nt bs → InLine nt k here base n before vs → place_step nt (mark nt b) here ≡ r →
     IsOutcome nt (outcome nt (text_run nt (moved (in_line r) (completed (mark nt b) here) k) bs)) base n (with_front before (with_front (b ∷ []) (lines_of bs)))
 outcome_moved nt (Err kind) b bs k here base n before vs further h e =
-    subst (λ r. IsOutcome nt (outcome nt r) base n (with_front before (with_front (b ∷ []) (lines_of bs)))) (sym (run_faulty nt (fault_here k kind) bs)) (
+    subst (λ r. IsOutcome nt (outcome nt r) base n (with_front before (with_front (b ∷ []) (lines_of bs)))) (sym (run_stopped (byte_step nt) (fault_here k kind) bs)) (
       0,
       length before,
       omega (arith, h.line),

@@ -7,37 +7,23 @@ use Rattle.triplets.specs.declared.fault.TextFault.{TextFault}
 use Rattle.triplets.specs.declared.fault.TextFault.TheVariants as faults
 use Rattle.triplets.specs.declared.text.LineReader.{LineReader}
 use Rattle.triplets.specs.Texts.{Fault}
-use Rattle.triplets.specs.TextReading.{Kept, kept_start, kept, byte_step, text_advance, text_run, kept_or, Stands, Refuses}
-use Rattle.triplets.proofs.TextRuns.{keeping, faulty, run_faulty, text_run-append}
+use Rattle.triplets.specs.TextReading.{Kept, kept_start, kept, byte_step, text_run, kept_or, Stands, Refuses}
+use Rattle.triplets.proofs.Runs.{run_stopped, run_next, run_all, run_whole, run_then}
+use Rattle.triplets.specs.Runs.{advanced}
 
--- one more byte
-pub text_more : (nt : Notation) → (text piece : List ℕ) (i : ℕ) (k : Kept) (r : Result Kept Fault) → i < length piece → text_run nt (Ok kept_start) (text ++ take i piece) ≡ keeping k → byte_step nt (get_or piece i 0) k ≡ r →
-    text_run nt (Ok kept_start) (text ++ take (i + 1) piece) ≡ r
-text_more nt text piece i k r h w e =
-    ap (λ (x : List ℕ). text_run nt (Ok kept_start) (text ++ x)) (let z : take (i + 1) piece ≡ take i piece ++ (get_or piece i 0 ∷ []) = rw add-one (take-suc piece i 0 h) in z)
-    ∙ (ap (text_run nt (Ok kept_start)) (sym (append_assoc text (take i piece) (get_or piece i 0 ∷ [])))
-    ∙ (text_run-append nt (Ok kept_start) (text ++ take i piece) (get_or piece i 0 ∷ [])
-    ∙ (ap (λ (x : Result Kept Fault). text_advance nt x (get_or piece i 0)) w ∙ e)))
-
-pub text_all : (nt : Notation) → (text piece : List ℕ) (i : ℕ) (f : Fault) → text_run nt (Ok kept_start) (text ++ take i piece) ≡ faulty f → text_run nt (Ok kept_start) (text ++ piece) ≡ faulty f
-text_all nt text piece i f w =
-    ap (λ (x : List ℕ). text_run nt (Ok kept_start) (text ++ x)) (sym (take-append-drop i piece))
-    ∙ (ap (text_run nt (Ok kept_start)) (sym (append_assoc text (take i piece) (drop i piece)))
-    ∙ (text_run-append nt (Ok kept_start) (text ++ take i piece) (drop i piece)
-    ∙ (ap (λ (x : Result Kept Fault). text_run nt x (drop i piece)) w ∙ run_faulty nt f (drop i piece))))
-
-pub text_fault : (nt : Notation) → (text piece : List ℕ) (i : ℕ) (k : Kept) (f : Fault) → i < length piece → text_run nt (Ok kept_start) (text ++ take i piece) ≡ keeping k → byte_step nt (get_or piece i 0) k ≡ faulty f →
-    text_run nt (Ok kept_start) (text ++ piece) ≡ faulty f
-text_fault nt text piece i k f h w e = text_all nt text piece (i + 1) f (text_more nt text piece i k (faulty f) h w e)
+-- a byte of a piece
+pub text_fault : (nt : Notation) → (text piece : List ℕ) (i : ℕ) (k : Kept) (f : Fault) → i < length piece → text_run nt (Ok kept_start) (text ++ take i piece) ≡ Ok k → byte_step nt (get_or piece i 0) k ≡ Err f →
+    text_run nt (Ok kept_start) (text ++ piece) ≡ Err f
+text_fault nt text piece i k f h w e = run_all (byte_step nt) (Ok kept_start) text piece (i + 1) f (run_next (byte_step nt) (Ok kept_start) text piece i k (Err f) h w e)
 
 abbrev pub a_fault : TextFault → Option TextFault
 a_fault e = Some e
 
 -- before a fault
-pub stands_kept : (nt : Notation) → (r : LineReader) (text : List ℕ) → Stands nt r text → r.fault ≡ None → text_run nt (Ok kept_start) text ≡ keeping (kept r)
+pub stands_kept : (nt : Notation) → (r : LineReader) (text : List ℕ) → Stands nt r text → r.fault ≡ None → text_run nt (Ok kept_start) text ≡ Ok (kept r)
 stands_kept nt r text h e = h.run_is ∙ ap (λ (o : Option TextFault). kept_or o (kept r)) e
 
-pub stands_nothing : (nt : Notation) → (r : LineReader) (text piece : List ℕ) → Stands nt r text → r.fault ≡ None → text_run nt (Ok kept_start) (text ++ take 0 piece) ≡ keeping (kept r)
+pub stands_nothing : (nt : Notation) → (r : LineReader) (text piece : List ℕ) → Stands nt r text → r.fault ≡ None → text_run nt (Ok kept_start) (text ++ take 0 piece) ≡ Ok (kept r)
 stands_nothing nt r text piece h e = ap (text_run nt (Ok kept_start)) (append-nil text) ∙ stands_kept nt r text h e
 
 -- a fault that was answered is that of the text
@@ -89,9 +75,8 @@ err_stands r q e b piece i h n g f =
 pub again : (nt : Notation) → (r : LineReader) (e : TextFault) (text piece : List ℕ) → r.fault ≡ a_fault e → Stands nt r text → Refuses e (text_run nt (Ok kept_start) (text ++ piece))
 again nt r faults.NoMemory text piece h s = tt
 again nt r (faults.At l c k) text piece h s =
-    text_run-append nt (Ok kept_start) text piece
-    ∙ (ap (λ (x : Result Kept Fault). text_run nt x piece) (s.run_is ∙ ap (λ (o : Option TextFault). kept_or o (kept r)) h)
-    ∙ run_faulty nt (record { line = l; column = c; kind = k }) piece)
+    let f : Fault = record { line = l; column = c; kind = k } in
+    run_then (byte_step nt) (Ok kept_start) (Err f) (Err f) text piece (s.run_is ∙ ap (λ (o : Option TextFault). kept_or o (kept r)) h) (run_stopped (byte_step nt) f piece)
 
 pub again_stands : (nt : Notation) → (r q : LineReader) (e : TextFault) (text piece : List ℕ) → r.fault ≡ a_fault e → q.notation ≡ r.notation → q.fault ≡ r.fault → q.fed ≡ r.fed + length piece → Stands nt r text → Stands nt q (text ++ piece)
 again_stands nt r q faults.NoMemory text piece h o i n s = absurd (s.memory h)
@@ -102,11 +87,11 @@ again_stands nt r q (faults.At l c k) text piece h x i n s = record {
   reads = x ∙ s.reads;
 }
 
-pub all_read : (nt : Notation) → (text piece : List ℕ) (i : ℕ) (k : Kept) → i ≡ length piece → text_run nt (Ok kept_start) (text ++ take i piece) ≡ keeping k → text_run nt (Ok kept_start) (text ++ piece) ≡ keeping k
-all_read nt text piece i k e w = ap (λ (x : List ℕ). text_run nt (Ok kept_start) (text ++ x)) (sym (ap (λ m. take m piece) e ∙ take-length piece)) ∙ w
+pub all_read : (nt : Notation) → (text piece : List ℕ) (i : ℕ) (k : Kept) → i ≡ length piece → text_run nt (Ok kept_start) (text ++ take i piece) ≡ Ok k → text_run nt (Ok kept_start) (text ++ piece) ≡ Ok k
+all_read nt text piece i k = run_whole (byte_step nt) (Ok kept_start) text piece i (Ok k)
 
 -- the whole piece is read
-pub stands_all : (nt : Notation) → (r q : LineReader) (text piece : List ℕ) (i : ℕ) → i ≡ length piece → text_run nt (Ok kept_start) (text ++ take i piece) ≡ keeping (kept q) → q.notation ≡ r.notation → q.fault ≡ None → q.fed ≡ r.fed + length piece → Stands nt r text → Stands nt q (text ++ piece)
+pub stands_all : (nt : Notation) → (r q : LineReader) (text piece : List ℕ) (i : ℕ) → i ≡ length piece → text_run nt (Ok kept_start) (text ++ take i piece) ≡ Ok (kept q) → q.notation ≡ r.notation → q.fault ≡ None → q.fed ≡ r.fed + length piece → Stands nt r text → Stands nt q (text ++ piece)
 stands_all nt r q text piece i e w x f n s = record {
   run_is = all_read nt text piece i (kept q) e w ∙ sym (ap (λ (o : Option TextFault). kept_or o (kept q)) f);
   fed = n ∙ (ap (λ m. m + length piece) s.fed ∙ sym (length-append text piece));

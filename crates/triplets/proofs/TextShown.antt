@@ -16,12 +16,12 @@ use Rattle.triplets.specs.LineFaults.{IsGoodLine, IsPrefixOfGoodLine}
 use Rattle.triplets.specs.declared.line.LinePlace.TheVariants as places
 use Rattle.triplets.specs.HeadingReading.{in_line}
 use Rattle.triplets.specs.Texts.{with_front, lines_of, Fault, IsFirstShown}
-use Rattle.triplets.specs.TextReading.{Said, Kept, moved, new_line, ended, fault_here, text_run}
-use Rattle.triplets.proofs.TextRuns.{run_faulty}
-use Rattle.triplets.proofs.LineBegun.{line_going, line_stopped}
+use Rattle.triplets.specs.TextReading.{Said, Kept, moved, new_line, ended, fault_here, text_run, byte_step}
 use Rattle.triplets.proofs.LineEnds.{is_line_prefix}
-use Rattle.triplets.proofs.LinePlaces.{byte_fault, shorter}
+use Rattle.triplets.proofs.LinePlaces.{byte_fault}
 use Rattle.triplets.proofs.TextEnds.{step_at, said_then, InLine, make_listing, a_line, bad_line, front_nil, front_front, at_next_line, next_line, at_next_byte, next_byte}
+use Rattle.triplets.proofs.Runs.{going, stopped, run_stopped}
+use Rattle.triplets.proofs.Places.{shorter}
 
 -- nothing of these lines is shown to be bad
 abbrev pub IsNoneShown : (nt : Notation) → (List ℕ → Type 0) → List (List ℕ) → Type 0
@@ -57,7 +57,7 @@ pub some_line : (bs : List ℕ) → lines_of bs ≢ []
 some_line [] e = cc
 some_line (b ∷ bs) e = some_line_at (b == 10) b (lines_of bs) (lines_of bs) e
 
-first_shown : (nt : Notation) → (ls : List (List ℕ)) (before : List ℕ) (b : ℕ) (s : LineState) (k : TextKind) → line_run nt (Ok line_start) before ≡ line_going s → line_step nt (mark nt b) s ≡ line_stopped k →
+first_shown : (nt : Notation) → (ls : List (List ℕ)) (before : List ℕ) (b : ℕ) (s : LineState) (k : TextKind) → line_run nt (Ok line_start) before ≡ going s → line_step nt (mark nt b) s ≡ stopped k →
     IsFirstShown nt (IsGoodLine nt) (with_front before (with_front (b ∷ []) ls)) 0 (length before) k
 first_shown nt [] before b s k w e = (byte_fault nt before [] b s k w e, inl (omega (arith, length-append before (b ∷ []))))
 first_shown nt (l ∷ ls) before b s k w e = (byte_fault nt before l b s k w e, inl (omega (arith, length-append before (b ∷ l))))
@@ -69,7 +69,7 @@ ShownAfter nt bs = (k : Kept) (here : LinePlace) (base : Said) (n : ℕ) (before
 shown_line : (nt : Notation) → (o : Option (Option Motion3)) (bs : List ℕ) (k : Kept) (here : LinePlace) (base : Said) (n : ℕ) (before : List ℕ) (vs : List Vector) → ShownAfter nt bs → InLine nt k here base n before vs → ending nt here ≡ o →
     IsShownSoFar nt (IsGoodLine nt) (text_run nt (new_line (ended o false k) k) bs) n ((before ++ []) ∷ lines_of bs)
 shown_line nt None bs k here base n before vs further h e =
-    subst (λ r. IsShownSoFar nt (IsGoodLine nt) r n ((before ++ []) ∷ lines_of bs)) (sym (run_faulty nt (fault_here k kinds.MissingPart) bs)) (0, length before, omega (arith, h.line), h.column, (bad_line nt k here base n before vs h e, inr (some_line bs)))
+    subst (λ r. IsShownSoFar nt (IsGoodLine nt) r n ((before ++ []) ∷ lines_of bs)) (sym (run_stopped (byte_step nt) (fault_here k kinds.MissingPart) bs)) (0, length before, omega (arith, h.line), h.column, (bad_line nt k here base n before vs h e, inr (some_line bs)))
 shown_line nt (Some o) bs k here base n before vs further h e =
     let a = make_listing (operations_of o) vs in
     let k' = at_next_line o k in
@@ -79,7 +79,7 @@ shown_line nt (Some o) bs k here base n before vs further h e =
 shown_moved : (nt : Notation) → (r : Result LinePlace TextKind) (b : ℕ) (bs : List ℕ) (k : Kept) (here : LinePlace) (base : Said) (n : ℕ) (before : List ℕ) (vs : List Vector) → ShownAfter nt bs → InLine nt k here base n before vs → place_step nt (mark nt b) here ≡ r →
     IsShownSoFar nt (IsGoodLine nt) (text_run nt (moved (in_line r) (completed (mark nt b) here) k) bs) n (with_front before (with_front (b ∷ []) (lines_of bs)))
 shown_moved nt (Err kind) b bs k here base n before vs further h e =
-    subst (λ r. IsShownSoFar nt (IsGoodLine nt) r n (with_front before (with_front (b ∷ []) (lines_of bs)))) (sym (run_faulty nt (fault_here k kind) bs)) (
+    subst (λ r. IsShownSoFar nt (IsGoodLine nt) r n (with_front before (with_front (b ∷ []) (lines_of bs)))) (sym (run_stopped (byte_step nt) (fault_here k kind) bs)) (
       0,
       length before,
       omega (arith, h.line),

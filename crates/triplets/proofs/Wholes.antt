@@ -16,41 +16,21 @@ use Rattle.triplets.specs.Marks.{mark}
 use Rattle.triplets.specs.declared.notation.Notation.TheVariants.{Triplets, Pairs}
 use Rattle.triplets.specs.Rows.{zero_row, axis_row, motion3_with, motion_with}
 use Rattle.triplets.specs.PartReading.{begin, settled, part_step}
-use Rattle.triplets.specs.TripletReading.{start, with_part, in_part, next_part, comma_at, value_at, value, step, advance, run}
+use Rattle.triplets.specs.TripletReading.{start, with_part, in_part, next_part, comma_at, value_at, value, step, run, operation_byte}
 use Rattle.triplets.specs.Grammar.{Digit, Numerator, numerator_text, whole, fraction, bare, lead_text, Written, part_text, part_row, ThirdPart, third_text, third_row, IsOperation}
 use Rattle.triplets.specs.Faults.{IsGood, IsPrefixOfGood}
 use Rattle.triplets.proofs.Bytes.{IsMark, mark_is}
-use Rattle.triplets.proofs.PartRuns.{run_part, after_state}
+use Rattle.triplets.proofs.PartRuns.{run_part, after_state, part_byte}
 use Rattle.triplets.proofs.Written.{written_run, settled_after}
 use Rattle.triplets.specs.Denominators.{denominator_text}
 use Rattle.triplets.proofs.Divisors.{one}
-use Rattle.triplets.proofs.Partials.{Partial, lead, digits, divided, below, behind, partial_text, partial_state, fine, grows_by, whole_part}
-
--- ---- runs
-
-pub run-append : (nt : Notation) → (r : Result TripletReader TextKind) (xs ys : List ℕ) → run nt r (xs ++ ys) ≡ run nt (run nt r xs) ys
-run-append nt r [] ys = refl
-run-append nt r (x ∷ xs) ys = run-append nt (advance nt r x) xs ys
-
-abbrev pub going : TripletReader → Result TripletReader TextKind
-going s = Ok s
-
-abbrev pub stopped : TextKind → Result TripletReader TextKind
-stopped k = Err k
-
-pub going_is : (s t : TripletReader) → going s ≡ going t → t ≡ s
-going_is s t e = cc
-
-pub run_stopped : (nt : Notation) → (k : TextKind) (xs : List ℕ) → run nt (stopped k) xs ≡ stopped k
-run_stopped nt k [] = refl
-run_stopped nt k (x ∷ xs) = run_stopped nt k xs
-
-then_run : (nt : Notation) → (s t u : TripletReader) (xs ys : List ℕ) → run nt (Ok s) xs ≡ going t → run nt (Ok t) ys ≡ going u → run nt (Ok s) (xs ++ ys) ≡ going u
-then_run nt s t u xs ys p q = run-append nt (Ok s) xs ys ∙ (ap (λ (r : Result TripletReader TextKind). run nt r ys) p ∙ q)
+use Rattle.triplets.proofs.Partials.{Partial, lead, digits, divided, below, behind, partial_text, partial_state, grows_by, whole_part}
+use Rattle.triplets.proofs.Runs.{going, stopped, going_is, run-append, run_stopped, no_run, goes_on, follows, Goes, run_then}
+use Rattle.triplets.proofs.Places.{none_begins}
 
 -- ---- a part in its triplet
 
-in_part_step : (nt : Notation) → (m : Mark) (s : TripletReader) (p q : PartReader) → part_step m p ≡ fine q → step nt m (with_part p s) ≡ going (with_part q s)
+in_part_step : (nt : Notation) → (m : Mark) (s : TripletReader) (p q : PartReader) → part_step m p ≡ going q → step nt m (with_part p s) ≡ going (with_part q s)
 in_part_step nt marks.Comma s p q e = absurd cc
 in_part_step nt marks.Hash s p q e = absurd cc
 in_part_step nt marks.Open s p q e = absurd cc
@@ -58,18 +38,8 @@ in_part_step nt marks.Close s p q e = absurd cc
 in_part_step nt marks.Other s p q e = absurd cc
 in_part_step nt m s p q e = ap (in_part (with_part p s)) e
 
-pub err_part : (nt : Notation) → (k : TextKind) (bs : List ℕ) (q : PartReader) → (let r : Result PartReader TextKind = Err k in run_part nt r bs ≡ fine q) → ⊥
-err_part nt k [] q e = cc
-err_part nt k (b ∷ bs) q e = err_part nt k bs q e
-
-in_part_run_by : (nt : Notation) → (r : Result PartReader TextKind) (b : ℕ) (bs : List ℕ) (s : TripletReader) (p q : PartReader) → ((t : PartReader) → run_part nt (Ok t) bs ≡ fine q → run nt (Ok (with_part t s)) bs ≡ going (with_part q s)) →
-    part_step (mark nt b) p ≡ r → run_part nt r bs ≡ fine q → run nt (Ok (with_part p s)) (b ∷ bs) ≡ going (with_part q s)
-in_part_run_by nt (Ok t) b bs s p q further h e = ap (λ (r : Result TripletReader TextKind). run nt r bs) (in_part_step nt (mark nt b) s p t h) ∙ further t e
-in_part_run_by nt (Err k) b bs s p q further h e = absurd (err_part nt k bs q e)
-
-in_part_run : (nt : Notation) → (bs : List ℕ) (s : TripletReader) (p q : PartReader) → run_part nt (Ok p) bs ≡ fine q → run nt (Ok (with_part p s)) bs ≡ going (with_part q s)
-in_part_run nt [] s p q e = ap (λ (r : Result PartReader TextKind). in_part s r) e
-in_part_run nt (b ∷ bs) s p q e = in_part_run_by nt (part_step (mark nt b) p) b bs s p q (λ t. in_part_run nt bs s t q) refl e
+in_part_run : (nt : Notation) → (bs : List ℕ) (s : TripletReader) (p q : PartReader) → run_part nt (Ok p) bs ≡ going q → run nt (Ok (with_part p s)) bs ≡ going (with_part q s)
+in_part_run nt bs s = follows (part_byte nt) (operation_byte nt) (λ p. with_part p s) (λ b p q. in_part_step nt (mark nt b) s p q) bs
 
 -- a whole part
 part_run : (nt : Notation) → (w : Written nt) (s : TripletReader) → run nt (Ok (with_part begin s)) (part_text nt w) ≡ going (with_part (after_state w.lead w.last w.after) s)
@@ -98,10 +68,10 @@ third_run Pairs v w x = refl
 
 pub rows_run : (nt : Notation) → (v w : Written nt) (x : ThirdPart nt) → run nt (Ok start) (part_text nt v ++ (44 ∷ (part_text nt w ++ third_text nt x))) ≡ going (last_state nt v w x)
 rows_run nt v w x =
-    then_run nt start (with_part (after_state v.lead v.last v.after) start) (last_state nt v w x) (part_text nt v) (44 ∷ (part_text nt w ++ third_text nt x))
+    run_then (operation_byte nt) (Ok start) (Ok (with_part (after_state v.lead v.last v.after) start)) (Ok (last_state nt v w x)) (part_text nt v) (44 ∷ (part_text nt w ++ third_text nt x))
     (part_run nt v start)
     (ap (λ (r : Result TripletReader TextKind). run nt r (part_text nt w ++ third_text nt x)) (comma_run nt v start)
-    ∙ then_run nt (second_state (part_row nt v)) (with_part (after_state w.lead w.last w.after) (second_state (part_row nt v))) (last_state nt v w x) (part_text nt w) (third_text nt x)
+    ∙ run_then (operation_byte nt) (Ok (second_state (part_row nt v))) (Ok (with_part (after_state w.lead w.last w.after) (second_state (part_row nt v)))) (Ok (last_state nt v w x)) (part_text nt w) (third_text nt x)
     (part_run nt w (second_state (part_row nt v)))
     (third_run nt v w x))
 
@@ -146,15 +116,13 @@ begun_state nt (in_first q) = record { nth = First; first = zero_row; second = z
 begun_state nt (in_second w q) = record { nth = Second; first = part_row nt w; second = zero_row; part = partial_state nt q }
 begun_state nt (in_third i v w q) = record { nth = Third; first = part_row nt v; second = part_row nt w; part = partial_state nt q }
 
-pub record GoesOn (nt : Notation) (q : Begun nt) (bs : List ℕ) (s : TripletReader) : Type 0 where
-  pub to : Begun nt
-  pub text : begun_text nt q ++ bs ≡ begun_text nt to
-  pub state : s ≡ begun_state nt to
+abbrev pub GoesOn : (nt : Notation) → Begun nt → List ℕ → TripletReader → Type 0
+GoesOn nt = Goes (begun_text nt) (begun_state nt)
 
 -- a step in the part
 pub record PartStep (s : TripletReader) (r : Result PartReader TextKind) (t : TripletReader) : Type 0 where
   pub part : PartReader
-  pub part_is : r ≡ fine part
+  pub part_is : r ≡ going part
   pub state : t ≡ with_part part s
 
 pub part_step_is : (r : Result PartReader TextKind) (s t : TripletReader) → in_part s r ≡ going t → PartStep s r t
@@ -215,35 +183,9 @@ goes_by nt marks.Comma q b t h e = subst (λ c. GoesOn nt q (c ∷ []) t) (sym h
 goes_by nt marks.Hash q b t h e = absurd cc
 goes_by nt m q b t h e = goes_in_part nt q m b t h e
 
-pub run_err : (nt : Notation) → (k : TextKind) (bs : List ℕ) (t : TripletReader) → run nt (stopped k) bs ≡ going t → ⊥
-run_err nt k bs t e = let h = run_stopped nt k bs in cc
-
-goes_on_by : (nt : Notation) → (r : Result TripletReader TextKind) (b : ℕ) (bs : List ℕ) (q : Begun nt) (t : TripletReader) → ((p : Begun nt) (u : TripletReader) → run nt (Ok (begun_state nt p)) bs ≡ going u → GoesOn nt p bs u) →
-    step nt (mark nt b) (begun_state nt q) ≡ r → run nt r bs ≡ going t → GoesOn nt q (b ∷ bs) t
-goes_on_by nt (Err k) b bs q t further h e = absurd (run_err nt k bs t e)
-goes_on_by nt (Ok s) b bs q t further h e =
-    let g = goes_by nt (mark nt b) q b s (mark_is nt b) h in
-    let f = further g.to t (ap (λ (x : TripletReader). run nt (Ok x) bs) (sym g.state) ∙ e) in
-    record {
-      to = f.to;
-      text = sym (append_assoc (begun_text nt q) (b ∷ []) bs) ∙ (ap (λ (x : List ℕ). x ++ bs) g.text ∙ f.text);
-      state = f.state;
-    }
-
-pub goes_on : (nt : Notation) → (bs : List ℕ) (q : Begun nt) (t : TripletReader) → run nt (Ok (begun_state nt q)) bs ≡ going t → GoesOn nt q bs t
-goes_on nt [] q t e = record { to = q; text = append-nil (begun_text nt q); state = going_is _ t e }
-goes_on nt (b ∷ bs) q t e = goes_on_by nt (step nt (mark nt b) (begun_state nt q)) b bs q t (goes_on nt bs) refl e
-
 -- what is read without a fault is the beginning of a triplet
-pub record IsBegun (nt : Notation) (bytes : List ℕ) (s : TripletReader) : Type 0 where
-  pub tree : Begun nt
-  pub text : bytes ≡ begun_text nt tree
-  pub state : s ≡ begun_state nt tree
-
-pub is_begun : (nt : Notation) → (bytes : List ℕ) (s : TripletReader) → run nt (Ok start) bytes ≡ going s → IsBegun nt bytes s
-is_begun nt bytes s e =
-    let g = goes_on nt bytes (in_first (nothing nt)) s e in
-    record { tree = g.to; text = g.text; state = g.state }
+pub is_begun : (nt : Notation) → (bytes : List ℕ) (s : TripletReader) → run nt (Ok start) bytes ≡ going s → GoesOn nt (in_first (nothing nt)) bytes s
+is_begun nt bytes s e = goes_on (operation_byte nt) (begun_text nt) (begun_state nt) (λ q b t. goes_by nt (mark nt b) q b t (mark_is nt b)) bytes (in_first (nothing nt)) s e
 
 -- the whole triplet
 found_is : (s t : Motion3) → found s ≡ found t → t ≡ s
@@ -289,8 +231,8 @@ ends Pairs (Some p) (in_third i v w q) t h e = absurd cc
 pub is_triplet : (nt : Notation) → (bytes : List ℕ) (s : TripletReader) (t : Motion3) → run nt (Ok start) bytes ≡ going s → value nt s ≡ found t → IsOperation nt bytes (motion_of t)
 is_triplet nt bytes s t e v =
     let g = is_begun nt bytes s e in
-    let h : value nt (begun_state nt g.tree) ≡ found t = ap (value nt) (sym g.state) ∙ v in
-    subst (λ (x : List ℕ). IsOperation nt x (motion_of t)) (sym g.text) (whole_is nt (begun_text nt g.tree) t (ends nt (settled (begun_state nt g.tree).part) g.tree t refl h))
+    let h : value nt (begun_state nt g.to) ≡ found t = ap (value nt) (sym g.state) ∙ v in
+    subst (λ (x : List ℕ). IsOperation nt x (motion_of t)) (sym g.text) (whole_is nt (begun_text nt g.to) t (ends nt (settled (begun_state nt g.to).part) g.to t refl h))
 
 -- ---- each beginning goes on to a triplet
 
@@ -356,17 +298,8 @@ prefix_of Pairs (in_third i v w q) = absurd cc
 
 -- what is read without a fault is a prefix of a triplet
 pub is_prefix : (nt : Notation) → (bytes : List ℕ) (s : TripletReader) → run nt (Ok start) bytes ≡ going s → IsPrefixOfGood nt bytes
-is_prefix nt bytes s e = let g = is_begun nt bytes s e in subst (IsPrefixOfGood nt) (sym g.text) (prefix_of nt g.tree)
+is_prefix nt bytes s e = let g = is_begun nt bytes s e in subst (IsPrefixOfGood nt) (sym g.text) (prefix_of nt g.to)
 
 -- what has a fault is none
 pub no_prefix : (nt : Notation) → (bytes : List ℕ) (k : TextKind) → run nt (Ok start) bytes ≡ stopped k → IsPrefixOfGood nt bytes → ⊥
-no_prefix nt bytes k e h =
-    let r = is_read nt (bytes ++ h.0) h.1.0 h.1.1 in
-    let f = run-append nt (Ok start) bytes h.0 in
-    let g : run nt (run nt (Ok start) bytes) h.0 ≡ stopped k = ap (λ (x : Result TripletReader TextKind). run nt x h.0) e ∙ run_stopped nt k h.0 in
-    let z : going r.last ≡ stopped k = sym r.run_is ∙ (f ∙ g) in
-    cc
-
--- a triplet is a prefix of one
-pub good_prefix : (nt : Notation) → (bytes : List ℕ) → IsGood nt bytes → IsPrefixOfGood nt bytes
-good_prefix nt bytes h = ([], (h.0, subst (λ (x : List ℕ). IsOperation nt x h.0) (sym (append-nil bytes)) h.1))
+no_prefix nt = none_begins (operation_byte nt) start (IsGood nt) (λ bs h. let r = is_read nt bs h.0 h.1 in (r.last, r.run_is))

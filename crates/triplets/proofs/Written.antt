@@ -23,7 +23,9 @@ use Rattle.triplets.specs.Grammar.{Blank, space, tab, carriage_return, blanks_te
 use Rattle.triplets.proofs.Bytes.{mark_sign, mark_letter, mark_digit}
 use Rattle.triplets.proofs.Divisors.{at_least_one, at_most_unit, further_is, beginning_divides}
 use Rattle.triplets.proofs.NumberTrees.{digit, digit-value}
-use Rattle.triplets.proofs.PartRuns.{part_advance, run_part, run_then, lead_spot, state, lead_state, behind_state, term_state, after_state}
+use Rattle.triplets.proofs.PartRuns.{run_part, lead_spot, state, lead_state, behind_state, term_state, after_state, part_byte}
+use Rattle.triplets.proofs.Runs.{run_then}
+use Rattle.triplets.specs.Runs.{advanced}
 
 -- blanks change nothing before a term, and behind one
 
@@ -60,11 +62,11 @@ letter_run nt a c p axis new =
     ap (λ m. part_step m p) (mark_letter nt a c axis)
     ∙ ap (λ b. cond b (Err kinds.Repeated) (on_new_letter_at a p.spot p)) new
 
-digit_run : (nt : Notation) → (d : Digit) (p : PartReader) → part_advance nt (Ok p) d.byte ≡ on_digit (digit_value d) p
+digit_run : (nt : Notation) → (d : Digit) (p : PartReader) → advanced (part_byte nt) (Ok p) d.byte ≡ on_digit (digit_value d) p
 digit_run nt d p = ap (λ m. part_step m p) (mark_digit nt d)
 
 -- a first digit
-first_run : (nt : Notation) → (l : Lead) (d : Digit) → part_advance nt (Ok (lead_state l)) d.byte ≡ Ok (state l (Digits 1 (digit_value d)))
+first_run : (nt : Notation) → (l : Lead) (d : Digit) → advanced (part_byte nt) (Ok (lead_state l)) d.byte ≡ Ok (state l (Digits 1 (digit_value d)))
 first_run nt l d = digit_run nt d (lead_state l) ∙ digit_opens l (digit_value d) (lead_state l)
 
 few : (n : ℕ) (x y : Result PartReader TextKind) → n < 3 → cond (nat_le 3 n) x y ≡ y
@@ -87,7 +89,7 @@ numerator_run nt l n =
     ∙ digits_run nt (lead_row l) (lead_letters l) (lead_sign l) 1 (digit_value n.first) n.others (omega (arith, n.short))
 
 -- a digit of a denominator
-digit_below : (nt : Notation) → (p : PartReader) (v m e n : ℕ) → e < 10 → on_digit e p ≡ below_or v (further_digit m e) p → 10 * m + e ≡ n → n ∣ unit → part_advance nt (Ok p) (48 + e) ≡ Ok (with_spot (Below v n) p)
+digit_below : (nt : Notation) → (p : PartReader) (v m e n : ℕ) → e < 10 → on_digit e p ≡ below_or v (further_digit m e) p → 10 * m + e ≡ n → n ∣ unit → advanced (part_byte nt) (Ok p) (48 + e) ≡ Ok (with_spot (Below v n) p)
 digit_below nt p v m e n small at is h =
     digit_run nt (digit e small) p
     ∙ (ap (λ k. on_digit k p) (digit-value e small) ∙ (at ∙ ap (λ o. below_or v o p) (further_is m e n is h)))
@@ -104,7 +106,7 @@ below_run nt (suc k) r u s v n most h =
       | inl below ↦ ap (λ ds. run_part nt (Ok start) ds) (decimal_digit n below) ∙ digit_below nt start v 0 n n below refl (omega arith) h
       | inr above ↦
           ap (λ ds. run_part nt (Ok start) ds) (decimal_step n above (omega (arith, at_most_unit n h)))
-          ∙ run_then nt (Ok start) (Ok (under (n / 10))) (Ok (under n)) (decimal_text (n / 10)) ((48 + n % 10) ∷ [])
+          ∙ run_then (part_byte nt) (Ok start) (Ok (under (n / 10))) (Ok (under n)) (decimal_text (n / 10)) ((48 + n % 10) ∷ [])
           (below_run nt k r u s v (n / 10) (omega arith) (beginning_divides n above h))
           (digit_below nt (under (n / 10)) v (n / 10) (n % 10) n (omega arith) refl (omega arith) h)
     ]
@@ -120,7 +122,7 @@ term_run nt l (multiple d h a c) new =
     ∙ one_digit (digit_value d) _ (Err kinds.Coefficient) (omega arith))
 term_run nt l (whole n) new = numerator_run nt l n
 term_run nt l (fraction n d) new =
-    run_then nt (Ok (lead_state l)) (Ok (state l (Digits (1 + length n.others) (numerator_value n)))) (Ok (term_state l (fraction n d))) (numerator_text n) (47 ∷ denominator_text d)
+    run_then (part_byte nt) (Ok (lead_state l)) (Ok (state l (Digits (1 + length n.others) (numerator_value n)))) (Ok (term_state l (fraction n d))) (numerator_text n) (47 ∷ denominator_text d)
     (numerator_run nt l n)
     (below_run nt d.number (lead_row l) (lead_letters l) (lead_sign l) (numerator_value n) d.number (le_refl d.number) d.divides)
 
@@ -165,22 +167,22 @@ sign_run nt p q s cs h =
 pub lead_run : (nt : Notation) → (l : Lead) → IsLead nt l → run_part nt (Ok begin) (lead_text l) ≡ Ok (lead_state l)
 lead_run nt (bare bs) good = still_begin nt begin.row begin.used begin.sign bs
 lead_run nt (sign bs s cs) good =
-    run_then nt (Ok begin) (Ok begin) (Ok (lead_state (sign bs s cs))) (blanks_text bs) (sign_byte s ∷ blanks_text cs)
+    run_then (part_byte nt) (Ok begin) (Ok begin) (Ok (lead_state (sign bs s cs))) (blanks_text bs) (sign_byte s ∷ blanks_text cs)
     (still_begin nt begin.row begin.used begin.sign bs)
     (sign_run nt begin begin s cs refl)
 lead_run nt (more l t bs s cs) good =
-    run_then nt (Ok begin) (Ok (lead_state l)) (Ok (lead_state (more l t bs s cs))) (lead_text l) (term_text t ++ (blanks_text bs ++ sign_byte s ∷ blanks_text cs))
+    run_then (part_byte nt) (Ok begin) (Ok (lead_state l)) (Ok (lead_state (more l t bs s cs))) (lead_text l) (term_text t ++ (blanks_text bs ++ sign_byte s ∷ blanks_text cs))
     (lead_run nt l good.0)
-    (run_then nt (Ok (lead_state l)) (Ok (term_state l t)) (Ok (lead_state (more l t bs s cs))) (term_text t) (blanks_text bs ++ sign_byte s ∷ blanks_text cs)
+    (run_then (part_byte nt) (Ok (lead_state l)) (Ok (term_state l t)) (Ok (lead_state (more l t bs s cs))) (term_text t) (blanks_text bs ++ sign_byte s ∷ blanks_text cs)
     (term_run nt l t good.1)
-    (run_then nt (Ok (term_state l t)) (Ok (after_state l t bs)) (Ok (lead_state (more l t bs s cs))) (blanks_text bs) (sign_byte s ∷ blanks_text cs)
+    (run_then (part_byte nt) (Ok (term_state l t)) (Ok (after_state l t bs)) (Ok (lead_state (more l t bs s cs))) (blanks_text bs) (sign_byte s ∷ blanks_text cs)
     (after_run nt l t bs)
     (sign_run nt (after_state l t bs) (behind_state l t) s cs (sign_after l t bs s))))
 
 pub written_run : (nt : Notation) → (w : Written nt) → run_part nt (Ok begin) (part_text nt w) ≡ Ok (after_state w.lead w.last w.after)
 written_run nt w =
-    run_then nt (Ok begin) (Ok (lead_state w.lead)) (Ok (after_state w.lead w.last w.after)) (lead_text w.lead) (term_text w.last ++ blanks_text w.after)
+    run_then (part_byte nt) (Ok begin) (Ok (lead_state w.lead)) (Ok (after_state w.lead w.last w.after)) (lead_text w.lead) (term_text w.last ++ blanks_text w.after)
     (lead_run nt w.lead w.good)
-    (run_then nt (Ok (lead_state w.lead)) (Ok (term_state w.lead w.last)) (Ok (after_state w.lead w.last w.after)) (term_text w.last) (blanks_text w.after)
+    (run_then (part_byte nt) (Ok (lead_state w.lead)) (Ok (term_state w.lead w.last)) (Ok (after_state w.lead w.last w.after)) (term_text w.last) (blanks_text w.after)
     (term_run nt w.lead w.last w.new)
     (after_run nt w.lead w.last w.after))

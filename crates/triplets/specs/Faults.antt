@@ -1,7 +1,7 @@
 -- The place and the kind of a fault of an operation.
-use Rattle.std.specs.Prelude.{◌≡◌, ◌⊎◌, ℕ, ◌+◌, ◌≤◌, ◌==◌, ◌&&◌, ◌||◌, nat_le, Bool, true, false, if◌then◌else◌, IsTrue, List, [], ◌∷◌, take, slice_get, Option, Some, None}
+use Rattle.std.specs.Prelude.{◌≡◌, ◌⊎◌, ℕ, ◌+◌, ◌≤◌, ◌==◌, ◌&&◌, ◌||◌, nat_le, Bool, true, false, if◌then◌else◌, IsTrue, List, [], ◌∷◌}
 use Rattle.triplets.specs.Bytes.{comma, hash, slash}
-use Rattle.triplets.specs.Places.{IsPrefixIn, IsPlaceIn}
+use Rattle.triplets.specs.Places.{IsPrefixIn, IsFaultBy}
 use Rattle.triplets.specs.declared.marks.Axis.{Axis}
 use Rattle.triplets.specs.declared.marks.Axis.TheVariants.{X, Y, Z}
 use Rattle.triplets.specs.declared.fault.TextKind.{TextKind}
@@ -79,12 +79,6 @@ HasKind notation before b kind =
     TableRow (IsTrue (is_digit b) × (3 ≤ digits_at_end 0 before)) kinds.Coefficient kind (
     kind ≡ kinds.UnknownSign)))))))
 
--- where no byte stands at the place, the text ends too early
-abbrev pub HasKindAt : Notation → List ℕ → Option ℕ → TextKind → Type 0
-HasKindAt notation before None kind = kind ≡ kinds.MissingPart
-HasKindAt notation before (Some b) kind = HasKind notation before b kind
-
 -- the place of the fault, counted from 0, and its kind
-pub record IsFault (notation : Notation) (bytes : List ℕ) (before : ℕ) (kind : TextKind) : Type 0 where
-  pub place : IsPlaceIn (IsGood notation) bytes before
-  pub kind_is : HasKindAt notation (take before bytes) (slice_get bytes before) kind
+abbrev pub IsFault : Notation → List ℕ → ℕ → TextKind → Type 0
+IsFault notation = IsFaultBy (HasKind notation) (IsGood notation)

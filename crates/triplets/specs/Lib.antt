@@ -6,6 +6,7 @@ pub mod Rows
 pub mod FlatTexts
 pub mod Grammar
 pub mod Places
+pub mod Runs
 pub mod Faults
 pub mod PartReading
 pub mod TripletReading

@@ -1,5 +1,5 @@
 -- The place and the kind of the fault of a line.
-use Rattle.std.specs.Prelude.{◌≡◌, ◌⊎◌, ℕ, ◌+◌, ◌≤◌, ◌==◌, ◌||◌, Bool, true, false, if◌then◌else◌, IsTrue, List, [], ◌∷◌, take, slice_get, Option, Some, None}
+use Rattle.std.specs.Prelude.{◌≡◌, ◌⊎◌, ℕ, ◌+◌, ◌≤◌, ◌==◌, ◌||◌, Bool, true, false, if◌then◌else◌, IsTrue, List, [], ◌∷◌}
 use Rattle.triplets.specs.Bytes.{comma, hash, slash, opening, closing}
 use Rattle.triplets.specs.declared.marks.Axis.{Axis}
 use Rattle.triplets.specs.declared.marks.Axis.TheVariants.{X, Y, Z}
@@ -12,7 +12,7 @@ use Rattle.triplets.specs.Faults.{is_digit, is_letter, last_mark, last_other, di
 use Rattle.symmetry.specs.Groups.{Listing}
 use Rattle.triplets.specs.Lines.{IsLine}
 use Rattle.triplets.specs.Headings.{IsHeading}
-use Rattle.triplets.specs.Places.{IsPrefixIn, IsPlaceIn}
+use Rattle.triplets.specs.Places.{IsPrefixIn, IsFaultBy}
 
 -- the bytes are a line of the grammar
 abbrev pub IsGoodLine : Notation → List ℕ → Type 0
@@ -67,15 +67,9 @@ HasLineKind notation before b kind =
     TableRow (IsTrue (is_digit b) × (3 ≤ digits_at_end 0 before)) kinds.Coefficient kind (
     kind ≡ kinds.UnknownSign))))))))
 
--- where no byte stands at the place, the line ends too early
-abbrev pub HasLineKindAt : Notation → List ℕ → Option ℕ → TextKind → Type 0
-HasLineKindAt notation before None kind = kind ≡ kinds.MissingPart
-HasLineKindAt notation before (Some b) kind = HasLineKind notation before b kind
-
 -- the place of the fault, counted from 0, and its kind, where it is known which lines are good
-pub record IsFaultIn (notation : Notation) (Good : List ℕ → Type 0) (bytes : List ℕ) (before : ℕ) (kind : TextKind) : Type 0 where
-  pub place : IsPlaceIn Good bytes before
-  pub kind_is : HasLineKindAt notation (take before bytes) (slice_get bytes before) kind
+abbrev pub IsFaultIn : Notation → (List ℕ → Type 0) → List ℕ → ℕ → TextKind → Type 0
+IsFaultIn notation = IsFaultBy (HasLineKind notation)
 
 -- the fault of a line behind line 1
 abbrev pub IsLineFault : Notation → List ℕ → ℕ → TextKind → Type 0

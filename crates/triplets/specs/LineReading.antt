@@ -20,6 +20,7 @@ use Rattle.triplets.specs.declared.line.LinePlace.TheVariants as places
 use Rattle.triplets.specs.declared.notation.Notation.{Notation}
 use Rattle.triplets.specs.declared.notation.Notation.TheVariants.{Triplets, Pairs}
 use Rattle.triplets.specs.Marks.{mark}
+use Rattle.triplets.specs.Runs.{run_by}
 use Rattle.triplets.specs.PartReading.{begin, settled, part_step, with_sign, IsSmall}
 use Rattle.triplets.specs.TripletReading.{start, step, value, early_comma}
 use Rattle.symmetry.specs.Motions.{Motion}
@@ -165,15 +166,13 @@ at_place (Err k) vs = Err k
 abbrev pub line_step : Notation → Mark → LineState → Result LineState TextKind
 line_step notation m s = at_place (place_step notation m s.place) (with_vector (completed m s.place) s.vectors)
 
--- a byte, where there was no fault yet
-abbrev pub line_advance : Notation → Result LineState TextKind → ℕ → Result LineState TextKind
-line_advance notation (Err k) b = Err k
-line_advance notation (Ok s) b = line_step notation (mark notation b) s
+-- a byte, by its mark
+abbrev pub line_byte : Notation → ℕ → LineState → Result LineState TextKind
+line_byte notation b s = line_step notation (mark notation b) s
 
 -- the bytes of a line one by one
 abbrev pub line_run : Notation → Result LineState TextKind → List ℕ → Result LineState TextKind
-line_run notation r [] = r
-line_run notation r (b ∷ bs) = line_run notation (line_advance notation r b) bs
+line_run notation = run_by (line_byte notation)
 
 -- the operation of the line, if it may end here
 abbrev pub some_operation : Option Motion3 → Option (Option Motion3)

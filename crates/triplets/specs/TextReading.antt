@@ -15,6 +15,7 @@ use Rattle.triplets.specs.declared.text.LineReader.{LineReader}
 use Rattle.symmetry.specs.Groups.{Listing}
 use Rattle.motions.specs.Views.{listing_of}
 use Rattle.triplets.specs.Marks.{mark}
+use Rattle.triplets.specs.Runs.{run_by}
 use Rattle.triplets.specs.LineReading.{with_vector, operations_of}
 use Rattle.triplets.specs.HeadingReading.{text_step, text_completed, text_ending, is_heading}
 use Rattle.triplets.specs.Texts.{Fault, nothing_listed}
@@ -70,15 +71,9 @@ moved (Ok p) v k = Ok (record { said = said_vector v k.said; line = k.line; colu
 abbrev pub byte_step : Notation → ℕ → Kept → Result Kept Fault
 byte_step notation b k = if b == 10 then new_line (finished notation k) k else moved (text_step notation b k.place) (text_completed (mark notation b) k.place) k
 
--- a byte, where there was no fault yet
-abbrev pub text_advance : Notation → Result Kept Fault → ℕ → Result Kept Fault
-text_advance notation (Err f) b = Err f
-text_advance notation (Ok k) b = byte_step notation b k
-
 -- the bytes one by one
 abbrev pub text_run : Notation → Result Kept Fault → List ℕ → Result Kept Fault
-text_run notation r [] = r
-text_run notation r (b ∷ bs) = text_run notation (text_advance notation r b) bs
+text_run notation = run_by (byte_step notation)
 
 -- what the end of the text gives
 abbrev pub outcome : Notation → Result Kept Fault → Result Said Fault

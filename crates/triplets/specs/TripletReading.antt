@@ -13,6 +13,7 @@ use Rattle.triplets.specs.declared.triplet.Nth.TheVariants.{First, Second, Third
 use Rattle.motions.specs.declared.motion.Motion3.{Motion3}
 use Rattle.triplets.specs.declared.triplet.TripletReader.{TripletReader}
 use Rattle.triplets.specs.Marks.{mark}
+use Rattle.triplets.specs.Runs.{run_by}
 use Rattle.triplets.specs.declared.notation.Notation.{Notation}
 use Rattle.triplets.specs.declared.notation.Notation.TheVariants.{Triplets, Pairs}
 use Rattle.triplets.specs.Rows.{zero_row, axis_row, motion3_with}
@@ -77,12 +78,10 @@ step notation marks.Comma s = on_comma notation s
 step notation marks.Hash s = Err (hash_kind (value notation s))
 step notation m s = in_part s (part_step m s.part)
 
--- a byte, where there was no fault yet
-abbrev pub advance : Notation → Result TripletReader TextKind → ℕ → Result TripletReader TextKind
-advance notation (Err k) b = Err k
-advance notation (Ok s) b = step notation (mark notation b) s
+-- a byte, by its mark
+abbrev pub operation_byte : Notation → ℕ → TripletReader → Result TripletReader TextKind
+operation_byte notation b s = step notation (mark notation b) s
 
 -- the bytes one by one
 abbrev pub run : Notation → Result TripletReader TextKind → List ℕ → Result TripletReader TextKind
-run notation r [] = r
-run notation r (b ∷ bs) = run notation (advance notation r b) bs
+run notation = run_by (operation_byte notation)

@@ -2,13 +2,14 @@ use Rattle.std.proofs.Common.{◌≡◌, length, get_or, sym, ◌∙◌, ap, ref
 use Rattle.triplets.specs.declared.notation.Notation.TheVariants.{Triplets}
 use Rattle.triplets.specs.Marks.{mark}
 use Rattle.triplets.specs.TripletReading.{step}
-use Rattle.triplets.proofs.Wholes.{going, stopped, is_triplet}
+use Rattle.triplets.proofs.Wholes.{is_triplet}
 use Rattle.motions.specs.Views.{motion_of}
 use Rattle.triplets.proofs.KindFacts.{not_good}
 use Rattle.triplets.proofs.Sizes.{triplet_small}
 use Rattle.triplets.proofs.Bounds.{within_step}
-use Rattle.triplets.proofs.Ends.{step_on, stopped_bad, fault_at, all_read, fault_end, one_value}
+use Rattle.triplets.proofs.Ends.{step_on, stopped_bad, operation_fault, all_read, fault_end, one_value}
 use Rattle.triplets.proofs.triplet.read_triplet.Goals as goal
+use Rattle.triplets.proofs.Runs.{going, stopped}
 
 -- what the reader did with the byte
 pub stops : (c : goal.In-Err) → step Triplets (mark Triplets (get_or c.args.bytes.now c.loop-i.i 0)) c.loop-i.reader ≡ stopped c.in-Err.kind
@@ -18,7 +19,7 @@ pub returns-in-Err-clause-only : goal.returns-in-Err-clause-only
 returns-in-Err-clause-only c v h = absurd (stopped_bad Triplets c.loop-i.i c.args.bytes.now c.loop-i.reader c.in-Err.kind c.loop-i-test.true c.loop-i.invariant.read (stops c) (v, h))
 
 pub returns-in-Err-clause-fault : goal.returns-in-Err-clause-fault
-returns-in-Err-clause-fault c = (c.loop-i.i, refl, fault_at Triplets refl c.loop-i.i c.args.bytes.now c.loop-i.reader c.in-Err.kind c.loop-i-test.true c.loop-i.invariant.read (stops c))
+returns-in-Err-clause-fault c = (c.loop-i.i, refl, operation_fault Triplets refl c.loop-i.i c.args.bytes.now c.loop-i.reader c.in-Err.kind c.loop-i-test.true c.loop-i.invariant.read (stops c))
 
 pub goes : (c : goal.In-Ok) → step Triplets (mark Triplets (get_or c.args.bytes.now c.loop-i.i 0)) c.loop-i.reader ≡ going c.in-Ok.next
 goes c = ap (λ m. step Triplets m c.loop-i.reader) (sym c.mark_of.ensures) ∙ (sym c.step.ensures ∙ c.in-Ok.is)

@@ -1,9 +1,10 @@
 use Rattle.std.proofs.Common.{get_or, refl, sym, subst, ap, ◌∙◌, ◌++◌, arith, inr, Ok, Err}
-use Rattle.triplets.specs.TextReading.{Refuses, Gives, kept, byte_step}
-use Rattle.triplets.proofs.TextFacts.{text_more, text_fault, gives_along, again, again_stands, stands_all, all_read, err_stands}
+use Rattle.triplets.specs.TextReading.{Refuses, Gives, kept, byte_step, kept_start}
+use Rattle.triplets.proofs.TextFacts.{text_fault, gives_along, again, again_stands, stands_all, all_read, err_stands}
 use Rattle.triplets.proofs.Answered.{answer_so_far}
 use Rattle.triplets.proofs.FirstKept.{reader_keeps}
 use Rattle.triplets.proofs.text.LineReader.feed.Goals as goal
+use Rattle.triplets.proofs.Runs.{run_next}
 
 pub returns-in-Some-clause-stands : goal.returns-in-Some-clause-stands
 returns-in-Some-clause-stands c = inr (λ nt text h. again_stands nt c.args.self.now _ c.in-Some.fault text c.args.piece.now c.in-Some.is refl refl refl h)
@@ -30,7 +31,7 @@ returns-in-Err-clause-answer c nt text h =
 pub loop-byte-preserved : goal.loop-byte-preserved
 loop-byte-preserved c = record {
   run = λ nt text h.
-      text_more nt text c.args.piece.now c.loop-byte.byte-index (kept c.loop-byte.self) _ c.loop-byte-test.true (c.loop-byte.invariant.run nt text h)
+      run_next (byte_step nt) (Ok kept_start) text c.args.piece.now c.loop-byte.byte-index (kept c.loop-byte.self) _ c.loop-byte-test.true (c.loop-byte.invariant.run nt text h)
       (ap (λ x. byte_step x (get_or c.args.piece.now c.loop-byte.byte-index 0) (kept c.loop-byte.self)) (sym (c.loop-byte.invariant.notation ∙ h.reads)) ∙ c.in_default-advance.ensures.kept);
   notation = c.in_default-advance.ensures.notation ∙ c.loop-byte.invariant.notation;
   fault = c.in_default-advance.ensures.fault ∙ c.loop-byte.invariant.fault;
