@@ -1,58 +1,15 @@
 // Worked cases, by hand.
-ghost use Rattle.std.specs.Prelude.{◌^◌, All};
-ghost use Rattle.symmetry.specs.Sizes.{IsVectorWithin};
-ghost use Rattle.motions.specs.ListedSizes.{IsSmallWithin};
-ghost use Rattle.motions.specs.Views.{motion_of, parts};
-
 use crate::frame::Frame;
-use closure::{Group, GroupError};
 use fractions::{Part, UNIT};
-use motions::{Basis, FrameFault, Listed, Miller, Motion3};
+use motions::{Basis, FrameFault, Miller, Motion3};
 use quotient::Quotient;
-use std::alloc::Global;
+use sample_groups::{EDGE, HALF, NONE, c2_over_m, c2_over_m_edges, cell_edges, p_1, p2};
 use std::test::Fail;
-
-const EDGE: Part = Part(UNIT);
-
-const HALF: Part = Part(UNIT / 2);
-
-const NONE: Part = Part(0);
-
-const ORIGIN: [Part; 3] = [NONE, NONE, NONE];
-
-// x,y,z
-const IDENTITY: Motion3 = Motion3 {
-    w: [[1, 0, 0], [0, 1, 0], [0, 0, 1]],
-    t: ORIGIN,
-};
-
-// -x,y,-z
-const TURN: Motion3 = Motion3 {
-    w: [[-1, 0, 0], [0, 1, 0], [0, 0, -1]],
-    t: ORIGIN,
-};
-
-// -x,-y,-z
-const INVERSION: Motion3 = Motion3 {
-    w: [[-1, 0, 0], [0, -1, 0], [0, 0, -1]],
-    t: ORIGIN,
-};
-
-// x,-y,z
-const MIRROR: Motion3 = Motion3 {
-    w: [[1, 0, 0], [0, -1, 0], [0, 0, 1]],
-    t: ORIGIN,
-};
-
-// the operations and the centring vector of C2/m
-const C2_OVER_M: [Motion3; 4] = [IDENTITY, TURN, INVERSION, MIRROR];
-
-const CENTRING: [Part; 3] = [HALF, HALF, NONE];
 
 // x+1/2,-y+1/2,z and x-1/2,-y+1/2,z
 const FAR_GLIDE: Motion3 = Motion3 {
     w: [[1, 0, 0], [0, -1, 0], [0, 0, 1]],
-    t: CENTRING,
+    t: [HALF, HALF, NONE],
 };
 
 const GLIDE: Motion3 = Motion3 {
@@ -60,44 +17,10 @@ const GLIDE: Motion3 = Motion3 {
     t: [Part(-UNIT / 2), HALF, NONE],
 };
 
-fn group_of(alloc: Global, ops: &[Motion3], centrings: &[[Part; 3]]) -> Result<Group, GroupError>
-    requires ops { All (λ m. IsSmallWithin 50 (motion_of m)) ops.now }
-    requires centrings { All (λ v. IsVectorWithin (2 ^ 40) (parts v)) centrings.now }
-{
-    let ops = Vec::from_slice(alloc, ops)?;
-    let centrings = Vec::from_slice(alloc, centrings)?;
-    Group::make(
-        alloc,
-        Listed {
-            ops,
-            centrings,
-            generated: false,
-        },
-    )
-}
-
-// a, -c and -1/2,1/2,0
-fn along_the_axis() -> Basis {
-    Basis {
-        a: [EDGE, NONE, NONE],
-        b: [NONE, NONE, Part(-UNIT)],
-        tau: [Part(-UNIT / 2), HALF, NONE],
-    }
-}
-
-// a, b and c
-fn cell_edges() -> Basis {
-    Basis {
-        a: [EDGE, NONE, NONE],
-        b: [NONE, EDGE, NONE],
-        tau: [NONE, NONE, EDGE],
-    }
-}
-
 #[test]
 fn c2_over_m_along_its_axis_has_half_an_edge_as_period(rt: HostRuntime) -> Result<(), Fail> {
-    let group = group_of(rt.alloc(), &C2_OVER_M, &[CENTRING])?;
-    let frame = Frame::make(&group, Miller::make(0, 1, 0)?, along_the_axis())?;
+    let group = c2_over_m(rt.alloc())?;
+    let frame = Frame::make(&group, Miller::make(0, 1, 0)?, c2_over_m_edges())?;
     assert_eq!(rt; frame.period, HALF);
     assert_eq!(rt; frame.c[0].num(), 0);
     assert_eq!(rt; frame.c[1].num(), 1);
@@ -109,7 +32,7 @@ fn c2_over_m_along_its_axis_has_half_an_edge_as_period(rt: HostRuntime) -> Resul
 
 #[test]
 fn a_triclinic_frame_leads_along_tau(rt: HostRuntime) -> Result<(), Fail> {
-    let group = group_of(rt.alloc(), &[IDENTITY, INVERSION], &[])?;
+    let group = p_1(rt.alloc())?;
     let basis = Basis {
         a: [EDGE, EDGE, Part(-UNIT)],
         b: [Part(-3 * UNIT), Part(2 * UNIT), NONE],
@@ -125,8 +48,8 @@ fn a_triclinic_frame_leads_along_tau(rt: HostRuntime) -> Result<(), Fail> {
 
 #[test]
 fn left_handed_vectors_are_no_frame(rt: HostRuntime) -> Result<(), Fail> {
-    let group = group_of(rt.alloc(), &C2_OVER_M, &[CENTRING])?;
-    let Basis { a, b, tau } = along_the_axis();
+    let group = c2_over_m(rt.alloc())?;
+    let Basis { a, b, tau } = c2_over_m_edges();
     assert_eq!(rt;
         Frame::make(&group, Miller::make(0, 1, 0)?, Basis { a: b, b: a, tau }),
         Err(FrameFault::NotFrame)
@@ -136,7 +59,7 @@ fn left_handed_vectors_are_no_frame(rt: HostRuntime) -> Result<(), Fail> {
 
 #[test]
 fn cell_edges_are_no_frame_of_a_centred_lattice(rt: HostRuntime) -> Result<(), Fail> {
-    let group = group_of(rt.alloc(), &C2_OVER_M, &[CENTRING])?;
+    let group = c2_over_m(rt.alloc())?;
     assert_eq!(rt;
         Frame::make(&group, Miller::make(0, 0, 1)?, cell_edges()),
         Err(FrameFault::NotFrame)
@@ -146,7 +69,7 @@ fn cell_edges_are_no_frame_of_a_centred_lattice(rt: HostRuntime) -> Result<(), F
 
 #[test]
 fn a_frame_is_skewed_above_a_matrix_entry_of_500(rt: HostRuntime) -> Result<(), Fail> {
-    let group = group_of(rt.alloc(), &[IDENTITY, TURN], &[])?;
+    let group = p2(rt.alloc())?;
     let plane = Miller::make(0, 0, 1)?;
     let Basis { a, tau, .. } = cell_edges();
     let at_the_limit = [Part(250 * UNIT), EDGE, NONE];
