@@ -1,9 +1,8 @@
 -- Tests of matrices, and lists of motions that are searched for a matrix.
-use Rattle.std.proofs.Common.{◌≡◌, ◌↔◌, ℕ, ◌+◌, ◌<◌, Bool, false, IsTrue, refl, sym, ap, subst, ◌∙◌, List, length, get_or, map, take}
-use Rattle.std.specs.Prelude.{All}
+use Rattle.std.proofs.Common.{◌≡◌, ◌↔◌, Bool, false, IsTrue, refl, sym, ap, subst, ◌∙◌, List, map}
+use Rattle.std.specs.Prelude.{All, Contains, MatchOption, None, Option, Some}
 use Rattle.std.proofs.lemmas.Bool.{true≢false}
-use Rattle.std.proofs.lemmas.List.{map_more}
-use Rattle.std.proofs.lemmas.List.Elements.{All-contains, All-push}
+use Rattle.std.proofs.lemmas.List.Elements.{All-contains, All-map}
 use Rattle.symmetry.specs.Vectors.{Matrix, origin}
 use Rattle.symmetry.specs.Motions.{Motion}
 use Rattle.symmetry.proofs.MotionLaws.{motion_path}
@@ -12,6 +11,7 @@ use Rattle.motions.specs.Views.{motion_of}
 use Rattle.motions.specs.Equality.{same_motion}
 use Rattle.motions.specs.Laws.MotionLaws.{same_motion-is}
 use Rattle.closure.specs.ClosedLists.{HasMatrixOf}
+use Rattle.closure.specs.Laws.ListLaws.{Contains-map}
 
 pub same_matrix_test : (a b : Motion) (v w : Matrix) → a ≡ record { matrix = v; shift = origin } → b ≡ record { matrix = w; shift = origin }
     → (r : Bool) → r ≡ same_motion a b → IsTrue r ↔ (v ≡ w)
@@ -24,12 +24,12 @@ same_matrix_test a b v w p q r e = (
 pub none_has : (list : List Motion) (m : Motion) → All (λ n. ¬ (n.matrix ≡ m.matrix)) list → ¬ HasMatrixOf list m
 none_has list m none (n, stands, e) = All-contains (λ n. ¬ (n.matrix ≡ m.matrix)) list n none stands e
 
--- one more motion of the list has not the matrix
-pub none_more : (list : List Motion3) (i : ℕ) (d : Motion3) (m : Motion) → i < length list → All (λ n. ¬ (n.matrix ≡ m.matrix)) (map motion_of (take i list))
-    → ¬ ((motion_of (get_or list i d)).matrix ≡ m.matrix) → All (λ n. ¬ (n.matrix ≡ m.matrix)) (map motion_of (take (i + 1) list))
-none_more list i d m within none here =
-    subst (All (λ n. ¬ (n.matrix ≡ m.matrix))) (sym (map_more motion_of list i d within))
-    (All-push (λ n. ¬ (n.matrix ≡ m.matrix)) (map motion_of (take i list)) (motion_of (get_or list i d)) none here)
+-- what a search of the list as it is kept tells of the motions of the list
+pub found_by_matrix : (list : List Motion3) (m : Motion) (o : Option Motion3)
+    → MatchOption o (All (λ n. ¬ ((motion_of n).matrix ≡ m.matrix)) list) (λ n. Contains list n × ((motion_of n).matrix ≡ m.matrix))
+    → MatchOption o (¬ HasMatrixOf (map motion_of list) m) (λ n. Contains (map motion_of list) (motion_of n) × ((motion_of n).matrix ≡ m.matrix))
+found_by_matrix list m None none = none_has (map motion_of list) m (All-map (λ (n : Motion). ¬ (n.matrix ≡ m.matrix)) motion_of list none)
+found_by_matrix list m (Some n) (listed, is) = (Contains-map motion_of list n listed, is)
 
 -- what a test of the list as it is read tells of the list
 pub not_has : (now list : List Motion3) → now ≡ list → (m : Motion) (r : Bool) → IsTrue r ↔ HasMatrixOf (map motion_of now) m → r ≡ false → ¬ HasMatrixOf (map motion_of list) m

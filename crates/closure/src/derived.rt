@@ -56,7 +56,8 @@ fn others_at_home(
 ) -> Result<Vec<Motion3>, AllocError>
     requires list { All HasSmallEntries (map motion_of list.now) }
     requires once { AllPairs (λ m n. ¬ (m.matrix ≡ n.matrix)) (map motion_of list.now) }
-    ensures homes { IfOk result (λ others. AreOthersAtHome lattice.now (map motion_of list.now) (map motion_of others.items)) }
+    ensures homes { IfOk result (λ others.
+        AreOthersAtHome lattice.now (map motion_of list.now) (map motion_of others.items)) }
     ensures few { IfOk result (λ others. vec_len others ≤ length list.now) }
 {
     let mut others = Vec::new(alloc);
@@ -76,7 +77,8 @@ pub(crate) fn in_order(
 ) -> Result<Vec<Motion3>, AllocError>
     requires list { All HasSmallEntries (map motion_of list.now) }
     requires once { AllPairs (λ m n. ¬ (m.matrix ≡ n.matrix)) (map motion_of list.now) }
-    ensures ordered { IfOk result (λ ops. IsOrdered lattice.now (map motion_of list.now) (map motion_of ops.items)) }
+    ensures ordered { IfOk result
+        (λ ops. IsOrdered lattice.now (map motion_of list.now) (map motion_of ops.items)) }
     ensures few { IfOk result (λ ops. vec_len ops ≤ length list.now + 1) }
 {
     let mut ops = others_at_home(alloc, lattice, list)?;

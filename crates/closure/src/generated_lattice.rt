@@ -52,13 +52,18 @@ fn enlarge(residues: &mut Vec<[Part; 3]>, v: &[Part; 3]) -> Result<(), LatticeFa
     requires store { IsStore residues.old.items }
     requires vector { IsResidue v.now }
     ensures store { OnOk result (IsStore residues.new.items) }
-    ensures more { OnOk result (IsMoreThan (map parts residues.old.items) (map parts residues.new.items)) }
-    ensures has { OnOk result (IsInLattice (centrings_alone (map parts residues.new.items)) (parts v.now)) }
+    ensures more { OnOk result
+        (IsMoreThan (map parts residues.old.items) (map parts residues.new.items)) }
+    ensures has { OnOk result
+        (IsInLattice (centrings_alone (map parts residues.new.items)) (parts v.now)) }
     ensures longer { OnOk result (¬ Contains (map parts residues.old.items) (residue (parts v.now))
         → length residues.old.items < length residues.new.items) }
-    ensures inside { OnOk result ((g : Listing) → AllInvertible g → All (InGeneratedLattice g) (map parts residues.old.items)
-        → InGeneratedLattice g (parts v.now) → All (InGeneratedLattice g) (map parts residues.new.items)) }
-    ensures fault { IfErr result (λ fault. (g : Listing) → AllInvertible g → All (InGeneratedLattice g) (map parts residues.old.items)
+    ensures inside { OnOk result
+        ((g : Listing) → AllInvertible g → All (InGeneratedLattice g) (map parts residues.old.items)
+        → InGeneratedLattice g (parts v.now)
+        → All (InGeneratedLattice g) (map parts residues.new.items)) }
+    ensures fault { IfErr result (λ fault. (g : Listing) → AllInvertible g
+        → All (InGeneratedLattice g) (map parts residues.old.items)
         → InGeneratedLattice g (parts v.now) → IsGeneratedLatticeFault g fault) }
 {
     add_vector(residues, v)?;
@@ -75,16 +80,23 @@ fn add_difference(
     requires list { All HasSmallEntries (map motion_of list.now) }
     requires first { IsSmall (motion_of m.now) }
     requires second { IsSmall (motion_of k.now) }
-    requires has { HasMatrixOf (map motion_of list.now) (followed_by (motion_of m.now) (motion_of k.now)) }
+    requires has { HasMatrixOf (map motion_of list.now)
+        (followed_by (motion_of m.now) (motion_of k.now)) }
     requires store { IsStore residues.old.items }
     ensures store { OnOk result (IsStore residues.new.items) }
-    ensures more { OnOk result (IsMoreThan (map parts residues.old.items) (map parts residues.new.items)) }
-    ensures same { OnOk result (HasSame (map motion_of list.now) (map parts residues.new.items) (followed_by (motion_of m.now) (motion_of k.now))) }
-    ensures inside { OnOk result ((g : Listing) → AllInvertible g → All (IsGenerated g) (map motion_of list.now)
-        → IsGenerated g (followed_by (motion_of m.now) (motion_of k.now)) → All (InGeneratedLattice g) (map parts residues.old.items)
+    ensures more { OnOk result
+        (IsMoreThan (map parts residues.old.items) (map parts residues.new.items)) }
+    ensures same { OnOk result (HasSame (map motion_of list.now) (map parts residues.new.items)
+        (followed_by (motion_of m.now) (motion_of k.now))) }
+    ensures inside { OnOk result
+        ((g : Listing) → AllInvertible g → All (IsGenerated g) (map motion_of list.now)
+        → IsGenerated g (followed_by (motion_of m.now) (motion_of k.now))
+        → All (InGeneratedLattice g) (map parts residues.old.items)
         → All (InGeneratedLattice g) (map parts residues.new.items)) }
-    ensures fault { IfErr result (λ fault. (g : Listing) → AllInvertible g → All (IsGenerated g) (map motion_of list.now)
-        → IsGenerated g (followed_by (motion_of m.now) (motion_of k.now)) → All (InGeneratedLattice g) (map parts residues.old.items)
+    ensures fault { IfErr result
+        (λ fault. (g : Listing) → AllInvertible g → All (IsGenerated g) (map motion_of list.now)
+        → IsGenerated g (followed_by (motion_of m.now) (motion_of k.now))
+        → All (InGeneratedLattice g) (map parts residues.old.items)
         → IsGeneratedLatticeFault g fault) }
 {
     match difference(list, m, k) {
@@ -107,12 +119,16 @@ fn add_differences(
     requires motion { IsSmall (motion_of m.now) }
     requires member { Contains (map motion_of list.now) (motion_of m.now) }
     requires store { IsStore residues.old.items }
-    requires inside { All (InGeneratedLattice (listing_of listed.now)) (map parts residues.old.items) }
+    requires inside { All (InGeneratedLattice (listing_of listed.now))
+        (map parts residues.old.items) }
     ensures store { OnOk result (IsStore residues.new.items) }
-    ensures more { OnOk result (IsMoreThan (map parts residues.old.items) (map parts residues.new.items)) }
-    ensures inside { OnOk result (All (InGeneratedLattice (listing_of listed.now)) (map parts residues.new.items)) }
+    ensures more { OnOk result
+        (IsMoreThan (map parts residues.old.items) (map parts residues.new.items)) }
+    ensures inside { OnOk result
+        (All (InGeneratedLattice (listing_of listed.now)) (map parts residues.new.items)) }
     ensures differences { OnOk result ((k : MotionOfSpace) → Contains (listing_of listed.now).ops k
-        → HasSame (map motion_of list.now) (map parts residues.new.items) (followed_by (motion_of m.now) k)) }
+        → HasSame (map motion_of list.now) (map parts residues.new.items)
+        (followed_by (motion_of m.now) k)) }
     ensures fault { IfErr result (IsGeneratedLatticeFault (listing_of listed.now)) }
 {
     for k in &listed.ops {
@@ -143,8 +159,10 @@ fn moved_by_some(residues: &[[Part; 3]], list: &[Motion3]) -> Option<[Part; 3]>
     requires residues { All IsResidue residues.now }
     requires list { All HasSmallEntries (map motion_of list.now) }
     ensures { MatchOption result
-        ((m : MotionOfSpace) → Contains (map motion_of list.now) m → KeepsResidues (map parts residues.now) m)
-        (λ v. (m : MotionOfSpace) × Contains (map motion_of list.now) m × IsMoved (map parts residues.now) m v) }
+        ((m : MotionOfSpace) → Contains (map motion_of list.now) m
+        → KeepsResidues (map parts residues.now) m)
+        (λ v. (m : MotionOfSpace) × Contains (map motion_of list.now) m
+        × IsMoved (map parts residues.now) m v) }
 {
     for m in list {
         if let Some(v) = moved_by(residues, m) {
@@ -159,13 +177,18 @@ fn add_images(residues: &mut Vec<[Part; 3]>, list: &[Motion3]) -> Result<(), Lat
     requires list { All HasSmallEntries (map motion_of list.now) }
     requires store { IsStore residues.old.items }
     ensures store { OnOk result (IsStore residues.new.items) }
-    ensures more { OnOk result (IsMoreThan (map parts residues.old.items) (map parts residues.new.items)) }
+    ensures more { OnOk result
+        (IsMoreThan (map parts residues.old.items) (map parts residues.new.items)) }
     ensures keeps { OnOk result ((m : MotionOfSpace) → Contains (map motion_of list.now) m
         → KeepsResidues (map parts residues.new.items) m) }
-    ensures inside { OnOk result ((g : Listing) → AllInvertible g → All (IsGenerated g) (map motion_of list.now)
-        → All (InGeneratedLattice g) (map parts residues.old.items) → All (InGeneratedLattice g) (map parts residues.new.items)) }
-    ensures fault { IfErr result (λ fault. (g : Listing) → AllInvertible g → All (IsGenerated g) (map motion_of list.now)
-        → All (InGeneratedLattice g) (map parts residues.old.items) → IsGeneratedLatticeFault g fault) }
+    ensures inside { OnOk result
+        ((g : Listing) → AllInvertible g → All (IsGenerated g) (map motion_of list.now)
+        → All (InGeneratedLattice g) (map parts residues.old.items)
+        → All (InGeneratedLattice g) (map parts residues.new.items)) }
+    ensures fault { IfErr result
+        (λ fault. (g : Listing) → AllInvertible g → All (IsGenerated g) (map motion_of list.now)
+        → All (InGeneratedLattice g) (map parts residues.old.items)
+        → IsGeneratedLatticeFault g fault) }
 {
     while let Some(v) = moved_by_some(residues, list) {
         enlarge(residues, &v)?;
@@ -185,10 +208,13 @@ fn add_all_differences(
     requires closed { IsMatrixClosed (listing_of listed.now) (map motion_of list.now) }
     requires list { All HasSmallEntries (map motion_of list.now) }
     requires store { IsStore residues.old.items }
-    requires inside { All (InGeneratedLattice (listing_of listed.now)) (map parts residues.old.items) }
+    requires inside { All (InGeneratedLattice (listing_of listed.now))
+        (map parts residues.old.items) }
     ensures store { OnOk result (IsStore residues.new.items) }
-    ensures more { OnOk result (IsMoreThan (map parts residues.old.items) (map parts residues.new.items)) }
-    ensures inside { OnOk result (All (InGeneratedLattice (listing_of listed.now)) (map parts residues.new.items)) }
+    ensures more { OnOk result
+        (IsMoreThan (map parts residues.old.items) (map parts residues.new.items)) }
+    ensures inside { OnOk result
+        (All (InGeneratedLattice (listing_of listed.now)) (map parts residues.new.items)) }
     ensures differences { OnOk result ((m k : MotionOfSpace) → Contains (map motion_of list.now) m
         → Contains (listing_of listed.now).ops k
         → HasSame (map motion_of list.now) (map parts residues.new.items) (followed_by m k)) }

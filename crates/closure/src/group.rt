@@ -84,10 +84,12 @@ impl Group {
     pub fn generated(alloc: Global, listed: Listed) -> Result<Group, GeneratedError>
         requires { IsListedSmall 9 listed }
         ensures limits { IfOk result (λ _. GeneratesWithinLimits (listing_of listed)) }
-        ensures listing { IfOk result (λ group. IsDerivedListing (listing_of listed) (group_listing group)) }
+        ensures listing { IfOk result
+            (λ group. IsDerivedListing (listing_of listed) (group_listing group)) }
         ensures members { IfOk result (λ group. (m : MotionOfSpace)
             → IsGenerated (listing_of listed) m ↔ IsMember (group_listing group) m) }
-        ensures accepted { GeneratesWithinLimits (listing_of listed) → IfErr result (λ error. error ≡ NothingLeft) }
+        ensures accepted { GeneratesWithinLimits (listing_of listed)
+            → IfErr result (λ error. error ≡ NothingLeft) }
         ensures refused { IfErr result (IsGeneratedError (listing_of listed)) }
     {
         let given = listed.ops.len();
@@ -141,7 +143,8 @@ fn first_operations(
     requires small { IsListedSmall 50 listed.now }
     requires lattice { IsLatticeOf (listing_of listed.now) lattice.now }
     ensures first { IfOk result (λ ops.
-        AreFirst (SameModulo (listing_of listed.now)) (listing_of listed.now).ops (map motion_of ops.items)) }
+        AreFirst (SameModulo (listing_of listed.now)) (listing_of listed.now).ops
+        (map motion_of ops.items)) }
     ensures small { IfOk result (λ ops. All HasSmallEntries (map motion_of ops.items)) }
     ensures few { IfOk result (λ ops. vec_len ops ≤ vec_len listed.now.ops) }
 {

@@ -33,7 +33,8 @@ impl Quotient for Group {
         requires { IsVectorWithin (2 ^ 52) (motion_of m.now).shift }
         ensures value { motion_of result ≡ motion_of (lattice_home (lattice_of self.now) m.now) }
         ensures matrix { (motion_of result).matrix ≡ (motion_of m.now).matrix }
-        ensures first { IsHome (lattice_of self.now) (motion_of m.now).shift (motion_of result).shift }
+        ensures first { IsHome (lattice_of self.now) (motion_of m.now).shift
+            (motion_of result).shift }
     {
         self.lattice().home(m)
     }

@@ -21,6 +21,6 @@ pub fn one_group_error()
 
 /// A group within the limits has no error but want of memory.
 pub fn no_group_and_error()
-    ensures { (g : Listing) (error : GroupError) → IsWithinLimits g → IsGroup g → IsGroupError g error →
-        error ≡ NoMemory }
+    ensures { (g : Listing) (error : GroupError) → IsWithinLimits g → IsGroup g
+        → IsGroupError g error → error ≡ NoMemory }
 {}

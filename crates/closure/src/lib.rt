@@ -4,6 +4,10 @@
 // `Group` is a group modulo its lattice, made exactly from the lists that are one, and else the first cause is named.
 // `Group::generated` makes the group that listed operations generate, with one operation for each of its matrices, in
 // order; or it names the first cause why there is none.
+//
+//     let group = Group::make(alloc, listed)?;
+//     // Group::generated(alloc, listed)? where the list has no more than generators (`listed.generated`).
+//     let home = group.lattice().home(&group.ops()[0]);
 #![tactic(auto)]
 
 mod derived;

@@ -23,14 +23,10 @@ use std::alloc::Global;
 pub(crate) fn with_matrix(list: &[Motion3], m: &Motion3) -> Option<Motion3>
     ensures { MatchOption result
         (¬ HasMatrixOf (map motion_of list.now) (motion_of m.now))
-        (λ n. Contains (map motion_of list.now) (motion_of n) × ((motion_of n).matrix ≡ (motion_of m.now).matrix)) }
+        (λ n. Contains (map motion_of list.now) (motion_of n)
+        × ((motion_of n).matrix ≡ (motion_of m.now).matrix)) }
 {
-    for n in list {
-        if has_same_matrix(n, m) {
-            return Some(*n);
-        }
-    }
-    None
+    list.iter().find(|n| has_same_matrix(n, m)).copied()
 }
 
 /// Whether some motion of the list has the matrix of m.
@@ -77,11 +73,14 @@ fn add_motion(found: &mut Vec<Motion3>, m: &Motion3) -> Result<(), GeneratedErro
     requires few { vec_len found.old ≤ 48 }
     ensures small { OnOk result (All HasSmallEntries (map motion_of found.new.items)) }
     ensures few { OnOk result (vec_len found.new ≤ 48) }
-    ensures more { OnOk result (GoesOn (map motion_of found.old.items) (map motion_of found.new.items)) }
+    ensures more { OnOk result
+        (GoesOn (map motion_of found.old.items) (map motion_of found.new.items)) }
     ensures has { OnOk result (HasMatrixOf (map motion_of found.new.items) (motion_of m.now)) }
     ensures found { OnOk result ((g : Listing) → AreFound g (map motion_of found.old.items)
-        → IsGenerated g (motion_of m.now) → IsGeneratedMatrix g (motion_of m.now).matrix → AreFound g (map motion_of found.new.items)) }
-    ensures fault { IfErr result (λ fault. (g : Listing) → AreFound g (map motion_of found.old.items)
+        → IsGenerated g (motion_of m.now) → IsGeneratedMatrix g (motion_of m.now).matrix
+        → AreFound g (map motion_of found.new.items)) }
+    ensures fault { IfErr result
+        (λ fault. (g : Listing) → AreFound g (map motion_of found.old.items)
         → IsGeneratedMatrix g (motion_of m.now).matrix → IsSearchFault g fault) }
 {
     if has_matrix(found, m) {
@@ -112,8 +111,10 @@ fn add_products(
     requires found { AreFound (listing_of listed.now) (map motion_of found.old.items) }
     ensures small { OnOk result (All HasSmallEntries (map motion_of found.new.items)) }
     ensures few { OnOk result (vec_len found.new ≤ 48) }
-    ensures more { OnOk result (GoesOn (map motion_of found.old.items) (map motion_of found.new.items)) }
-    ensures next { OnOk result (HasNext (listing_of listed.now) (map motion_of found.new.items) (motion_of m.now)) }
+    ensures more { OnOk result
+        (GoesOn (map motion_of found.old.items) (map motion_of found.new.items)) }
+    ensures next { OnOk result
+        (HasNext (listing_of listed.now) (map motion_of found.new.items) (motion_of m.now)) }
     ensures found { OnOk result (AreFound (listing_of listed.now) (map motion_of found.new.items)) }
     ensures fault { IfErr result (IsSearchFault (listing_of listed.now)) }
 {
@@ -131,7 +132,8 @@ pub(crate) fn generated_matrices(
     listed: &Listed,
 ) -> Result<Vec<Motion3>, GeneratedError>
     requires { IsListedSmall 9 listed.now }
-    ensures closed { IfOk result (λ found. IsMatrixClosed (listing_of listed.now) (map motion_of found.items)) }
+    ensures closed { IfOk result
+        (λ found. IsMatrixClosed (listing_of listed.now) (map motion_of found.items)) }
     ensures small { IfOk result (λ found. All HasSmallEntries (map motion_of found.items)) }
     ensures few { IfOk result (λ found. vec_len found ≤ 48) }
     ensures fault { IfErr result (IsSearchFault (listing_of listed.now)) }

@@ -50,7 +50,8 @@ fn append_coset(
     requires residues { All IsResidue residues.old.items }
     requires step { IsResidue step.now }
     ensures items { OnOk result (map parts residues.new.items
-        ≡ map parts residues.old.items ++ coset (parts step.now) (take size (map parts residues.old.items))) }
+        ≡ map parts residues.old.items ++ coset (parts step.now)
+        (take size (map parts residues.old.items))) }
     ensures reduced { OnOk result (All IsResidue residues.new.items) }
 {
     for i in 0..size {
@@ -73,7 +74,8 @@ pub(crate) fn add_vector(residues: &mut Vec<[Part; 3]>, v: &[Part; 3]) -> Result
     ensures few { OnOk result (vec_len residues.new ≤ 64) }
     ensures lattice { OnOk result ((g : Listing) → AreResiduesOf g (map parts residues.old.items)
         → AreResiduesOf (with_centring g (parts v.now)) (map parts residues.new.items)) }
-    ensures fault { IfErr result (λ fault. (g : Listing) → AreResiduesOf g (map parts residues.old.items)
+    ensures fault { IfErr result
+        (λ fault. (g : Listing) → AreResiduesOf g (map parts residues.old.items)
         → IsLatticeFault (with_centring g (parts v.now)) fault) }
 {
     let size = residues.len();
@@ -98,7 +100,8 @@ pub(crate) fn residues_of_sums(
     requires { All (λ v. IsVectorWithin (2 ^ 40) (parts v)) vectors.now }
     ensures reduced { IfOk result (λ residues. All IsResidue residues.items) }
     ensures few { IfOk result (λ residues. vec_len residues ≤ 64) }
-    ensures lattice { IfOk result (λ residues. AreResiduesOf (centrings_alone (map parts vectors.now)) (map parts residues.items)) }
+    ensures lattice { IfOk result (λ residues.
+        AreResiduesOf (centrings_alone (map parts vectors.now)) (map parts residues.items)) }
     ensures fault { IfErr result (IsLatticeFault (centrings_alone (map parts vectors.now))) }
 {
     let mut residues = Vec::new(alloc);

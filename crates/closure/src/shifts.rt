@@ -80,7 +80,8 @@ fn keeps_residues(residues: &[[Part; 3]], m: &Motion3) -> bool
     requires residues { All IsResidue residues.now }
     requires motion { IsSmall (motion_of m.now) }
     ensures { IsTrue result
-        ↔ All (λ r. IsTrue (has_residue (map parts residues.now) (image (motion_of m.now).matrix (parts r)))) residues.now }
+        ↔ All (λ r. IsTrue (has_residue (map parts residues.now)
+        (image (motion_of m.now).matrix (parts r)))) residues.now }
 {
     residues
         .iter()

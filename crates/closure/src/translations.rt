@@ -31,9 +31,11 @@ pub(crate) fn listed_lattice(alloc: Global, listed: &Listed) -> Result<Lattice, 
 /// The centring vectors, and the vectors of the listed translations.
 fn lattice_vectors(alloc: Global, listed: &Listed) -> Result<Vec<[Part; 3]>, AllocError>
     requires { IsListedSmall 50 listed.now }
-    ensures small { IfOk result (λ vectors. All (λ v. IsVectorWithin (2 ^ 40) (parts v)) vectors.items) }
+    ensures small { IfOk result
+        (λ vectors. All (λ v. IsVectorWithin (2 ^ 40) (parts v)) vectors.items) }
     ensures same { IfOk result (λ vectors. (v : Vector)
-        → Generates (centrings_alone (map parts vectors.items)) v ↔ Generates (listing_of listed.now) v) }
+        → Generates (centrings_alone (map parts vectors.items)) v
+        ↔ Generates (listing_of listed.now) v) }
 {
     let mut vectors = Vec::from_slice(alloc, &listed.centrings)?;
     for m in &listed.ops {

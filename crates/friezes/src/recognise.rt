@@ -12,14 +12,10 @@ use motions::Sign;
 
 /// The translation of the first motion of the list with these signs.
 fn shift_of(section: &[LineOp], f: Sign, e: Sign) -> Option<i64>
-    ensures { MatchOption result (All (λ m. ¬ ((m.f ≡ f) × (m.e ≡ e))) section.now) (StandsAt section.now f e) }
+    ensures { MatchOption result (All (λ m. ¬ ((m.f ≡ f) × (m.e ≡ e))) section.now)
+        (StandsAt section.now f e) }
 {
-    for m in section {
-        if m.f == f && m.e == e {
-            return Some(m.t);
-        }
-    }
-    None
+    section.iter().find(|m| m.f == f && m.e == e).map(|m| m.t)
 }
 
 /// The translation modulo whole cell edges.

@@ -20,12 +20,7 @@ fn are_turns_or_shifts(section: &[LineOp]) -> bool
     requires { All IsSmallLine section.now }
     ensures { IsTrue result ↔ All IsTurnOrShift section.now }
 {
-    for m in section {
-        if !is_turn_or_shift(m) {
-            return false;
-        }
-    }
-    true
+    section.iter().all(is_turn_or_shift)
 }
 
 /// Whether a list of small motions is a section along a line: a group modulo whole cell edges, in which a motion

@@ -34,14 +34,10 @@ fn all_have_match(p: &[[i64; 2]; 2], section: &[LayerMotion], ops: &[LayerMotion
     requires p { IsBoundedMatrix (matrix2_of p.now) }
     requires section { All IsSmallMotion section.now }
     requires ops { All IsSmallMotion ops.now }
-    ensures { IsTrue result ↔ All (λ m. Any (λ n. IsLike (matrix2_of p.now) m n) ops.now) section.now }
+    ensures { IsTrue result
+        ↔ All (λ m. Any (λ n. IsLike (matrix2_of p.now) m n) ops.now) section.now }
 {
-    for m in section {
-        if !has_match(p, m, ops) {
-            return false;
-        }
-    }
-    true
+    section.iter().all(|m| has_match(p, m, ops))
 }
 
 /// Whether all motions of the type have one of the section.
@@ -49,14 +45,10 @@ fn all_are_matched(p: &[[i64; 2]; 2], section: &[LayerMotion], ops: &[LayerMotio
     requires p { IsBoundedMatrix (matrix2_of p.now) }
     requires section { All IsSmallMotion section.now }
     requires ops { All IsSmallMotion ops.now }
-    ensures { IsTrue result ↔ All (λ n. Any (λ m. IsLike (matrix2_of p.now) m n) section.now) ops.now }
+    ensures { IsTrue result
+        ↔ All (λ n. Any (λ m. IsLike (matrix2_of p.now) m n) section.now) ops.now }
 {
-    for n in ops {
-        if !is_matched(p, n, section) {
-            return false;
-        }
-    }
-    true
+    ops.iter().all(|n| is_matched(p, n, section))
 }
 
 /// Whether a matrix that takes the lattice of the type onto the whole vectors agrees with the section and the type.

@@ -59,12 +59,7 @@ fn has_target(p: &[[i64; 2]; 2], x: u32, y: u32, m: &LayerMotion, ops: &[LayerMo
     requires ops { All IsSmallMotion ops.now }
     ensures { IsTrue result ↔ Any (λ n. IsPaired (matrix2_of p.now) x y m.now n) ops.now }
 {
-    for n in ops {
-        if is_paired(p, x, y, m, n) {
-            return true;
-        }
-    }
-    false
+    ops.iter().any(|n| is_paired(p, x, y, m, n))
 }
 
 /// Whether a motion of the type has one of the section.
@@ -76,12 +71,7 @@ fn has_source(p: &[[i64; 2]; 2], x: u32, y: u32, n: &LayerMotion, section: &[Lay
     requires section { All IsSmallMotion section.now }
     ensures { IsTrue result ↔ Any (λ m. IsPaired (matrix2_of p.now) x y m n.now) section.now }
 {
-    for m in section {
-        if is_paired(p, x, y, m, n) {
-            return true;
-        }
-    }
-    false
+    section.iter().any(|m| is_paired(p, x, y, m, n))
 }
 
 /// Whether all motions of the section have one of the type.
@@ -97,14 +87,10 @@ fn all_have_target(
     requires y { y < grid }
     requires section { All IsSmallMotion section.now }
     requires ops { All IsSmallMotion ops.now }
-    ensures { IsTrue result ↔ All (λ m. Any (λ n. IsPaired (matrix2_of p.now) x y m n) ops.now) section.now }
+    ensures { IsTrue result
+        ↔ All (λ m. Any (λ n. IsPaired (matrix2_of p.now) x y m n) ops.now) section.now }
 {
-    for m in section {
-        if !has_target(p, x, y, m, ops) {
-            return false;
-        }
-    }
-    true
+    section.iter().all(|m| has_target(p, x, y, m, ops))
 }
 
 /// Whether all motions of the type have one of the section.
@@ -120,14 +106,10 @@ fn all_have_source(
     requires y { y < grid }
     requires section { All IsSmallMotion section.now }
     requires ops { All IsSmallMotion ops.now }
-    ensures { IsTrue result ↔ All (λ n. Any (λ m. IsPaired (matrix2_of p.now) x y m n) section.now) ops.now }
+    ensures { IsTrue result
+        ↔ All (λ n. Any (λ m. IsPaired (matrix2_of p.now) x y m n) section.now) ops.now }
 {
-    for n in ops {
-        if !has_source(p, x, y, n, section) {
-            return false;
-        }
-    }
-    true
+    ops.iter().all(|n| has_source(p, x, y, n, section))
 }
 
 /// Whether the change carries the listed motions of the section onto those of the type, and back.

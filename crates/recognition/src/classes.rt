@@ -45,7 +45,8 @@ fn is_period(r: &Congruence, t: u32) -> bool
 
 /// The first member of the class that solves the congruence.
 fn first_solution(class: &Class, r: &Congruence) -> Option<u32>
-    ensures { MatchOption result ((v : ℕ) → InClass class.now.y class.now.step v → ¬ (Solves r.now.c r.now.a v))
+    ensures { MatchOption result
+        ((v : ℕ) → InClass class.now.y class.now.step v → ¬ (Solves r.now.c r.now.a v))
         (IsFirstSolution class.now.y class.now.step r.now.c r.now.a) }
 {
     for index in 0..GRID {
@@ -77,8 +78,10 @@ fn next_step(step: u32, r: &Congruence) -> u32
 
 /// The members of the class that solve the congruence, found one by one.
 fn narrow_by_search(class: &Class, r: &Congruence) -> Option<Class>
-    ensures { MatchOption result ((v : ℕ) → InClass class.now.y class.now.step v → ¬ (Solves r.now.c r.now.a v))
-        (λ n. (v : ℕ) → InClass n.y n.step v ↔ (InClass class.now.y class.now.step v × Solves r.now.c r.now.a v)) }
+    ensures { MatchOption result
+        ((v : ℕ) → InClass class.now.y class.now.step v → ¬ (Solves r.now.c r.now.a v))
+        (λ n. (v : ℕ) → InClass n.y n.step v
+        ↔ (InClass class.now.y class.now.step v × Solves r.now.c r.now.a v)) }
 {
     match first_solution(class, r) {
         None => None,
@@ -139,8 +142,10 @@ fn narrow_all(r: &Congruence) -> Option<Class>
 
 /// The members of the class that solve the congruence.
 pub(crate) fn narrow(class: &Class, r: &Congruence) -> Option<Class>
-    ensures { MatchOption result ((v : ℕ) → InClass class.now.y class.now.step v → ¬ (Solves r.now.c r.now.a v))
-        (λ n. (v : ℕ) → InClass n.y n.step v ↔ (InClass class.now.y class.now.step v × Solves r.now.c r.now.a v)) }
+    ensures { MatchOption result
+        ((v : ℕ) → InClass class.now.y class.now.step v → ¬ (Solves r.now.c r.now.a v))
+        (λ n. (v : ℕ) → InClass n.y n.step v
+        ↔ (InClass class.now.y class.now.step v × Solves r.now.c r.now.a v)) }
 {
     if r.a == 0 {
         return if is_whole(r.c) { Some(*class) } else { None };

@@ -44,7 +44,8 @@ fn condition_of(p: &[[i64; 2]; 2], m: &LayerMotion, t: &LayerType) -> Condition
     requires distinct { AreDistinct t.now.ops.now }
     requires lattice { TakesLattice t.now.centred (matrix2_of p.now) }
     requires like { Any (λ n. IsLike (matrix2_of p.now) m.now n) t.now.ops.now }
-    ensures { (x y : ℕ) → Meets result x y ↔ Any (λ n. IsPaired (matrix2_of p.now) x y m.now n) t.now.ops.now }
+    ensures { (x y : ℕ) → Meets result x y
+        ↔ Any (λ n. IsPaired (matrix2_of p.now) x y m.now n) t.now.ops.now }
 {
     for n in t.ops {
         if is_like(p, m, n) {
@@ -73,7 +74,8 @@ pub(crate) fn conditions(
     ensures all { length result ≡ 24 }
     ensures each { (k : ℕ) (d : Condition) (e : LayerMotion) → k < length section.now → (x y : ℕ)
         → Meets (slice_index_or result k d) x y
-        ↔ Any (λ n. IsPaired (matrix2_of p.now) x y (slice_index_or section.now k e) n) t.now.ops.now }
+        ↔ Any (λ n. IsPaired (matrix2_of p.now) x y
+        (slice_index_or section.now k e) n) t.now.ops.now }
 {
     let mut conditions = [NOTHING; MOST];
     for (i, m) in section.iter().enumerate() {

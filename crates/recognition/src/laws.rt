@@ -11,8 +11,9 @@ ghost use Rattle.recognition.specs.Listed.{Agrees, Fits};
 
 /// Whether a change carries a section onto a type is told by the listed motions.
 pub fn carries_by_tests()
-    ensures { (section : List LayerMotion) (n : ℕ) (t : LayerType) (p : Matrix2) (x y : ℕ) → IsLayerType n t →
-        Fits section t p x y ↔ Carries section n p (origin_at x y) }
+    ensures { (section : List LayerMotion) (n : ℕ) (t : LayerType) (p : Matrix2) (x y : ℕ)
+        → IsLayerType n t
+        → Fits section t p x y ↔ Carries section n p (origin_at x y) }
 {}
 
 /// Whether a matrix agrees with a section and a type is told by the listed motions.

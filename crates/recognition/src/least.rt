@@ -14,7 +14,8 @@ use crate::line::{Condition, Line};
 fn narrow_x(class: &Class, line: &Line) -> Option<Class>
     ensures { MatchOption result
         ((x y : ℕ) → InClass class.now.y class.now.step x → ¬ (IsOnLine line.now x y))
-        (λ n. (x y : ℕ) → InClass class.now.y class.now.step x → IsOnLine line.now x y → InClass n.y n.step x) }
+        (λ n. (x y : ℕ) → InClass class.now.y class.now.step x → IsOnLine line.now x y
+        → InClass n.y n.step x) }
 {
     if line.y != 0 {
         return Some(*class);
@@ -32,7 +33,8 @@ fn narrow_x(class: &Class, line: &Line) -> Option<Class>
 fn narrow_x_by(class: &Class, condition: &Condition) -> Option<Class>
     ensures { MatchOption result
         ((x y : ℕ) → InClass class.now.y class.now.step x → ¬ (Meets condition.now x y))
-        (λ n. (x y : ℕ) → InClass class.now.y class.now.step x → Meets condition.now x y → InClass n.y n.step x) }
+        (λ n. (x y : ℕ) → InClass class.now.y class.now.step x → Meets condition.now x y
+        → InClass n.y n.step x) }
 {
     match narrow_x(class, &condition.first) {
         None => None,
@@ -82,8 +84,10 @@ fn at(line: &Line, x: u32) -> Congruence
 /// The members of the class that meet a condition at x.
 fn narrow_by(class: &Class, condition: &Condition, x: u32) -> Option<Class>
     requires { x < grid }
-    ensures { MatchOption result ((v : ℕ) → InClass class.now.y class.now.step v → ¬ (Meets condition.now x v))
-        (λ n. (v : ℕ) → InClass n.y n.step v ↔ (InClass class.now.y class.now.step v × Meets condition.now x v)) }
+    ensures { MatchOption result
+        ((v : ℕ) → InClass class.now.y class.now.step v → ¬ (Meets condition.now x v))
+        (λ n. (v : ℕ) → InClass n.y n.step v
+        ↔ (InClass class.now.y class.now.step v × Meets condition.now x v)) }
 {
     match narrow(class, &at(&condition.first, x)) {
         None => None,
@@ -95,7 +99,8 @@ fn narrow_by(class: &Class, condition: &Condition, x: u32) -> Option<Class>
 pub(crate) fn least_y(conditions: &[Condition; MOST], count: usize, x: u32) -> Option<u32>
     requires count { count ≤ 24 }
     requires x { x < grid }
-    ensures { MatchOption result (HasNoNumber (MeetsFirst count conditions.now x)) (IsLeast (MeetsFirst count conditions.now x)) }
+    ensures { MatchOption result (HasNoNumber (MeetsFirst count conditions.now x))
+        (IsLeast (MeetsFirst count conditions.now x)) }
 {
     let mut class = Class { y: 0, step: 1 };
     for i in 0..count {

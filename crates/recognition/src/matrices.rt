@@ -21,13 +21,7 @@ pub(crate) fn takes_lattice(centred: bool, p: &[[i64; 2]; 2]) -> bool
     requires { IsBoundedMatrix (matrix2_of p.now) }
     ensures { IsTrue result ↔ TakesLattice centred (matrix2_of p.now) }
 {
-    let table = matrices(centred);
-    for q in table {
-        if is_same(p, q) {
-            return true;
-        }
-    }
-    false
+    matrices(centred).iter().any(|q| is_same(p, q))
 }
 
 /// Whether two matrices are equal.

@@ -65,7 +65,8 @@ pub(crate) fn least_of_agreeing<L: Ledger>(
     requires few { length section.now ≤ 24 }
     ensures origin { MatchOption result
         (IsNowhere (λ x y. Carries section.now number (matrix2_of p.now) (origin_at x y)))
-        (λ o. IsLeastOrigin (λ x y. Carries section.now number (matrix2_of p.now) (origin_at x y)) o.0 o.1) }
+        (λ o. IsLeastOrigin
+        (λ x y. Carries section.now number (matrix2_of p.now) (origin_at x y)) o.0 o.1) }
     ensures count { steps.new ≤ steps.old + grid }
 {
     let asked = conditions(section, t, p);
@@ -90,11 +91,14 @@ fn least_among<L: Ledger>(
     requires ready { IsReady section.now t.now }
     requires p { IsBoundedMatrix (matrix2_of p.now) }
     requires few { length section.now ≤ 24 }
-    requires asked { (x y : ℕ) → MeetsFirst (length section.now) asked.now x y ↔ Carries section.now number (matrix2_of p.now) (origin_at x y) }
-    requires class { (x y : ℕ) → x < grid → MeetsFirst (length section.now) asked.now x y → InClass class.now.y class.now.step x }
+    requires asked { (x y : ℕ) → MeetsFirst (length section.now) asked.now x y
+        ↔ Carries section.now number (matrix2_of p.now) (origin_at x y) }
+    requires class { (x y : ℕ) → x < grid → MeetsFirst (length section.now) asked.now x y
+        → InClass class.now.y class.now.step x }
     ensures origin { MatchOption result
         (IsNowhere (λ x y. Carries section.now number (matrix2_of p.now) (origin_at x y)))
-        (λ o. IsLeastOrigin (λ x y. Carries section.now number (matrix2_of p.now) (origin_at x y)) o.0 o.1) }
+        (λ o. IsLeastOrigin
+        (λ x y. Carries section.now number (matrix2_of p.now) (origin_at x y)) o.0 o.1) }
     ensures count { steps.new ≤ steps.old + grid }
 {
     for x in 0..GRID {
@@ -122,7 +126,8 @@ pub fn first_origin<L: Ledger>(
     requires p { IsBoundedMatrix (matrix2_of p) }
     ensures origin { MatchOption result
         (IsNowhere (λ x y. Carries section.now number (matrix2_of p) (origin_at x y)))
-        (λ o. IsLeastOrigin (λ x y. Carries section.now number (matrix2_of p) (origin_at x y)) o.0 o.1) }
+        (λ o. IsLeastOrigin
+        (λ x y. Carries section.now number (matrix2_of p) (origin_at x y)) o.0 o.1) }
     ensures count { steps.new ≤ steps.old + steps_of_pair }
 {
     match layer(number) {

@@ -46,7 +46,8 @@ fn try_matrix<L: Ledger>(
     requires few { length section.now ≤ 24 }
     ensures origin { MatchOption result
         (IsNowhere (λ x y. Carries section.now number (matrix2_of p.now) (origin_at x y)))
-        (λ o. IsLeastOrigin (λ x y. Carries section.now number (matrix2_of p.now) (origin_at x y)) o.0 o.1) }
+        (λ o. IsLeastOrigin
+        (λ x y. Carries section.now number (matrix2_of p.now) (origin_at x y)) o.0 o.1) }
     ensures count { (steps.new ≡ steps.old)
         ⊎ (Agrees section.now t.now (matrix2_of p.now) × (steps.new ≤ steps.old + steps_of_pair)) }
 {
@@ -69,10 +70,12 @@ fn first_matrix<L: Ledger>(
     requires few { length section.now ≤ 24 }
     ensures matrix { MatchOption result
         (HasNoMatrix (λ p x y. Carries section.now number p (origin_at x y)))
-        (λ f. IsFirstMatrix (λ p x y. Carries section.now number p (origin_at x y)) (matrix2_of f.p) f.x f.y) }
+        (λ f. IsFirstMatrix (λ p x y. Carries section.now number p (origin_at x y))
+        (matrix2_of f.p) f.x f.y) }
     ensures count { MatchOption result
         (IsWithinSteps (λ a. (a.number ≡ number) × IsAgreeing section.now a) steps.old steps.new)
-        (λ f. IsWithinSteps (λ a. (a.number ≡ number) × IsAgreeing section.now a × (¬ IsMatrixBefore (matrix2_of f.p) a.matrix)) steps.old steps.new) }
+        (λ f. IsWithinSteps (λ a. (a.number ≡ number) × IsAgreeing section.now a
+        × (¬ IsMatrixBefore (matrix2_of f.p) a.matrix)) steps.old steps.new) }
 {
     let table = matrices(t.centred);
     for p in table {
@@ -93,10 +96,12 @@ fn first_of_type<L: Ledger>(
     requires number { IsTypeNumber number }
     ensures matrix { MatchOption result
         (HasNoMatrix (λ p x y. Carries section.now number p (origin_at x y)))
-        (λ f. IsFirstMatrix (λ p x y. Carries section.now number p (origin_at x y)) (matrix2_of f.p) f.x f.y) }
+        (λ f. IsFirstMatrix (λ p x y. Carries section.now number p (origin_at x y))
+        (matrix2_of f.p) f.x f.y) }
     ensures count { MatchOption result
         (IsWithinSteps (λ a. (a.number ≡ number) × IsAgreeing section.now a) steps.old steps.new)
-        (λ f. IsWithinSteps (λ a. (a.number ≡ number) × IsAgreeing section.now a × (¬ IsMatrixBefore (matrix2_of f.p) a.matrix)) steps.old steps.new) }
+        (λ f. IsWithinSteps (λ a. (a.number ≡ number) × IsAgreeing section.now a
+        × (¬ IsMatrixBefore (matrix2_of f.p) a.matrix)) steps.old steps.new) }
 {
     match layer(number) {
         None => None,
@@ -126,7 +131,8 @@ pub fn layer_type<L: Ledger>(
     ensures none { IfOk result (λ o. IsNone o ↔ HasNoChange section.now) }
     ensures steps { IsWithinSteps (IsAgreeing section.now) steps.old steps.new }
     ensures steps_of_found { IfOk result (λ o. IfSome o (λ f.
-        IsWithinSteps (λ a. IsAgreeing section.now a × (¬ IsPairingBefore (pairing_of f) a)) steps.old steps.new)) }
+        IsWithinSteps (λ a. IsAgreeing section.now a
+        × (¬ IsPairingBefore (pairing_of f) a)) steps.old steps.new)) }
 {
     for number in 1..=80u8 {
         if let Some(found) = first_of_type(section, number, steps) {

@@ -40,12 +40,7 @@ fn has_kin(m: &RodMotion, list: &[RodMotion]) -> bool
     requires list { All IsSmallRod list.now }
     ensures { IsTrue result ↔ Any (λ n. IsKin (rod_of m.now) (rod_of n)) list.now }
 {
-    for n in list {
-        if is_kin(m, n) {
-            return true;
-        }
-    }
-    false
+    list.iter().any(|n| is_kin(m, n))
 }
 
 /// Whether all motions of a list have their kin in another.
@@ -54,10 +49,5 @@ pub(crate) fn all_have_kin(list: &[RodMotion], other: &[RodMotion]) -> bool
     requires other { All IsSmallRod other.now }
     ensures { IsTrue result ↔ All (λ m. Any (λ n. IsKin (rod_of m) (rod_of n)) other.now) list.now }
 {
-    for m in list {
-        if !has_kin(m, other) {
-            return false;
-        }
-    }
-    true
+    list.iter().all(|m| has_kin(m, other))
 }

@@ -7,5 +7,6 @@ ghost use Rattle.recognition.specs.RodTests.{Fits};
 
 /// Whether a change carries a section onto a type, as sets of operations of rationals, is told by the listed motions.
 pub fn carries_by_listed()
-    ensures { (section : List RodMotion) (ops : List RodMotion) (p : Matrix2) (z : ℕ) → Fits section ops p z ↔ Carries section ops p z }
+    ensures { (section : List RodMotion) (ops : List RodMotion) (p : Matrix2) (z : ℕ)
+        → Fits section ops p z ↔ Carries section ops p z }
 {}

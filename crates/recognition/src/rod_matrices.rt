@@ -40,7 +40,8 @@ pub(crate) fn product(left: &[[i64; 2]; 2], right: &[[i64; 2]; 2]) -> [[i64; 2];
 fn is_row(row: &[i64; 2], matrix: &[[i64; 2]; 2], other: &[i64; 2]) -> bool
     requires row { IsPairWithin 500 (pair_of row.now) }
     requires matrix { IsMatrix2Within 500 (matrix2_of matrix.now) }
-    ensures { IsTrue result ↔ (pair_of other.now ≡ row_times2 (pair_of row.now) (matrix2_of matrix.now)) }
+    ensures { IsTrue result
+        ↔ (pair_of other.now ≡ row_times2 (pair_of row.now) (matrix2_of matrix.now)) }
 {
     let first = first_entry(row, matrix);
     if other[0] != first {
@@ -54,7 +55,8 @@ fn is_row(row: &[i64; 2], matrix: &[[i64; 2]; 2], other: &[i64; 2]) -> bool
 pub(crate) fn is_product(left: &[[i64; 2]; 2], right: &[[i64; 2]; 2], other: &[[i64; 2]; 2]) -> bool
     requires left { IsMatrix2Within 500 (matrix2_of left.now) }
     requires right { IsMatrix2Within 500 (matrix2_of right.now) }
-    ensures { IsTrue result ↔ (matrix2_of other.now ≡ product2 (matrix2_of left.now) (matrix2_of right.now)) }
+    ensures { IsTrue result
+        ↔ (matrix2_of other.now ≡ product2 (matrix2_of left.now) (matrix2_of right.now)) }
 {
     if !is_row(&left[0], right, &other[0]) {
         return false;

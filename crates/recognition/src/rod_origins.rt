@@ -19,14 +19,10 @@ pub(crate) const STEP: i64 = ROD_GRID / (2 * UNIT);
 
 /// The first motion of the section that turns the axis.
 fn first_turning(section: &[RodMotion]) -> Option<RodMotion>
-    ensures { MatchOption result (All (λ m. (rod_of m).along ≡ Plus) section.now) (λ m. Contains section.now m × ((rod_of m).along ≡ Minus)) }
+    ensures { MatchOption result (All (λ m. (rod_of m).along ≡ Plus) section.now)
+        (λ m. Contains section.now m × ((rod_of m).along ≡ Minus)) }
 {
-    for m in section {
-        if m.e == Sign::Minus {
-            return Some(*m);
-        }
-    }
-    None
+    section.iter().find(|m| m.e == Sign::Minus).copied()
 }
 
 /// The first motion of the type with the sign of a motion and, after the change, its matrix.
@@ -34,15 +30,11 @@ fn partner(p: &[[i64; 2]; 2], m: &RodMotion, ops: &[RodMotion]) -> Option<RodMot
     requires p { IsMatrix2Within 2 (matrix2_of p.now) }
     requires m { IsSmallRod m.now }
     requires ops { All IsSmallRod ops.now }
-    ensures { MatchOption result (All (λ n. ¬ (IsLike (matrix2_of p.now) (rod_of m.now) (rod_of n))) ops.now)
+    ensures { MatchOption result
+        (All (λ n. ¬ (IsLike (matrix2_of p.now) (rod_of m.now) (rod_of n))) ops.now)
         (λ n. Contains ops.now n × IsLike (matrix2_of p.now) (rod_of m.now) (rod_of n)) }
 {
-    for n in ops {
-        if is_like(p, m, n) {
-            return Some(*n);
-        }
-    }
-    None
+    ops.iter().find(|n| is_like(p, m, n)).copied()
 }
 
 /// The least origin at which the translations of two motions agree that turn the axis.

@@ -82,14 +82,10 @@ fn has_like(p: &[[i64; 2]; 2], z: u32, m: &RodMotion, ops: &[RodMotion]) -> bool
     requires z { z < 96 }
     requires m { IsSmallRod m.now }
     requires ops { All IsSmallRod ops.now }
-    ensures { IsTrue result ↔ Any (λ n. IsPaired (matrix2_of p.now) z (rod_of m.now) (rod_of n)) ops.now }
+    ensures { IsTrue result
+        ↔ Any (λ n. IsPaired (matrix2_of p.now) z (rod_of m.now) (rod_of n)) ops.now }
 {
-    for n in ops {
-        if is_paired(p, z, m, n) {
-            return true;
-        }
-    }
-    false
+    ops.iter().any(|n| is_paired(p, z, m, n))
 }
 
 /// Whether a motion of the type has one of the section.
@@ -98,14 +94,10 @@ fn has_source(p: &[[i64; 2]; 2], z: u32, n: &RodMotion, section: &[RodMotion]) -
     requires z { z < 96 }
     requires n { IsSmallRod n.now }
     requires section { All IsSmallRod section.now }
-    ensures { IsTrue result ↔ Any (λ m. IsPaired (matrix2_of p.now) z (rod_of m) (rod_of n.now)) section.now }
+    ensures { IsTrue result
+        ↔ Any (λ m. IsPaired (matrix2_of p.now) z (rod_of m) (rod_of n.now)) section.now }
 {
-    for m in section {
-        if is_paired(p, z, m, n) {
-            return true;
-        }
-    }
-    false
+    section.iter().any(|m| is_paired(p, z, m, n))
 }
 
 /// Whether all motions of the section have one of the type.
@@ -114,14 +106,10 @@ fn all_have_like(p: &[[i64; 2]; 2], z: u32, section: &[RodMotion], ops: &[RodMot
     requires z { z < 96 }
     requires section { All IsSmallRod section.now }
     requires ops { All IsSmallRod ops.now }
-    ensures { IsTrue result ↔ All (λ m. Any (λ n. IsPaired (matrix2_of p.now) z (rod_of m) (rod_of n)) ops.now) section.now }
+    ensures { IsTrue result ↔ All
+        (λ m. Any (λ n. IsPaired (matrix2_of p.now) z (rod_of m) (rod_of n)) ops.now) section.now }
 {
-    for m in section {
-        if !has_like(p, z, m, ops) {
-            return false;
-        }
-    }
-    true
+    section.iter().all(|m| has_like(p, z, m, ops))
 }
 
 /// Whether all motions of the type have one of the section.
@@ -130,14 +118,10 @@ fn all_have_source(p: &[[i64; 2]; 2], z: u32, section: &[RodMotion], ops: &[RodM
     requires z { z < 96 }
     requires section { All IsSmallRod section.now }
     requires ops { All IsSmallRod ops.now }
-    ensures { IsTrue result ↔ All (λ n. Any (λ m. IsPaired (matrix2_of p.now) z (rod_of m) (rod_of n)) section.now) ops.now }
+    ensures { IsTrue result ↔ All
+        (λ n. Any (λ m. IsPaired (matrix2_of p.now) z (rod_of m) (rod_of n)) section.now) ops.now }
 {
-    for n in ops {
-        if !has_source(p, z, n, section) {
-            return false;
-        }
-    }
-    true
+    ops.iter().all(|n| has_source(p, z, n, section))
 }
 
 /// Whether the change carries the section onto the type with these operations.

@@ -61,8 +61,10 @@ fn try_place(section: &[RodMotion], ops: &[RodMotion], size: u64, i: u32) -> Opt
     requires ops { All IsSmallRod ops.now }
     requires apart { AreApart ops.now }
     requires i { i < 625 }
-    ensures { MatchOption result (size_of (matrix_at i) ≡ size → IsNotIn 96 (Carries section.now ops.now (matrix_at i)))
-        (λ z. (size_of (matrix_at i) ≡ size) × IsLeastIn 96 (Carries section.now ops.now (matrix_at i)) z) }
+    ensures { MatchOption result
+        (size_of (matrix_at i) ≡ size → IsNotIn 96 (Carries section.now ops.now (matrix_at i)))
+        (λ z. (size_of (matrix_at i) ≡ size)
+        × IsLeastIn 96 (Carries section.now ops.now (matrix_at i)) z) }
 {
     let p = matrix_at(i);
     if size_of(&p) != size {
@@ -94,7 +96,8 @@ pub(crate) fn first_matrix(section: &[RodMotion], ops: &[RodMotion]) -> Option<P
     requires ops { All IsSmallRod ops.now }
     requires apart { AreApart ops.now }
     ensures { MatchOption result (IsOfNoMatrix (Carries section.now ops.now))
-        (λ f. (f.index < 625) × IsFirstMatrix (Carries section.now ops.now) (matrix_at f.index) f.z) }
+        (λ f. (f.index < 625)
+        × IsFirstMatrix (Carries section.now ops.now) (matrix_at f.index) f.z) }
 {
     if !all_have_kin(section, ops) {
         return None;

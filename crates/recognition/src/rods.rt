@@ -22,7 +22,8 @@ fn change_onto(section: &[RodMotion], number: u8) -> Option<FoundRod>
     requires from { 1 ≤ number }
     requires to { number ≤ 75 }
     ensures { MatchOption result (IsOfNoMatrix (HasChangeOnto section.now number))
-        (λ f. (f.number ≡ number) × IsFirstMatrix (HasChangeOnto section.now number) (matrix2_of f.p) f.z) }
+        (λ f. (f.number ≡ number)
+        × IsFirstMatrix (HasChangeOnto section.now number) (matrix2_of f.p) f.z) }
 {
     match rod(number) {
         None => None,
@@ -59,8 +60,10 @@ fn first_change(section: &[RodMotion]) -> Option<FoundRod>
 /// need not be known to be a group. Nothing is allocated, so that `NoMemory` does not come.
 pub fn rod_type(_alloc: Global, section: &[RodMotion]) -> Result<Option<FoundRod>, NoMemory>
     requires { All IsSmallRod section.now }
-    ensures first { IfOk result (λ found. IfSome found (λ f. IsFirst 75 (HasChange section.now) (change_of f))) }
-    ensures none { IfOk result (λ found. IsNone found ↔ ((c : Change) → IsBounded 75 c → ¬ (HasChange section.now c))) }
+    ensures first { IfOk result
+        (λ found. IfSome found (λ f. IsFirst 75 (HasChange section.now) (change_of f))) }
+    ensures none { IfOk result
+        (λ found. IsNone found ↔ ((c : Change) → IsBounded 75 c → ¬ (HasChange section.now c))) }
 {
     Ok(first_change(section))
 }

@@ -1,14 +1,14 @@
-use Rattle.std.proofs.Common.{refl}
+use Rattle.std.proofs.Common.{rules, tests}
+use Rattle.std.proofs.lemmas.Iterator.{cases_from_all, YieldsList-from_slice}
 use Rattle.std.specs.Prelude.{Any}
+use Rattle.motions.specs.declared.layer.LayerMotion.{LayerMotion}
 use Rattle.motions.specs.PlaneViews.{matrix2_of}
 use Rattle.recognition.specs.Listed.{IsLike}
-use Rattle.recognition.proofs.Loops.{one_more}
+use Rattle.recognition.proofs.Searches.{all_are}
 use Rattle.recognition.proofs.agreement.all_have_match.Goals as goal
 
-pub returns-then-not-has_match : goal.returns-then-not-has_match
-returns-then-not-has_match c = (λ t. absurd (cc), λ all. c.if-not-has_match.ensures.1 (all c.loop-m.m-index _ c.loop-m-test.true))
-
-pub loop-m-preserved : goal.loop-m-preserved
-loop-m-preserved c =
-    one_more (λ m. Any (λ n. IsLike (matrix2_of c.args.p.now) m n) c.args.ops.now) c.args.section.now c.loop-m.m-index _ c.loop-m-test.true
-    (c.if-not-has_match.ensures.0 refl) c.loop-m.invariant
+pub returns : goal.returns
+returns c =
+    let P : LayerMotion → Type 0 = λ m. Any (λ n. IsLike (matrix2_of c.args.p.now) m n) c.args.ops.now in
+    all_are P c.args.section.now c.all.result
+    (cases_from_all _ _ _ P (λ x. ¬ P x) c.all.ensures.ran (YieldsList-from_slice c.args.section.now cc) (λ x q k. search (rules, tests)) (λ x q k. search (rules, tests)))

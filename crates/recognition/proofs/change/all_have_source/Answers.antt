@@ -1,14 +1,14 @@
-use Rattle.std.proofs.Common.{refl}
+use Rattle.std.proofs.Common.{rules, tests}
+use Rattle.std.proofs.lemmas.Iterator.{cases_from_all, YieldsList-from_slice}
 use Rattle.std.specs.Prelude.{Any}
+use Rattle.motions.specs.declared.layer.LayerMotion.{LayerMotion}
 use Rattle.motions.specs.PlaneViews.{matrix2_of}
 use Rattle.recognition.specs.Listed.{IsPaired}
-use Rattle.recognition.proofs.Loops.{one_more}
+use Rattle.recognition.proofs.Searches.{all_are}
 use Rattle.recognition.proofs.change.all_have_source.Goals as goal
 
-pub returns-then-not-has_source : goal.returns-then-not-has_source
-returns-then-not-has_source c = (λ t. absurd (cc), λ all. c.if-not-has_source.ensures.1 (all c.loop-n.n-index _ c.loop-n-test.true))
-
-pub loop-n-preserved : goal.loop-n-preserved
-loop-n-preserved c =
-    one_more (λ n. Any (λ m. IsPaired (matrix2_of c.args.p.now) c.args.x c.args.y m n) c.args.section.now) c.args.ops.now c.loop-n.n-index _ c.loop-n-test.true
-    (c.if-not-has_source.ensures.0 refl) c.loop-n.invariant
+pub returns : goal.returns
+returns c =
+    let P : LayerMotion → Type 0 = λ n. Any (λ m. IsPaired (matrix2_of c.args.p.now) c.args.x c.args.y m n) c.args.section.now in
+    all_are P c.args.ops.now c.all.result
+    (cases_from_all _ _ _ P (λ x. ¬ P x) c.all.ensures.ran (YieldsList-from_slice c.args.ops.now cc) (λ x q k. search (rules, tests)) (λ x q k. search (rules, tests)))

@@ -1,27 +1,25 @@
 -- The table has exactly the matrices that take the lattice.
-use Rattle.std.proofs.Common.{◌≡◌, refl, sym, ◌∙◌, subst, ap, arith, List, ℤ}
+use Rattle.std.proofs.Common.{◌≡◌, ◌∙◌, sym, ap, subst, List, ℤ, rules, tests}
+use Rattle.std.proofs.lemmas.Iterator.{cases_from_any, YieldsList-from_slice}
 use Rattle.motions.specs.PlaneViews.{matrix2_of}
 use Rattle.recognition.specs.Listed.{TakesLattice}
 use Rattle.recognition.proofs.Lists.{All-from_map, Contains-from_map}
-use Rattle.recognition.proofs.Loops.{one_more}
+use Rattle.recognition.proofs.Searches.{some_is}
 use Rattle.recognition.proofs.matrices.takes_lattice.Goals as goal
-
-pub returns-then-is_same : goal.returns-then-is_same
-returns-then-is_same c =
-    let rows = c.matrices-table.result.now in
-    let row = All-from_map matrix2_of (TakesLattice c.args.centred) rows c.matrices-table.ensures.takes c.loop-q.q-index _ c.loop-q-test.true in
-    (λ t. subst (TakesLattice c.args.centred) (sym (c.if-is_same.ensures.0 refl)) row, λ h. refl)
-
-pub loop-q-preserved : goal.loop-q-preserved
-loop-q-preserved c =
-    one_more (λ (q : List (List ℤ)). ¬ (matrix2_of c.args.p.now ≡ matrix2_of q)) c.matrices-table.result.now c.loop-q.q-index _ c.loop-q-test.true
-    (λ h. let t = c.if-is_same.ensures.1 h in cc) c.loop-q.invariant
 
 pub returns : goal.returns
 returns c =
-    let rows = c.matrices-table.result.now in (
-      λ t. absurd (cc),
+    let p = matrix2_of c.args.p.now in
+    let rows = c.matrices.result.now in
+    let table = c.matrices.ensures in
+    let Same : List (List ℤ) → Type 0 = λ q. p ≡ matrix2_of q in
+    let found =
+    some_is Same rows c.any.result
+    (cases_from_any _ _ _ Same (λ q. ¬ Same q) c.any.ensures.ran (YieldsList-from_slice rows cc) (λ x q k. search (rules, tests)) (λ x q k. search (rules, tests))) in (
+      λ t.
+          let (k, q, within, at, is) = found.0 t in
+          subst (TakesLattice c.args.centred) (sym (is ∙ ap matrix2_of (sym at))) (All-from_map matrix2_of (TakesLattice c.args.centred) rows table.takes k q within),
       λ h.
-          let (q, (k, within, at), is) = Contains-from_map matrix2_of rows (matrix2_of c.args.p.now) (c.matrices-table.ensures.complete (matrix2_of c.args.p.now) c.requires h) in
-          absurd (c.loop-q.invariant k q (omega (arith, c.loop-q-test.false)) (sym is ∙ ap matrix2_of (sym at))),
+          let (q, (k, within, at), is) = Contains-from_map matrix2_of rows p (table.complete p c.requires h) in
+          found.1 (k, q, within, at, sym is),
     )

@@ -1,8 +1,0 @@
-use Rattle.std.proofs.Common.{ℕ, ◌<◌, slice_index_or}
-use Rattle.motions.specs.declared.layer.LayerMotion.{LayerMotion}
-use Rattle.motions.specs.PlaneViews.{matrix2_of}
-use Rattle.recognition.specs.Listed.{IsPaired}
-use Rattle.recognition.proofs.change.has_source.Given as goal
-
-abbrev pub invariant-loop-m : goal.invariant-loop-m
-invariant-loop-m l = (k : ℕ) (d : LayerMotion) → k < l.m-index → ¬ (IsPaired (matrix2_of l.p) l.x l.y (slice_index_or l.section k d) l.n)

@@ -1,8 +1,0 @@
-use Rattle.std.proofs.Common.{ℕ, ◌<◌, slice_index_or}
-use Rattle.motions.specs.declared.layer.LayerMotion.{LayerMotion}
-use Rattle.motions.specs.PlaneViews.{matrix2_of}
-use Rattle.recognition.specs.Listed.{IsPaired}
-use Rattle.recognition.proofs.change.has_target.Given as goal
-
-abbrev pub invariant-loop-n : goal.invariant-loop-n
-invariant-loop-n l = (k : ℕ) (d : LayerMotion) → k < l.n-index → ¬ (IsPaired (matrix2_of l.p) l.x l.y l.m (slice_index_or l.ops k d))

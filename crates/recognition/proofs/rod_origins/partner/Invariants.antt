@@ -1,9 +1,0 @@
-use Rattle.std.proofs.Common.{ℕ, ◌<◌, slice_index_or}
-use Rattle.motions.specs.declared.rod.RodMotion.{RodMotion}
-use Rattle.motions.specs.PlaneViews.{matrix2_of}
-use Rattle.motions.specs.RodMotions.{rod_of}
-use Rattle.recognition.specs.RodTests.{IsLike}
-use Rattle.recognition.proofs.rod_origins.partner.Given as goal
-
-abbrev pub invariant-loop-n : goal.invariant-loop-n
-invariant-loop-n l = (k : ℕ) (d : RodMotion) → k < l.n-index → ¬ (IsLike (matrix2_of l.p) (rod_of l.m) (rod_of (slice_index_or l.ops k d)))
