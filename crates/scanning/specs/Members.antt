@@ -5,7 +5,7 @@ use Rattle.fractions.specs.declared.part.TheConstants.{UNIT}
 use Rattle.integers.specs.Size.{IsWithin}
 use Rattle.symmetry.specs.Motions.{Motion}
 use Rattle.symmetry.specs.Planes.{KeepsRow}
-use Rattle.symmetry.specs.Groups.{Listing, IsMember, InRowAll, SameModulo}
+use Rattle.symmetry.specs.Groups.{Listing, IsMember, FixesEveryPlaneByRow, SameModulo}
 use Rattle.symmetry.specs.Frames.{Basis, IsAtHome}
 use Rattle.symmetry.specs.Vectors.{Vector, dot, opposite, row_times}
 use Rattle.motions.specs.ListedSizes.{IsSmallWithin}
@@ -16,7 +16,7 @@ use Rattle.scanning.specs.Bounds.{largest_shift}
 
 -- the members that keep the row, and those that turn it with this (hkl).w, in parts; none of the latter where none is given
 abbrev pub InRows : Listing → Vector → Option ℤ → Motion → Type 0
-InRows g r None m = InRowAll g r m
+InRows g r None m = FixesEveryPlaneByRow g r m
 InRows g r (Some t) m = IsMember g m × (KeepsRow r m ⊎ ((row_times r m.matrix ≡ opposite r) × (dot r m.shift ≡ t)))
 
 -- the (hkl).w of the former is 0, and of the latter what is given

@@ -6,7 +6,7 @@ use Rattle.symmetry.specs.Vectors.{Vector, origin, plus, minus, multiple, opposi
 use Rattle.symmetry.specs.Motions.{Motion, Point}
 use Rattle.symmetry.specs.Planes.{Height}
 use Rattle.symmetry.specs.Sizes.{IsVectorWithin}
-use Rattle.symmetry.specs.Groups.{Listing, IsInLattice, InStabiliser, InAll}
+use Rattle.symmetry.specs.Groups.{Listing, IsInLattice, InStabiliser, FixesEveryPlane}
 
 -- the plane lattice: the members t of L with (hkl).t = 0
 abbrev pub InPlaneLattice : Listing → Vector → Vector → Type 0
@@ -71,7 +71,7 @@ mean_of r tau ops = record { at = total_up r tau ops; over = UNIT *ℤ pos (leng
 
 -- a height where some member maps the plane to itself that does not map every plane to itself
 abbrev pub IsSpecial : Listing → Vector → Height → Type 0
-IsSpecial g r s = (m : Motion) × InStabiliser g r s m × ¬ (InAll g r m)
+IsSpecial g r s = (m : Motion) × InStabiliser g r s m × ¬ (FixesEveryPlane g r m)
 
 -- translations that differ by a vector of the plane lattice, and one matrix
 pub record DiffersInPlane (g : Listing) (r : Vector) (m n : Motion) : Type 0 where

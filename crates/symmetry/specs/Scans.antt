@@ -5,7 +5,7 @@ use Rattle.fractions.specs.Fraction.{IsInLowestTerms, SameFraction}
 use Rattle.symmetry.specs.Vectors.{Vector, dot, multiple, opposite}
 use Rattle.symmetry.specs.Motions.{Motion, followed_by, translation}
 use Rattle.symmetry.specs.Planes.{Height, IsHeight}
-use Rattle.symmetry.specs.Groups.{Listing, InAll, InStabiliser, SameModulo}
+use Rattle.symmetry.specs.Groups.{Listing, FixesEveryPlane, InStabiliser, SameModulo}
 use Rattle.symmetry.specs.Frames.{Basis, DiffersInPlane, IsAtHome, IsSpecial}
 use Rattle.symmetry.specs.Lists.{IsListOf, motion_at}
 
@@ -59,7 +59,7 @@ pub record IsScan (g : Listing) (r : Vector) (f : Basis) (scan : Scan) : Type 0 
   pub in_period : All (IsInPeriod (dot r f.tau)) (heights_of scan.special)
   pub rising : AllPairs IsLower (heights_of scan.special)
   pub classes : (s : Height) → IsHeight s → IsInOneClass g r (dot r f.tau) scan.special s
-  pub general : IsListOf (SameModulo g) g.ops (IsAtHome f) (InAll g r) scan.general
+  pub general : IsListOf (SameModulo g) g.ops (IsAtHome f) (FixesEveryPlane g r) scan.general
   pub lists : All (λ (h : SpecialHeight). IsListOf (SameModulo g) g.ops (IsAtHome f) (InStabiliser g r h.height) h.ops) scan.special
 
 -- first the translation by -t, then the motion, then the translation by t

@@ -3,7 +3,7 @@ ghost use Rattle.std.specs.Prelude.{◌↔◌, ℕ, ℤ, List};
 ghost use Rattle.symmetry.specs.Vectors.{Vector};
 ghost use Rattle.symmetry.specs.Motions.{Motion};
 ghost use Rattle.symmetry.specs.Planes.{Height};
-ghost use Rattle.symmetry.specs.Groups.{InAll, InStabiliser, IsGroup, Listing, SameModulo};
+ghost use Rattle.symmetry.specs.Groups.{FixesEveryPlane, InStabiliser, IsGroup, Listing, SameModulo};
 ghost use Rattle.symmetry.specs.Frames.{Basis, IsAtHome, IsFrame, IsPeriod, IsSkewed, IsSpecial};
 ghost use Rattle.symmetry.specs.Lists.{AreScanning, IsListOf};
 ghost use Rattle.symmetry.specs.Scans.{IsInOneClass, IsScan, Scan, SpecialHeight};
@@ -39,8 +39,8 @@ pub fn alike_lists()
         IsListOf (SameModulo g) g.ops (IsAtHome f) (InStabiliser g r s) ms
         ↔ IsListOf (SameModulo h) h.ops (IsAtHome f) (InStabiliser h r s) ms }
     ensures all { (g h : Listing) → AreAlike g h → (r : Vector) (f : Basis) (ms : List Motion) →
-        IsListOf (SameModulo g) g.ops (IsAtHome f) (InAll g r) ms
-        ↔ IsListOf (SameModulo h) h.ops (IsAtHome f) (InAll h r) ms }
+        IsListOf (SameModulo g) g.ops (IsAtHome f) (FixesEveryPlane g r) ms
+        ↔ IsListOf (SameModulo h) h.ops (IsAtHome f) (FixesEveryPlane h r) ms }
 {}
 
 /// Each height is in the same class, and a scan of the one is a scan of the other.
