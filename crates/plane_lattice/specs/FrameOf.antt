@@ -8,8 +8,8 @@ use Rattle.symmetry.specs.Lists.{AreScanning}
 use Rattle.motions.specs.BasisView.{basis_of}
 use Rattle.motions.specs.Views.{parts, row_of}
 use Rattle.motions.specs.declared.basis.Basis.{Basis}
-use Rattle.motions.specs.declared.frame_fault.FrameFault.{FrameFault}
-use Rattle.motions.specs.declared.frame_fault.FrameFault.TheVariants.{NotFrame, Skewed}
+use Rattle.motions.specs.declared.basis.FrameFault.{FrameFault}
+use Rattle.motions.specs.declared.basis.FrameFault.TheVariants.{NotFrame, Skewed}
 use Rattle.motions.specs.declared.miller.Miller.{Miller}
 use Rattle.closure.specs.declared.group.Group.{Group}
 use Rattle.closure.specs.Groups.{group_listing}

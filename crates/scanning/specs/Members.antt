@@ -11,7 +11,7 @@ use Rattle.symmetry.specs.Vectors.{Vector, dot, opposite, row_times}
 use Rattle.motions.specs.ListedSizes.{IsSmallWithin}
 use Rattle.motions.specs.declared.motion.Sign.{Sign}
 use Rattle.motions.specs.declared.motion.Sign.TheVariants.{Plus, Minus}
-use Rattle.closure.specs.declared.limits.TheConstants.{MAX_ENTRY}
+use Rattle.closure.specs.declared.group.TheConstants.{MAX_ENTRY}
 use Rattle.scanning.specs.Bounds.{largest_shift}
 
 -- the members that keep the row, and those that turn it with this (hkl).w, in parts; none of the latter where none is given

@@ -6,14 +6,14 @@ ghost use Rattle.fractions.specs.FractionOf.{fraction_of};
 ghost use Rattle.integers.specs.Size.{IsWithin};
 ghost use Rattle.motions.specs.ListedSizes.{IsSmallWithin};
 ghost use Rattle.motions.specs.Views.{motion_of, row_of};
-ghost use Rattle.closure.specs.declared.limits.TheConstants.{MAX_ENTRY};
+ghost use Rattle.closure.specs.declared.group.TheConstants.{MAX_ENTRY};
 ghost use Rattle.plane_lattice.specs.FrameView.{basis_of_frame};
 ghost use Rattle.scanning.specs.Bounds.{largest_periods};
 ghost use Rattle.scanning.specs.Conjugates.{IsMoved};
 
 use crate::at_fault::AtFault;
+use crate::class::Place;
 use crate::homes::NoMemory;
-use crate::place::Place;
 use crate::raised::raised;
 use crate::scan::Scan;
 use fractions::Ratio;

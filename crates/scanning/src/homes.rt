@@ -5,7 +5,7 @@ ghost use Rattle.symmetry.specs.Groups.{IsGroup, SameModulo};
 ghost use Rattle.motions.specs.ListedSizes.{IsSmallWithin};
 ghost use Rattle.motions.specs.Views.{motion_of, row_of};
 ghost use Rattle.closure.specs.Groups.{group_listing};
-ghost use Rattle.closure.specs.declared.limits.TheConstants.{MAX_ENTRY};
+ghost use Rattle.closure.specs.declared.group.TheConstants.{MAX_ENTRY};
 ghost use Rattle.plane_lattice.specs.FrameView.{basis_of_frame};
 ghost use Rattle.scanning.specs.Members.{AreSameMotions, IsHomeMotion};
 
