@@ -32,6 +32,10 @@ pub record Basis : Type 0 where
 abbrev pub combination : Basis → Vector → Vector
 combination f c = plus (plus (multiple c.x f.a) (multiple c.y f.b)) (multiple c.z f.tau)
 
+-- a, b and the normal of the planes are right-handed
+abbrev pub IsRightHanded : Vector → Basis → Type 0
+IsRightHanded r f = (c : ℤ) × (pos 0 <ℤ c) × (cross f.a f.b ≡ multiple c r)
+
 -- a, b and tau are a frame of G and (hkl)
 pub record IsFrame (g : Listing) (r : Vector) (f : Basis) : Type 0 where
   pub spans : (t : Vector) → IsInLattice g t → (c : Vector) × (combination f c ≡ t)
@@ -40,7 +44,7 @@ pub record IsFrame (g : Listing) (r : Vector) (f : Basis) : Type 0 where
   pub a_in_plane : dot r f.a ≡ pos 0
   pub b_in_plane : dot r f.b ≡ pos 0
   pub tau_above : pos 0 <ℤ dot r f.tau
-  pub right_handed : (c : ℤ) × (pos 0 <ℤ c) × (cross f.a f.b ≡ multiple c r)
+  pub right_handed : IsRightHanded r f
 
 -- a frame is skewed when a scanning operation takes a, b or tau to a combination with a coefficient above 500 in size
 pub record IsSkewed (g : Listing) (r : Vector) (f : Basis) : Type 0 where
