@@ -5,8 +5,7 @@ ghost use Rattle.motions.specs.ListedSizes.{IsSmallWithin};
 ghost use Rattle.motions.specs.Views.{motion_of, parts};
 
 use crate::generated_error::GeneratedError;
-use crate::group::Group;
-use crate::limits::MAX_OPERATIONS;
+use crate::group::{Group, MAX_OPERATIONS};
 use fractions::{Part, UNIT};
 use motions::{Listed, Motion3};
 use std::alloc::Global;

@@ -13,7 +13,6 @@ use crate::generated_error::GeneratedError;
 use crate::generated_lattice::generated_lattice;
 use crate::group_error::GroupError;
 use crate::lattice::Lattice;
-use crate::limits::MAX_OPERATIONS;
 use crate::matrices::generated_matrices;
 use crate::residues::lists_residue;
 use crate::translations::listed_lattice;
@@ -21,6 +20,12 @@ use fractions::Part;
 use motions::{Listed, Motion3};
 use quotient::{check_group_by_homes, distinct, homes};
 use std::alloc::{AllocError, Global};
+
+/// How many operations may be listed.
+pub const MAX_OPERATIONS: usize = 192;
+
+/// How large a matrix entry of an operation may be.
+pub const MAX_ENTRY: i64 = 50;
 
 /// A space group: its operations, each once modulo its translation lattice.
 ///

@@ -10,6 +10,9 @@ use crate::residues::residues_of_sums;
 use fractions::Part;
 use std::alloc::Global;
 
+/// How many residues modulo whole cell edges a lattice may have.
+pub const MAX_RESIDUES: usize = 64;
+
 /// A translation lattice that holds all whole vectors, as the set of its residues modulo whole cell edges.
 ///
 /// There are at most [`MAX_RESIDUES`](crate::MAX_RESIDUES) of them. Vectors are counted in parts of the edges.

@@ -22,7 +22,6 @@ mod group_shifts;
 mod lattice;
 mod lattice_fault;
 mod laws;
-mod limits;
 mod matrices;
 mod residues;
 mod shifts;
@@ -35,9 +34,9 @@ pub use generated_laws::{
     derived_listing, generated_by_single_shifts, generated_is_group, generated_translations,
     group_of_derived_listing, no_generated_and_error, one_derived_list, one_generated_error,
 };
-pub use group::Group;
+pub use group::{Group, MAX_ENTRY, MAX_OPERATIONS};
 pub use group_error::GroupError;
-pub use lattice::Lattice;
+pub use lattice::{Lattice, MAX_RESIDUES};
 pub use lattice_fault::LatticeFault;
 pub use laws::{no_group_and_error, one_group_error, own_group};
-pub use limits::{MAX_ENTRY, MAX_MATRICES, MAX_OPERATIONS, MAX_RESIDUES};
+pub use matrices::MAX_MATRICES;

@@ -12,12 +12,15 @@ ghost use Rattle.closure.specs.ClosedLists.{HasMatrixOf, IsMatrixClosed};
 ghost use Rattle.closure.specs.Searches.{AreFound, GoesOn, HasNext, IsSearchFault};
 
 use crate::generated_error::GeneratedError;
-use crate::limits::{MAX_ENTRY, MAX_MATRICES};
+use crate::group::MAX_ENTRY;
 use crate::residues::residue_of;
 use crate::shifts::has_same_matrix;
 use motions::{Listed, Motion3};
 use quotient::Motion;
 use std::alloc::Global;
+
+/// How many matrices a group from generators may have.
+pub const MAX_MATRICES: usize = 48;
 
 /// A motion of the list with the matrix of m.
 pub(crate) fn with_matrix(list: &[Motion3], m: &Motion3) -> Option<Motion3>

@@ -9,8 +9,8 @@ ghost use Rattle.closure.specs.Spans.{AreResiduesOf, coset, with_centring};
 ghost use Rattle.closure.specs.Fineness.{centrings_alone};
 ghost use Rattle.closure.specs.Faults.{IsLatticeFault};
 
+use crate::lattice::MAX_RESIDUES;
 use crate::lattice_fault::LatticeFault;
-use crate::limits::MAX_RESIDUES;
 use fractions::Part;
 use std::alloc::{AllocError, Global};
 

@@ -5,11 +5,10 @@ ghost use Rattle.motions.specs.ListedSizes.{IsSmallWithin};
 ghost use Rattle.motions.specs.Views.{motion_of, parts};
 ghost use Rattle.closure.specs.Operations.{HasSmallEntries};
 
-use crate::group::Group;
+use crate::group::{Group, MAX_OPERATIONS};
 use crate::group_error::GroupError;
 use crate::lattice::Lattice;
 use crate::lattice_fault::LatticeFault;
-use crate::limits::MAX_OPERATIONS;
 use fractions::{Part, UNIT};
 use motions::{Listed, Motion3};
 use quotient::{GroupFault, Quotient};

@@ -5,8 +5,8 @@ use Rattle.symmetry.specs.Groups.{Listing}
 use Rattle.symmetry.specs.Frames.{Basis, IsSkewed}
 use Rattle.reduction.specs.Reduced.{IsReducedFrame}
 use Rattle.reduction.specs.ReducedFrames.{IsInRange, IsReductionFault}
-use Rattle.reduction.specs.declared.reduction_fault.ReductionFault.{ReductionFault}
-use Rattle.reduction.specs.declared.reduction_fault.ReductionFault.TheVariants.{OutOfRange, Skewed}
+use Rattle.reduction.specs.declared.reduced.ReductionFault.{ReductionFault}
+use Rattle.reduction.specs.declared.reduced.ReductionFault.TheVariants.{OutOfRange, Skewed}
 use Rattle.report.specs.Texts.{frame_line}
 use Rattle.requests.specs.declared.format.Format.{Format}
 use Rattle.requests.specs.declared.refusal.Refusal.{Refusal}

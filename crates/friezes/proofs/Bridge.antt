@@ -13,7 +13,7 @@ use Rattle.line_types.specs.Friezes.{frieze_line}
 use Rattle.line_types.specs.FriezeRows.{frieze_row}
 use Rattle.line_types.specs.Laws.FriezeLaws.{frieze_line_laws}
 use Rattle.friezes.specs.declared.line_op.LineOp.{LineOp}
-use Rattle.friezes.specs.declared.edge.TheConstants.{GRID}
+use Rattle.friezes.specs.declared.found_frieze.TheConstants.{GRID}
 use Rattle.friezes.specs.Lines.{edge}
 use Rattle.friezes.specs.RationalLines.{RationalLine, IsRationalLine, IsListedLine, IsWhole, fraction_minus, half_parts}
 use Rattle.friezes.specs.Changes.{CarriesOnto, IsCarried, grid_part, origin_moved}

@@ -7,7 +7,7 @@ use Rattle.fractions.specs.declared.part.TheConstants.{UNIT}
 use Rattle.motions.specs.declared.motion.Sign.{Sign}
 use Rattle.motions.specs.declared.motion.Sign.TheVariants.{Plus, Minus}
 use Rattle.friezes.specs.declared.line_op.LineOp.{LineOp}
-use Rattle.friezes.specs.declared.edge.TheConstants.{GRID}
+use Rattle.friezes.specs.declared.found_frieze.TheConstants.{GRID}
 use Rattle.friezes.specs.Lines.{edge}
 use Rattle.friezes.specs.Laws.ShiftLaws.{divided, one_rest}
 use Rattle.friezes.specs.Order.{Change, IsBounded, IsFirst}

@@ -2,7 +2,7 @@
 use Rattle.std.specs.Prelude.{◌≡◌, ◌↔◌, ℕ, ℤ, pos, ◌-ℤ◌, ◌*ℤ◌}
 use Rattle.fractions.specs.Fraction.{Fraction}
 use Rattle.motions.specs.Signs.{sign_value}
-use Rattle.friezes.specs.declared.edge.TheConstants.{GRID}
+use Rattle.friezes.specs.declared.found_frieze.TheConstants.{GRID}
 use Rattle.friezes.specs.RationalLines.{RationalLine, IsRationalLine, IsWhole, fraction_minus}
 
 -- r - f r, how far a motion with the sign f moves the origin

@@ -1,6 +1,6 @@
 -- The changes onto frieze types and their order.
 use Rattle.std.specs.Prelude.{◌≡◌, ◌⊎◌, ℕ, ◌<◌, ◌≤◌}
-use Rattle.friezes.specs.declared.edge.TheConstants.{GRID}
+use Rattle.friezes.specs.declared.found_frieze.TheConstants.{GRID}
 
 -- the number of a type, and a point of the grid
 pub record Change : Type 0 where

@@ -7,7 +7,6 @@
 // `is_section` tells which lists are such sections. No memory is taken.
 #![tactic(auto)]
 
-mod edge;
 mod found_frieze;
 mod line_op;
 mod line_shifts;
@@ -16,9 +15,8 @@ mod section;
 #[cfg(test)]
 mod tests;
 
-pub use edge::{EDGE, GRID};
-pub use found_frieze::FoundFrieze;
-pub use line_op::LineOp;
+pub use found_frieze::{FoundFrieze, GRID};
+pub use line_op::{EDGE, LineOp};
 pub use line_shifts::LineOpShifts;
 pub use recognise::frieze_type;
 pub use section::is_section;

@@ -9,8 +9,12 @@ ghost use Rattle.motions.specs.Laws.FriezeLaws.{frieze_laws, same_frieze-is, sam
 ghost use Rattle.motions.specs.Laws.LineLaws.{along_within, nothing_within};
 ghost use Rattle.friezes.specs.Lines.{line_of};
 
+use fractions::UNIT;
 use motions::{FriezeMotion, Sign};
 use quotient::Motion;
+
+/// How many half parts a cell edge has: translations along a line are counted in these.
+pub const EDGE: i64 = 2 * UNIT;
 
 /// What a motion of a plane that maps a line to itself does along the line: it takes the point of the line at x to
 /// the one at f x + t, and what lies beside the line to the side that the sign e tells.

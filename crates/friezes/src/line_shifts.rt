@@ -3,8 +3,7 @@ ghost use Rattle.std.specs.Prelude.{◌≡◌, ◌^◌, ◌≤ℤ◌, ◌<ℤ◌
 ghost use Rattle.friezes.specs.Laws.ShiftLaws.{by_meaning_lem, home_is_same_lem, homes_lem, shifts_lem};
 ghost use Rattle.friezes.specs.Lines.{IsLineShift, edge, line_home, line_of};
 
-use crate::edge::EDGE;
-use crate::line_op::LineOp;
+use crate::line_op::{EDGE, LineOp};
 use quotient::{Motion, Quotient};
 
 /// The translations by whole cell edges along a line, which motions along it are taken modulo.

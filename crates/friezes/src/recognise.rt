@@ -5,9 +5,8 @@ ghost use Rattle.friezes.specs.Sections.{IsSection};
 ghost use Rattle.friezes.specs.Told.{StandsAt, mirror_or_glide, number_of, origin_of, rest_of_edge};
 ghost use Rattle.friezes.specs.Types.{HasChange, change_of};
 
-use crate::edge::EDGE;
 use crate::found_frieze::FoundFrieze;
-use crate::line_op::LineOp;
+use crate::line_op::{EDGE, LineOp};
 use motions::Sign;
 
 /// The translation of the first motion of the list with these signs.

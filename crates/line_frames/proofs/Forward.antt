@@ -3,7 +3,7 @@ use Rattle.std.proofs.Common.{◌≡◌, inl, inr, ◌*◌, ℤ, pos, ◌-ℤ◌
 use Rattle.std.specs.Prelude.{unsigned_abs}
 use Rattle.std.proofs.lemmas.Int.{ints}
 use Rattle.fractions.specs.declared.part.TheConstants.{UNIT}
-use Rattle.motions.specs.declared.index.TheConstants.{INDEX}
+use Rattle.motions.specs.declared.miller.TheConstants.{INDEX}
 use Rattle.integers.specs.Size.{IsWithin}
 use Rattle.integers.proofs.Order.{one-le-mul}
 use Rattle.integers.proofs.Ring.{IsWithin-mul}

@@ -2,7 +2,7 @@
 use Rattle.std.specs.Prelude.{◌≡◌, ◌≢◌, ℤ, pos, ◌-ℤ◌, ◌*ℤ◌, ◌≤ℤ◌, ◌<ℤ◌, Contains, if◌then◌else◌, List}
 use Rattle.std.specs.Ordering.{int_eq}
 use Rattle.fractions.specs.declared.part.TheConstants.{UNIT}
-use Rattle.motions.specs.declared.index.TheConstants.{INDEX}
+use Rattle.motions.specs.declared.miller.TheConstants.{INDEX}
 use Rattle.fractions.specs.declared.ratio.Ratio.{Ratio}
 use Rattle.symmetry.specs.Vectors.{Vector, dot, image, multiple, plus}
 use Rattle.symmetry.specs.Motions.{Motion}

@@ -5,7 +5,7 @@ ghost use Rattle.integers.specs.Size.{IsWithin};
 ghost use Rattle.symmetry.specs.Sizes.{IsVectorWithin};
 ghost use Rattle.symmetry.specs.Vectors.{Vector, dot};
 ghost use Rattle.motions.specs.Views.{parts, row_of};
-ghost use Rattle.motions.specs.declared.index.TheConstants.{INDEX};
+ghost use Rattle.motions.specs.declared.miller.TheConstants.{INDEX};
 ghost use Rattle.closure.specs.Groups.{group_listing};
 ghost use Rattle.plane_lattice.specs.Bounds.{largest_entry};
 ghost use Rattle.line_frames.specs.Searches.{coordinate, IsAt, IsFirstAbove, IsForwardAlong, IsPointAt, IsReducedAt};

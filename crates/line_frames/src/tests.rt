@@ -4,7 +4,7 @@ ghost use Rattle.symmetry.specs.Sizes.{IsVectorWithin};
 ghost use Rattle.motions.specs.ListedSizes.{IsSmallWithin};
 ghost use Rattle.motions.specs.Views.{motion_of, parts};
 ghost use Rattle.closure.specs.Groups.{group_listing};
-ghost use Rattle.closure.specs.declared.limits.TheConstants.{MAX_ENTRY};
+ghost use Rattle.closure.specs.declared.group.TheConstants.{MAX_ENTRY};
 ghost use Rattle.plane_motions.specs.PlaneMotions.{IsFlat};
 ghost use Rattle.plane_groups.specs.PlaneGroups.{IsFlatGroup};
 

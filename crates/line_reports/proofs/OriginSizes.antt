@@ -5,7 +5,7 @@ use Rattle.std.proofs.lemmas.Int.{ints}
 use Rattle.fractions.specs.declared.part.TheConstants.{UNIT}
 use Rattle.fractions.specs.LowestTerms.{lowest_terms}
 use Rattle.fractions.proofs.Lowest.{lowest_terms-same}
-use Rattle.friezes.specs.declared.edge.TheConstants.{GRID}
+use Rattle.friezes.specs.declared.found_frieze.TheConstants.{GRID}
 use Rattle.integers.specs.Size.{IsWithin}
 use Rattle.integers.proofs.Coded.{again, again_is}
 use Rattle.integers.proofs.Order.{one-le-mul}

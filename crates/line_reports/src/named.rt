@@ -4,7 +4,7 @@ ghost use Rattle.fractions.specs.FractionOf.{fraction_of};
 ghost use Rattle.fractions.specs.LowestTerms.{lowest_terms};
 ghost use Rattle.fractions.specs.declared.part.TheConstants.{UNIT};
 ghost use Rattle.friezes.specs.Types.{change_of};
-ghost use Rattle.friezes.specs.declared.edge.TheConstants.{GRID};
+ghost use Rattle.friezes.specs.declared.found_frieze.TheConstants.{GRID};
 ghost use Rattle.integers.specs.Size.{IsWithin};
 ghost use Rattle.line_types.specs.FriezeRows.{frieze_row};
 ghost use Rattle.motions.specs.PlaneSizes.{IsPairWithin};

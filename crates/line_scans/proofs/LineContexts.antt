@@ -28,7 +28,7 @@ use Rattle.plane_lattice.proofs.SectionLaws.{above_mean}
 use Rattle.plane_motions.specs.PlaneMotions.{IsFlat, PlaneMotion, plane_block}
 use Rattle.line_frames.specs.LineFrames.{third_edge}
 use Rattle.line_frames.specs.Lines.{IsAlong, IsInPlaneLattice, first_two, in_space, times2}
-use Rattle.line_scans.specs.Lines.{InAllLines, IsPlaneMember, IsSameInPlane, PlanePoint}
+use Rattle.line_scans.specs.Lines.{FixesEveryLine, IsPlaneMember, IsSameInPlane, PlanePoint}
 use Rattle.line_scans.specs.LineLists.{ComesBefore, DiffersAlong, ExactlyOne, IsAtLineHome, IsLineList, plane_at}
 use Rattle.line_scans.specs.LineSections.{line_mean, line_total}
 use Rattle.line_scans.proofs.LineActions.{pair_path, times_one}
@@ -121,15 +121,15 @@ module _ (g : Listing) (r a tau : Pair) (d : ℤ) (f : Basis) (scanning : List M
       ap first_two (sym (image_block m c.at) ∙ ap (image (plane_block m).matrix) (sym total_is) ∙ kept ∙ ap (multiple (sign_value e)) total_is)
 
   -- one that keeps every line keeps it
-  pub mean_stays : (m : PlaneMotion) → InAllLines g r m → (e : Sign) → row_times row (plane_block m).matrix ≡ multiple (sign_value e) row
+  pub mean_stays : (m : PlaneMotion) → FixesEveryLine g r m → (e : Sign) → row_times row (plane_block m).matrix ≡ multiple (sign_value e) row
       → image2 m.matrix c.at ≡ c.at
-  mean_stays m in_all e at = by e at
+  mean_stays m fixes e at = by e at
     where
       plain : row_times row (plane_block m).matrix ≡ row
-      plain = ((all_by_row g row (plane_block m) x.group x.coprime).0 ((all_by_lines g x.flat r m).1 in_all)).1.0
+      plain = ((all_by_row g row (plane_block m) x.group x.coprime).0 ((all_by_lines g x.flat r m).1 fixes)).1.0
 
       by : (e : Sign) → row_times row (plane_block m).matrix ≡ multiple (sign_value e) row → image2 m.matrix c.at ≡ c.at
-      by Plus at = mean_kept m in_all.0 Plus at ∙ times_one c.at
+      by Plus at = mean_kept m fixes.0 Plus at ∙ times_one c.at
       by Minus at = absurd (not_opposite row x.coprime (sym plain ∙ at))
 
   -- ---- motions at home

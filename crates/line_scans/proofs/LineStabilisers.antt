@@ -25,7 +25,7 @@ use Rattle.motions.specs.declared.motion.Sign.TheVariants.{Plus, Minus}
 use Rattle.plane_motions.specs.PlaneMotions.{PlaneMotion, plane_block, plane_followed_by, plane_identity}
 use Rattle.plane_motions.proofs.PlaneBlocks.{plane_block_product}
 use Rattle.line_frames.specs.Lines.{IsAlong, IsInPlaneLattice, first_two, in_space, times2}
-use Rattle.line_scans.specs.Lines.{InAllLines, InLineStabiliser, IsPlaneMember}
+use Rattle.line_scans.specs.Lines.{FixesEveryLine, InLineStabiliser, IsPlaneMember}
 use Rattle.line_scans.specs.LineLists.{DiffersAlong}
 use Rattle.line_scans.proofs.LineActions.{image_product2, image_times, image_unit2, sign_of_product, times_one, times_times}
 use Rattle.line_scans.proofs.LineGroups.{IsLineGroup}
@@ -259,7 +259,7 @@ module _ (g : Listing) (r a : Pair) (group : IsGroup g) (coprime : IsCoprime (in
   high_bottom : IsHeight bottom
   high_bottom = omega (arith, ints)
 
-  pub all_group : IsLineGroup a (InAllLines g r)
+  pub all_group : IsLineGroup a (FixesEveryLine g r)
   all_group = record {
     one = ((identity_in bottom high_bottom).0, λ s high. (identity_in s high).1);
     products = λ m n p q. (member_product m n p.0 q.0, λ s high. (product_in s high m n (p.0, p.1 s high) (q.0, q.1 s high)).1);

@@ -13,7 +13,7 @@ use Rattle.fractions.specs.declared.ratio.Ratio.{Ratio}
 use Rattle.symmetry.specs.Vectors.{dot, multiple}
 use Rattle.symmetry.specs.Motions.{Motion}
 use Rattle.symmetry.specs.Planes.{Height, IsCoprime}
-use Rattle.symmetry.specs.Groups.{Listing, InAll, InStabiliser}
+use Rattle.symmetry.specs.Groups.{Listing, FixesEveryPlane, InStabiliser}
 use Rattle.symmetry.specs.Frames.{Basis, IsFrame, total_up}
 use Rattle.symmetry.specs.Lists.{AreScanning}
 use Rattle.symmetry.specs.Scans as scans
@@ -34,7 +34,7 @@ use Rattle.scanning.specs.declared.scan.Scan.{Scan}
 use Rattle.line_frames.specs.LineFrames.{IsLineFrameOf}
 use Rattle.line_frames.specs.Lines.{first_two, in_space}
 use Rattle.plane_groups.specs.PlaneGroups.{IsFlatGroup}
-use Rattle.line_scans.specs.Lines.{InAllLines, InLineStabiliser}
+use Rattle.line_scans.specs.Lines.{FixesEveryLine, InLineStabiliser}
 use Rattle.line_scans.specs.LineLists.{IsLineList}
 use Rattle.line_scans.specs.LineOps.{AreLineMotions, IsLineOp, IsSectionOf, IsStep}
 use Rattle.line_scans.specs.LineScans as lines
@@ -214,10 +214,10 @@ module _ (group : Group) (frame : Frame) (flat : IsFlatGroup (group_listing grou
             lines.IsInOneClass.special i k ((special_by_line g context.flat r s).0 special) (stands_below d (specials_of scan.special.items) s i k at)
             (λ j l at'. only j l (stands_above d (specials_of scan.special.items) s j l at'))
 
-        general_list : IsLineList g a tau (InAllLines g r) (map plane_of general.ops.items)
+        general_list : IsLineList g a tau (FixesEveryLine g r) (map plane_of general.ops.items)
         general_list =
-            subst (IsLineList g a tau (InAllLines g r)) (pairs_of (pos 0) (map motion_of scan.general.items) general general_is)
-            (line_list g r a tau d f made.scanning context (InAll g (in_space r)) (InAllLines g r) (all_by_lines g context.flat r) (λ m in_it. in_it.0)
+            subst (IsLineList g a tau (FixesEveryLine g r)) (pairs_of (pos 0) (map motion_of scan.general.items) general general_is)
+            (line_list g r a tau d f made.scanning context (FixesEveryPlane g (in_space r)) (FixesEveryLine g r) (all_by_lines g context.flat r) (λ m in_it. in_it.0)
             (differs_all g (in_space r)) (map motion_of scan.general.items) is.general)
 
         abbrev Both : CodeHeight → LineHeight → Type 0

@@ -6,7 +6,7 @@ use Rattle.fractions.specs.declared.part.TheConstants.{UNIT}
 use Rattle.symmetry.specs.Vectors.{Vector, Matrix, dot, image, minus, multiple, plus}
 use Rattle.symmetry.specs.Motions.{Motion, Point, moved}
 use Rattle.symmetry.specs.Planes.{Height, IsOn, KeepsPlane}
-use Rattle.symmetry.specs.Groups.{Listing, InAll, InStabiliser, IsInLattice, IsMember, SameModulo}
+use Rattle.symmetry.specs.Groups.{Listing, FixesEveryPlane, InStabiliser, IsInLattice, IsMember, SameModulo}
 use Rattle.symmetry.specs.Listings.{AreAlike}
 use Rattle.symmetry.specs.Frames.{IsSpecial}
 use Rattle.symmetry.proofs.LatticeLaws.{lattice-made, lattice-minus, lattice-plus, same_refl}
@@ -17,7 +17,7 @@ use Rattle.plane_lattice.proofs.FrameTestFacts.{lattice-multiple}
 use Rattle.plane_motions.specs.PlaneMotions.{IsFlat, PlaneMotion, plane_block}
 use Rattle.line_frames.specs.Lines.{IsInPlaneLattice, first_two, in_space, times2}
 use Rattle.plane_groups.specs.PlaneGroups.{IsFlatGroup}
-use Rattle.line_scans.specs.Lines.{InAllLines, InLineStabiliser, IsOnLine, IsPlaneMember, IsSameInPlane, IsSpecialLine, KeepsLine, PlanePoint, moved2}
+use Rattle.line_scans.specs.Lines.{FixesEveryLine, InLineStabiliser, IsOnLine, IsPlaneMember, IsSameInPlane, IsSpecialLine, KeepsLine, PlanePoint, moved2}
 
 -- ---- points
 
@@ -190,7 +190,7 @@ module _ (g : Listing) (flat : IsFlatModulo g) where
       let keeps = plane_by_line r s (plane_block m) (block_matrix_flat m) in
       (λ is. (member.1 is.0, keeps.0 is.1), λ is. (member.0 is.0, keeps.1 is.1))
 
-  pub all_by_lines : (r : Pair) (m : PlaneMotion) → InAll g (in_space r) (plane_block m) ↔ InAllLines g r m
+  pub all_by_lines : (r : Pair) (m : PlaneMotion) → FixesEveryPlane g (in_space r) (plane_block m) ↔ FixesEveryLine g r m
   all_by_lines r m =
       let member = block_member m in (
         λ is. (member.1 is.0, λ s high. (plane_by_line r s (plane_block m) (block_matrix_flat m)).0 (is.1 s high)),

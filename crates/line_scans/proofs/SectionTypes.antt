@@ -10,7 +10,7 @@ use Rattle.fractions.specs.Fraction.{SameFraction}
 use Rattle.integers.proofs.Order.{one-le-mul}
 use Rattle.symmetry.specs.Motions.{Motion, identity}
 use Rattle.symmetry.specs.Planes.{Height, IsHeight}
-use Rattle.symmetry.specs.Groups.{Listing, InAll, InStabiliser, IsMember, SameModulo}
+use Rattle.symmetry.specs.Groups.{Listing, FixesEveryPlane, InStabiliser, IsMember, SameModulo}
 use Rattle.symmetry.specs.Frames.{Basis, DiffersInPlane, IsAtHome}
 use Rattle.symmetry.specs.Lists.{IsListOf, motion_at}
 use Rattle.symmetry.specs.Sizes.{IsSmall}
@@ -26,7 +26,7 @@ use Rattle.friezes.specs.Order.{Change, IsFirst}
 use Rattle.friezes.specs.Sections.{IsSection}
 use Rattle.friezes.specs.Types.{HasChange, IsOfFriezeType}
 use Rattle.line_frames.specs.Lines.{in_space}
-use Rattle.line_scans.specs.Lines.{InAllLines, InLineStabiliser, PlanePoint}
+use Rattle.line_scans.specs.Lines.{FixesEveryLine, InLineStabiliser, PlanePoint}
 use Rattle.line_scans.specs.LineLists.{plane_at}
 use Rattle.line_scans.specs.LineOps.{AreLineMotions, HasLineOp, IsLineOp}
 use Rattle.line_scans.specs.LineSections.{ActsAlong, ActsFrom, InGeneralLineSection, InLineSectionAt, IsFirstFrieze, in_edges2, point_at2}
@@ -137,7 +137,7 @@ module _ (g : Listing) (r a tau : Pair) (d : ℤ) (f : Basis) (scanning : List M
 
   -- ---- in general
 
-  module _ (ms : List Motion) (list : IsListOf (SameModulo g) g.ops (IsAtHome f) (InAll g (in_space r)) ms) where
+  module _ (ms : List Motion) (list : IsListOf (SameModulo g) g.ops (IsAtHome f) (FixesEveryPlane g (in_space r)) ms) where
     abbrev bottom : Height
     bottom = height_in_steps d (pos 0)
 
@@ -147,21 +147,21 @@ module _ (g : Listing) (r a tau : Pair) (d : ℤ) (f : Basis) (scanning : List M
     above_general : (s : Height) → IsHeight s → pos 1 ≤ℤ (point_at2 d s mean).over
     above_general s high = one-le-mul (s.den *ℤ d) mean.over (one-le-mul s.den d high (above_d g r a tau d f scanning x)) (over_c g r a tau d f scanning x)
 
-    acts_there : (s : Height) (m : PlaneMotion) (op : LineOp) → InAllLines g r m → IsLineOp (in_space r) f (pos 0) (plane_block m) op
+    acts_there : (s : Height) (m : PlaneMotion) (op : LineOp) → FixesEveryLine g r m → IsLineOp (in_space r) f (pos 0) (plane_block m) op
         → ActsAlong a mean (point_at2 d s mean) m (rational_line (line_of op))
-    acts_there s m op in_all is =
-        acts_generally r a tau d mean f x.f_a x.f_tau m (pos 0) op is (mean_kept g r a tau d f scanning x m in_all.0 op.e is.across) refl
-        (mean_stays g r a tau d f scanning x m in_all op.e is.across) s
+    acts_there s m op fixes is =
+        acts_generally r a tau d mean f x.f_a x.f_tau m (pos 0) op is (mean_kept g r a tau d f scanning x m fixes.0 op.e is.across) refl
+        (mean_stays g r a tau d f scanning x m fixes op.e is.across) s
 
     pub general_motions : All IsSmall ms → AreLineMotions (in_space r) f (pos 0) ms
     general_motions small =
-        line_motions (InAll g (in_space r)) (InAllLines g r) (all_by_lines g x.flat r) (λ m in_it. in_it.0) (differs_all g (in_space r))
+        line_motions (FixesEveryPlane g (in_space r)) (FixesEveryLine g r) (all_by_lines g x.flat r) (λ m in_it. in_it.0) (differs_all g (in_space r))
         (all_group g r a x.group x.coprime x.flat x.along) ms list (pos 0) (point_at2 d bottom mean) (above_general bottom high_bottom) (acts_there bottom) small
-        (λ m in_all. some_op g r a tau d x.group x.coprime x.flat x.along x.once_a x.tau_in x.tau_gives f x.f_a x.f_tau bottom high_bottom (pos 0) refl m
-        (in_all.0, in_all.1 bottom high_bottom))
+        (λ m fixes. some_op g r a tau d x.group x.coprime x.flat x.along x.once_a x.tau_in x.tau_gives f x.f_a x.f_tau bottom high_bottom (pos 0) refl m
+        (fixes.0, fixes.1 bottom high_bottom))
 
     pub general_type : (ops : List LineOp) → AllZip (IsLineOp (in_space r) f (pos 0)) ms ops → (change : Change) → IsFirst (HasChange ops) change
         → (s : Height) → IsHeight s → IsFirstFrieze (InGeneralLineSection g r a d mean s) change
     general_type ops zip change first s high =
-        first_told (InAll g (in_space r)) (InAllLines g r) (all_by_lines g x.flat r) (λ m in_it. in_it.0) (differs_all g (in_space r))
+        first_told (FixesEveryPlane g (in_space r)) (FixesEveryLine g r) (all_by_lines g x.flat r) (λ m in_it. in_it.0) (differs_all g (in_space r))
         (all_group g r a x.group x.coprime x.flat x.along) ms list (pos 0) (point_at2 d s mean) (above_general s high) (acts_there s) ops zip change first

@@ -9,7 +9,7 @@ use Rattle.motions.specs.PlaneMatrices.{Pair}
 use Rattle.plane_motions.specs.PlaneMotions.{PlaneMotion}
 use Rattle.friezes.specs.Order.{Change}
 use Rattle.line_frames.specs.Lines.{IsLineFrame}
-use Rattle.line_scans.specs.Lines.{InAllLines, InLineStabiliser, IsSpecialLine, PlanePoint}
+use Rattle.line_scans.specs.Lines.{FixesEveryLine, InLineStabiliser, IsSpecialLine, PlanePoint}
 use Rattle.line_scans.specs.LineLists.{AreLineScanning, IsLineList}
 use Rattle.line_scans.specs.LineSections.{InGeneralLineSection, InLineSectionAt, IsFirstFrieze, line_mean}
 
@@ -76,7 +76,7 @@ pub record IsLineScan (g : Listing) (r : Pair) (scan : LineScan) : Type 0 where
   pub in_period : All (IsInPeriod scan.period) (heights_of scan.heights)
   pub rising : AllPairs IsLower (heights_of scan.heights)
   pub classes : (s : Height) → IsHeight s → IsInOneClass g r scan.period (heights_of scan.heights) s
-  pub general : IsLineList g scan.a scan.tau (InAllLines g r) scan.general.ops
+  pub general : IsLineList g scan.a scan.tau (FixesEveryLine g r) scan.general.ops
   pub lists : All (λ (h : LineHeight). IsLineList g scan.a scan.tau (InLineStabiliser g r h.height) h.section.ops) scan.heights
   pub general_type : (s : Height) → IsHeight s
       → IsFirstFrieze (InGeneralLineSection g r scan.a scan.period (line_mean r scan.tau scanning) s) scan.general.found

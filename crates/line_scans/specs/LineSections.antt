@@ -11,7 +11,7 @@ use Rattle.friezes.specs.Changes.{CarriesOnto, grid_part}
 use Rattle.friezes.specs.Order.{Change, IsFirst}
 use Rattle.friezes.specs.Types.{IsOfFriezeType}
 use Rattle.line_frames.specs.Lines.{times2}
-use Rattle.line_scans.specs.Lines.{InAllLines, InLineStabiliser, PlanePoint, moved2}
+use Rattle.line_scans.specs.Lines.{FixesEveryLine, InLineStabiliser, PlanePoint, moved2}
 
 -- the sign e for which (hk) W = e (hk), at a motion that keeps the orientation
 abbrev pub sign_of_lines : Pair → PlaneMotion → ℤ
@@ -52,7 +52,7 @@ InLineSectionAt g r a tau d c s = ActsFrom (InLineStabiliser g r s) a c (point_a
 
 -- the general section, taken at the height s: the motions that map every line to itself, seen from (s/d) c'
 abbrev pub InGeneralLineSection : Listing → Pair → Pair → ℤ → PlanePoint → Height → RationalLine → Type 0
-InGeneralLineSection g r a d c s = ActsFrom (InAllLines g r) a c (point_at2 d s c)
+InGeneralLineSection g r a d c s = ActsFrom (FixesEveryLine g r) a c (point_at2 d s c)
 
 -- the first change of the set onto one of the seven frieze types
 abbrev pub IsFirstFrieze : (RationalLine → Type 0) → Change → Type 0

@@ -48,13 +48,13 @@ pub record IsPlaneMember (g : Listing) (m : PlaneMotion) : Type 0 where
 abbrev pub InLineStabiliser : Listing → Pair → Height → PlaneMotion → Type 0
 InLineStabiliser g r s m = IsPlaneMember g m × KeepsLine r s m
 
--- All2: the members that map every line of the orientation to itself
-abbrev pub InAllLines : Listing → Pair → PlaneMotion → Type 0
-InAllLines g r m = IsPlaneMember g m × ((s : Height) → IsHeight s → KeepsLine r s m)
+-- the members that map every line of the orientation to itself
+abbrev pub FixesEveryLine : Listing → Pair → PlaneMotion → Type 0
+FixesEveryLine g r m = IsPlaneMember g m × ((s : Height) → IsHeight s → KeepsLine r s m)
 
 -- a height where some member maps the line to itself that does not map every line to itself
 abbrev pub IsSpecialLine : Listing → Pair → Height → Type 0
-IsSpecialLine g r s = (m : PlaneMotion) × InLineStabiliser g r s m × ¬ (InAllLines g r m)
+IsSpecialLine g r s = (m : PlaneMotion) × InLineStabiliser g r s m × ¬ (FixesEveryLine g r m)
 
 -- a motion that keeps the orientation: (hk) W = (hk) or (hk) W = -(hk)
 abbrev pub KeepsLines : Pair → PlaneMotion → Type 0

@@ -3,13 +3,13 @@ ghost use Rattle.std.specs.Prelude.{◌↔◌};
 ghost use Rattle.symmetry.specs.Vectors.{Vector};
 ghost use Rattle.symmetry.specs.Motions.{Point};
 ghost use Rattle.symmetry.specs.Planes.{Height, IsOn, KeepsPlane};
-ghost use Rattle.symmetry.specs.Groups.{InAll, InStabiliser, IsMember, Listing};
+ghost use Rattle.symmetry.specs.Groups.{FixesEveryPlane, InStabiliser, IsMember, Listing};
 ghost use Rattle.symmetry.specs.Frames.{IsSpecial};
 ghost use Rattle.motions.specs.PlaneMatrices.{Pair};
 ghost use Rattle.plane_motions.specs.PlaneMotions.{PlaneMotion, plane_block};
 ghost use Rattle.line_frames.specs.Lines.{first_two, in_space};
 ghost use Rattle.plane_groups.specs.PlaneGroups.{IsFlatGroup};
-ghost use Rattle.line_scans.specs.Lines.{InAllLines, InLineStabiliser, IsOnLine, IsPlaneMember, IsSpecialLine, KeepsLine};
+ghost use Rattle.line_scans.specs.Lines.{FixesEveryLine, InLineStabiliser, IsOnLine, IsPlaneMember, IsSpecialLine, KeepsLine};
 
 /// The point (X,Y,Z) over n lies on the plane (h k 0) of a height exactly where (X,Y) over n lies on the line of it. A motion
 /// of the plane maps the line to itself exactly where it maps that plane to itself as a motion of space.
@@ -26,7 +26,7 @@ pub fn line_stabilisers_as_plane_stabilisers()
     ensures each { (g : Listing) (r : Pair) (s : Height) (m : PlaneMotion) → IsFlatGroup g →
         InStabiliser g (in_space r) s (plane_block m) ↔ InLineStabiliser g r s m }
     ensures every { (g : Listing) (r : Pair) (m : PlaneMotion) → IsFlatGroup g →
-        InAll g (in_space r) (plane_block m) ↔ InAllLines g r m }
+        FixesEveryPlane g (in_space r) (plane_block m) ↔ FixesEveryLine g r m }
     ensures special { (g : Listing) (r : Pair) (s : Height) → IsFlatGroup g →
         IsSpecial g (in_space r) s ↔ IsSpecialLine g r s }
 {}

@@ -3,7 +3,7 @@ ghost use Rattle.std.specs.Prelude.{◌≡◌, pos, All, IfOk, unsigned_abs};
 ghost use Rattle.motions.specs.ListedSizes.{IsSmallWithin};
 ghost use Rattle.motions.specs.Views.{motion_of};
 ghost use Rattle.closure.specs.Groups.{group_listing};
-ghost use Rattle.closure.specs.declared.limits.TheConstants.{MAX_ENTRY};
+ghost use Rattle.closure.specs.declared.group.TheConstants.{MAX_ENTRY};
 ghost use Rattle.plane_motions.specs.PlaneMotions.{IsFlat};
 ghost use Rattle.plane_groups.specs.PlaneGroups.{IsFlatGroup};
 

@@ -13,9 +13,9 @@ use Rattle.symmetry.specs.Planes.{IsCoprime}
 use Rattle.symmetry.specs.Sizes.{IsVectorWithin}
 use Rattle.symmetry.proofs.Coprime.{not_opposite}
 use Rattle.symmetry.proofs.VectorLaws.{vector_path, opposite-origin}
-use Rattle.motions.specs.declared.index.TheConstants.{INDEX}
-use Rattle.motions.specs.declared.plane_fault.PlaneFault.{PlaneFault}
-use Rattle.motions.specs.declared.plane_fault.PlaneFault.TheVariants.{OutOfRange, AllZero, NotCoprime}
+use Rattle.motions.specs.declared.miller.TheConstants.{INDEX}
+use Rattle.motions.specs.declared.miller.PlaneFault.{PlaneFault}
+use Rattle.motions.specs.declared.miller.PlaneFault.TheVariants.{OutOfRange, AllZero, NotCoprime}
 use Rattle.motions.specs.Divisors.{IsGreatestDivisor}
 use Rattle.motions.specs.PlaneFaults.{IsPlaneFault}
 

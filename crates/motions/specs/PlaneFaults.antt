@@ -2,9 +2,9 @@
 use Rattle.std.specs.Prelude.{◌≡◌, pos, ◌<ℤ◌, unsigned_abs}
 use Rattle.symmetry.specs.Vectors.{Vector, origin}
 use Rattle.symmetry.specs.Sizes.{IsVectorWithin}
-use Rattle.motions.specs.declared.index.TheConstants.{INDEX}
-use Rattle.motions.specs.declared.plane_fault.PlaneFault.{PlaneFault}
-use Rattle.motions.specs.declared.plane_fault.PlaneFault.TheVariants.{OutOfRange, AllZero, NotCoprime}
+use Rattle.motions.specs.declared.miller.TheConstants.{INDEX}
+use Rattle.motions.specs.declared.miller.PlaneFault.{PlaneFault}
+use Rattle.motions.specs.declared.miller.PlaneFault.TheVariants.{OutOfRange, AllZero, NotCoprime}
 use Rattle.motions.specs.Divisors.{IsGreatestDivisor}
 
 -- one passes INDEX in size; all are 0; all are in range, and their greatest common divisor g is above 1

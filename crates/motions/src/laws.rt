@@ -3,7 +3,7 @@ ghost use Rattle.std.specs.Prelude.{◌≡◌};
 ghost use Rattle.symmetry.specs.Motions.{followed_by};
 ghost use Rattle.motions.specs.FriezeMotions.{FriezeOperation, frieze_block, frieze_followed_by};
 ghost use Rattle.motions.specs.RodMotions.{RodOperation, rod_block, rod_followed_by};
-ghost use Rattle.motions.specs.declared.limits.TheConstants.{MAX_COEFFICIENT, MOST_ENTRY};
+ghost use Rattle.motions.specs.declared.basis.TheConstants.{MAX_COEFFICIENT, MOST_ENTRY};
 
 /// The product of two rod motions is, in space, the product of what they are in space.
 pub fn product_of_rods()

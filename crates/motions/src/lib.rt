@@ -10,18 +10,14 @@
 
 mod basis;
 mod equality;
-mod frame_fault;
 mod frieze;
-mod index;
 mod inverses;
 mod laws;
 mod layer;
-mod limits;
 mod line;
 mod listed;
 mod miller;
 mod motion;
-mod plane_fault;
 mod plane_matrices;
 mod products;
 mod rod;
@@ -30,16 +26,12 @@ mod space;
 #[cfg(test)]
 mod tests;
 
-pub use basis::Basis;
-pub use frame_fault::FrameFault;
+pub use basis::{Basis, FrameFault, MAX_COEFFICIENT, MOST_ENTRY};
 pub use frieze::FriezeMotion;
-pub use index::INDEX;
 pub use laws::{limits_in_numbers, product_of_friezes, product_of_rods};
 pub use layer::{LayerMotion, product_of_block_forms};
-pub use limits::{MAX_COEFFICIENT, MOST_ENTRY};
 pub use listed::Listed;
-pub use miller::Miller;
+pub use miller::{INDEX, Miller, PlaneFault};
 pub use motion::{Motion3, Sign};
-pub use plane_fault::PlaneFault;
 pub use rod::RodMotion;
 pub use rows::{row_image, shift, side};

@@ -1,13 +1,25 @@
 // The Miller indices of an orientation of planes.
 ghost use Rattle.std.specs.Prelude.{◌≡◌, ◌↔◌, pos, ◌≤ℤ◌, IfOk, IsTrue, unsigned_abs};
 ghost use Rattle.motions.specs.Divisors.{IsGreatestDivisor};
-ghost use Rattle.motions.specs.declared.index.TheConstants.{INDEX};
+ghost use Rattle.motions.specs.declared.miller.TheConstants.{INDEX};
 ghost use Rattle.symmetry.specs.Planes.{IsCoprime};
 ghost use Rattle.symmetry.specs.Sizes.{IsVectorWithin};
 
-use crate::index::INDEX;
-use crate::plane_fault::PlaneFault;
 use fractions::greatest_common_divisor;
+
+/// How large a Miller index may be.
+pub const INDEX: i64 = 255;
+
+/// Why three numbers are no Miller indices.
+#[derive(Clone, Copy, PartialEq, Eq, Debug)]
+pub enum PlaneFault {
+    /// One passes [`INDEX`](crate::INDEX) in size.
+    OutOfRange,
+    /// All are 0.
+    AllZero,
+    /// Their greatest common divisor, which is above 1.
+    NotCoprime(i64),
+}
 
 /// The Miller indices (hkl) of an orientation: coprime, and each from -[`INDEX`](crate::INDEX) to it.
 #[derive(Clone, Copy, PartialEq, Eq, Debug)]
@@ -23,7 +35,7 @@ impl Miller {
     ghost use Rattle.motions.specs.Bounds.{largest_cofactor};
     ghost use Rattle.motions.specs.PlaneFaults.{IsPlaneFault};
     ghost use Rattle.motions.specs.Views.{row_of, vector_of};
-    ghost use Rattle.motions.specs.declared.plane_fault.PlaneFault.{PlaneFault};
+    ghost use Rattle.motions.specs.declared.miller.PlaneFault.{PlaneFault};
 
     /// The orientation (hkl).
     ///

@@ -1,8 +1,7 @@
 // Worked cases, by hand.
 use crate::layer::LayerMotion;
-use crate::miller::Miller;
+use crate::miller::{Miller, PlaneFault};
 use crate::motion::{Motion3, Sign};
-use crate::plane_fault::PlaneFault;
 use crate::rows::{shift, side};
 use fractions::{Part, UNIT};
 use quotient::Motion;

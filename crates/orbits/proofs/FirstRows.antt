@@ -14,7 +14,7 @@ use Rattle.symmetry.specs.Listings.{AreAlike}
 use Rattle.symmetry.specs.Sizes.{IsVectorWithin}
 use Rattle.symmetry.proofs.LatticeLaws.{listed_member}
 use Rattle.orbits.specs.Orientations.{AreOrientations, IsWide}
-use Rattle.orbits.specs.declared.limits.TheConstants.{WIDE}
+use Rattle.orbits.specs.declared.rows.TheConstants.{WIDE}
 
 module _ {A B : Type 0} (f : A → B) (Same : A → A → Type 0) (respects : (x y : A) → Same x y → f x ≡ f y) where
   abbrev Has : List A → B → Type 0

@@ -20,7 +20,7 @@ use Rattle.motions.specs.ListedSizes.{IsSmallWithin}
 use Rattle.motions.specs.Laws.MotionLaws.{same_vector-is}
 use Rattle.motions.specs.Views.{motion_of, vector_of}
 use Rattle.motions.specs.declared.motion.Motion3.{Motion3}
-use Rattle.orbits.specs.declared.limits.TheConstants.{WIDE}
+use Rattle.orbits.specs.declared.rows.TheConstants.{WIDE}
 use Rattle.orbits.specs.Orientations.{row_images, IsWide}
 
 -- the rows of motions, each once, none too wide

@@ -5,7 +5,7 @@ use Rattle.symmetry.specs.Vectors.{Vector, row_times}
 use Rattle.symmetry.specs.Motions.{Motion}
 use Rattle.symmetry.specs.Groups.{Listing}
 use Rattle.symmetry.specs.Sizes.{IsVectorWithin}
-use Rattle.orbits.specs.declared.limits.TheConstants.{WIDE}
+use Rattle.orbits.specs.declared.rows.TheConstants.{WIDE}
 use Rattle.orbits.specs.declared.orbit_fault.OrbitFault.{OrbitFault}
 use Rattle.orbits.specs.declared.orbit_fault.OrbitFault.TheVariants.{Wide, NoMemory}
 

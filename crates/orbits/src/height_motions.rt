@@ -5,7 +5,7 @@ ghost use Rattle.symmetry.specs.HeightMotions.{AreHeightMotions};
 ghost use Rattle.symmetry.specs.Sizes.{IsSmall};
 ghost use Rattle.motions.specs.Views.{motion_of, row_of};
 ghost use Rattle.closure.specs.Groups.{group_listing};
-ghost use Rattle.closure.specs.declared.limits.TheConstants.{MAX_OPERATIONS};
+ghost use Rattle.closure.specs.declared.group.TheConstants.{MAX_OPERATIONS};
 ghost use Rattle.orbits.specs.HeightMotionView.{height_motion_of, IsChosen};
 
 use crate::height_motion::HeightMotion;

@@ -6,7 +6,6 @@
 
 mod height_motion;
 mod height_motions;
-mod limits;
 mod numbers;
 mod orbit_fault;
 mod orbits;
@@ -14,7 +13,6 @@ mod rows;
 #[cfg(test)]
 mod tests;
 
-pub use limits::WIDE;
 pub use orbit_fault::OrbitFault;
 pub use orbits::{NoMemory, Orbits, height_orbits};
-pub use rows::{orientations, orientations_of_first_operations};
+pub use rows::{WIDE, orientations, orientations_of_first_operations};

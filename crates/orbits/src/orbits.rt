@@ -1,13 +1,12 @@
 // The orbits of the special heights, and the planes in the orbit of a general one.
 ghost use Rattle.std.specs.Prelude.{IfOk};
-ghost use Rattle.symmetry.specs.Frames.{IsFrame};
 ghost use Rattle.symmetry.specs.Groups.{Listing};
 ghost use Rattle.symmetry.specs.Orbits.{AreOrbitNumbers, IsPlaneCount};
 ghost use Rattle.symmetry.specs.Vectors.{dot};
 ghost use Rattle.motions.specs.Views.{parts, row_of};
 ghost use Rattle.closure.specs.Groups.{group_listing, IsGroupOf};
-ghost use Rattle.plane_lattice.specs.FrameView.{basis_of_frame};
 ghost use Rattle.scanning.specs.HeightView.{heights_of_specials};
+ghost use Rattle.plane_lattice.specs.FrameOf.{HasFrame};
 
 use crate::height_motions::height_motions;
 use crate::numbers::orbit_numbers;
@@ -33,7 +32,7 @@ pub struct Orbits {
 ///
 /// The scan's frame is one of the group.
 pub fn height_orbits(alloc: Global, scan: &Scan, group: &Group) -> Result<Orbits, NoMemory>
-    requires { IsFrame (group_listing group.now) (row_of scan.now.frame.plane) (basis_of_frame scan.now.frame) }
+    requires { HasFrame (group_listing group.now) scan.now.frame }
     ensures numbers { (g : Listing) → IsGroupOf g group.now → IfOk result (λ orbits.
         AreOrbitNumbers g (row_of scan.now.frame.plane) (heights_of_specials scan.now.special.items) orbits.of.items) }
     ensures planes { let r = row_of scan.now.frame.plane in

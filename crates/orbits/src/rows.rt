@@ -7,13 +7,15 @@ ghost use Rattle.symmetry.specs.Vectors.{Vector};
 ghost use Rattle.motions.specs.Views.{row_of, vector_of};
 ghost use Rattle.closure.specs.Groups.{IsGroupOf};
 ghost use Rattle.orbits.specs.Orientations.{AreOrientations, IsOrbitFault, IsWide};
-ghost use Rattle.orbits.specs.declared.limits.TheConstants.{WIDE};
+ghost use Rattle.orbits.specs.declared.rows.TheConstants.{WIDE};
 
-use crate::limits::WIDE;
 use crate::orbit_fault::OrbitFault;
 use closure::Group;
 use motions::{Miller, row_image};
 use std::alloc::Global;
+
+/// How large an index of an orientation that is the same to the crystal may be.
+pub const WIDE: i64 = 500;
 
 /// The orientations that are the same to the crystal as (hkl): the rows `(hkl) W` of the operations in order, each
 /// triple at its first appearance. They are those of each listing of the group.

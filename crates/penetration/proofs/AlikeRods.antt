@@ -9,8 +9,8 @@ use Rattle.symmetry.specs.Lists.{motion_at}
 use Rattle.symmetry.specs.Listings.{AreAlike}
 use Rattle.symmetry.proofs.Alike.{alike_sym, before_from, member_from, member_to, same_from, same_to}
 use Rattle.symmetry.proofs.LatticeLaws.{listed_member}
-use Rattle.motions.specs.declared.frame_fault.FrameFault.{FrameFault}
-use Rattle.motions.specs.declared.frame_fault.FrameFault.TheVariants.{NotFrame, Skewed}
+use Rattle.motions.specs.declared.basis.FrameFault.{FrameFault}
+use Rattle.motions.specs.declared.basis.FrameFault.TheVariants.{NotFrame, Skewed}
 use Rattle.recognition.specs.declared.found_rod.FoundRod.{FoundRod}
 use Rattle.recognition.specs.RationalRods.{RationalRod}
 use Rattle.recognition.specs.RodOrder.{Change, IsFirst}

@@ -9,7 +9,7 @@ use Rattle.integers.proofs.Ring.{IsWithin-add, IsWithin-mul, IsWithin-more, IsWi
 use Rattle.symmetry.specs.Vectors.{Vector, plus, multiple, dot, cross}
 use Rattle.symmetry.specs.Frames.{Basis}
 use Rattle.symmetry.specs.Sizes.{IsVectorWithin}
-use Rattle.closure.specs.declared.limits.TheConstants.{MAX_RESIDUES}
+use Rattle.closure.specs.declared.lattice.TheConstants.{MAX_RESIDUES}
 use Rattle.plane_lattice.specs.Bounds.{largest_entry, largest_cross}
 use Rattle.plane_lattice.specs.Coordinates.{volume}
 use Rattle.plane_lattice.specs.Laws.QuotientLaws.{div_euclid_from, div_euclid_below}

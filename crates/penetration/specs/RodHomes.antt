@@ -4,7 +4,7 @@ use Rattle.std.specs.Int.{int_div_euclid}
 use Rattle.motions.specs.declared.motion.Motion3.{Motion3}
 use Rattle.motions.specs.ListedSizes.{IsSmallWithin}
 use Rattle.motions.specs.Views.{parts}
-use Rattle.closure.specs.declared.limits.TheConstants.{MAX_ENTRY}
+use Rattle.closure.specs.declared.group.TheConstants.{MAX_ENTRY}
 use Rattle.symmetry.specs.Vectors.{Vector, minus, multiple, unit_matrix}
 use Rattle.symmetry.specs.Motions.{Motion}
 use Rattle.symmetry.specs.Frames.{Basis, combination}

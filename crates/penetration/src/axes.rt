@@ -2,7 +2,7 @@
 ghost use Rattle.std.specs.Prelude.{◌≡◌, ◌↔◌, ◌*◌, ◌≤◌, ◌*ℤ◌, pos, IsTrue, unsigned_abs};
 ghost use Rattle.fractions.specs.declared.part.TheConstants.{UNIT};
 ghost use Rattle.integers.specs.Size.{IsWithin};
-ghost use Rattle.motions.specs.declared.index.TheConstants.{INDEX};
+ghost use Rattle.motions.specs.declared.miller.TheConstants.{INDEX};
 ghost use Rattle.symmetry.specs.Sizes.{IsVectorWithin};
 ghost use Rattle.symmetry.specs.Vectors.{multiple};
 ghost use Rattle.motions.specs.BasisView.{basis_of};

@@ -3,7 +3,7 @@ ghost use Rattle.std.specs.Prelude.{◌≡◌, ◌*◌, ◌*ℤ◌, ◌≤ℤ◌
 ghost use Rattle.fractions.specs.declared.part.TheConstants.{UNIT};
 ghost use Rattle.symmetry.specs.Sizes.{IsVectorWithin};
 ghost use Rattle.motions.specs.Views.{parts};
-ghost use Rattle.closure.specs.declared.limits.TheConstants.{MAX_RESIDUES};
+ghost use Rattle.closure.specs.declared.lattice.TheConstants.{MAX_RESIDUES};
 ghost use Rattle.plane_lattice.specs.Coordinates.{HoldsEdges, vectors, volume};
 ghost use Rattle.penetration.specs.RodOperations.{IsAcrossWithin};
 
@@ -52,7 +52,7 @@ pub struct RodFrame {
 
 impl RodFrame {
     ghost use Rattle.std.specs.Prelude.{◌↔◌, IfOk};
-    ghost use Rattle.motions.specs.declared.frame_fault.FrameFault.{FrameFault};
+    ghost use Rattle.motions.specs.declared.basis.FrameFault.{FrameFault};
     ghost use Rattle.motions.specs.BasisView.{basis_of};
     ghost use Rattle.closure.specs.Groups.{group_listing};
     ghost use Rattle.penetration.specs.DirectionView.{direction_of};

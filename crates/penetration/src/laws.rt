@@ -5,7 +5,7 @@ ghost use Rattle.symmetry.specs.Motions.{Motion, Point};
 ghost use Rattle.symmetry.specs.Groups.{Listing};
 ghost use Rattle.symmetry.specs.Frames.{Basis};
 ghost use Rattle.symmetry.specs.Listings.{AreAlike};
-ghost use Rattle.motions.specs.declared.frame_fault.FrameFault.{FrameFault};
+ghost use Rattle.motions.specs.declared.basis.FrameFault.{FrameFault};
 ghost use Rattle.recognition.specs.declared.found_rod.FoundRod.{FoundRod};
 ghost use Rattle.penetration.specs.FrameOf.{IsRodFrameFault};
 ghost use Rattle.penetration.specs.RodFrames.{AreRodOperations, IsRodFrame, IsRodSkewed};

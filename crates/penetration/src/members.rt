@@ -6,7 +6,7 @@ ghost use Rattle.symmetry.specs.Lists.{AreChosen, IsChoice, IsListOf};
 ghost use Rattle.symmetry.specs.Sizes.{IsVectorWithin};
 ghost use Rattle.motions.specs.ListedSizes.{IsSmallWithin};
 ghost use Rattle.motions.specs.Views.{motion_of, parts};
-ghost use Rattle.closure.specs.declared.limits.TheConstants.{MAX_ENTRY};
+ghost use Rattle.closure.specs.declared.group.TheConstants.{MAX_ENTRY};
 ghost use Rattle.closure.specs.Groups.{group_listing};
 ghost use Rattle.plane_lattice.specs.Bounds.{largest_entry};
 ghost use Rattle.penetration.specs.DirectionView.{direction_of};

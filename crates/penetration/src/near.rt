@@ -9,7 +9,7 @@ ghost use Rattle.symmetry.specs.Sizes.{IsSmall, IsVectorWithin};
 ghost use Rattle.motions.specs.ListedSizes.{IsSmallWithin};
 ghost use Rattle.motions.specs.BasisView.{basis_of};
 ghost use Rattle.motions.specs.Views.{motion_of, parts, vector_of};
-ghost use Rattle.closure.specs.declared.limits.TheConstants.{MAX_ENTRY};
+ghost use Rattle.closure.specs.declared.group.TheConstants.{MAX_ENTRY};
 ghost use Rattle.plane_lattice.specs.Bounds.{largest_entry, largest_scaled, largest_turned};
 ghost use Rattle.plane_lattice.specs.Coordinates.{volume};
 ghost use Rattle.penetration.specs.DirectionView.{direction_of};

@@ -10,8 +10,8 @@ use Rattle.symmetry.proofs.AlikeScans.{scanning_from}
 use Rattle.motions.specs.BasisView.{basis_of}
 use Rattle.motions.specs.Views.{row_of}
 use Rattle.motions.specs.declared.basis.Basis.{Basis as BasisOfCode}
-use Rattle.motions.specs.declared.frame_fault.FrameFault.{FrameFault}
-use Rattle.motions.specs.declared.frame_fault.FrameFault.TheVariants.{NotFrame, Skewed}
+use Rattle.motions.specs.declared.basis.FrameFault.{FrameFault}
+use Rattle.motions.specs.declared.basis.FrameFault.TheVariants.{NotFrame, Skewed}
 use Rattle.motions.specs.declared.miller.Miller.{Miller}
 use Rattle.plane_lattice.specs.declared.frame.Frame.{Frame}
 use Rattle.plane_lattice.specs.FrameOf.{IsFrameFault, IsFrameOf}

@@ -11,7 +11,7 @@ use Rattle.symmetry.specs.Frames.{Basis, combination, IsAtHome}
 use Rattle.symmetry.specs.Sizes.{IsVectorWithin}
 use Rattle.symmetry.proofs.VectorLaws.{vector_path, dot-plus, dot-multiple}
 use Rattle.symmetry.proofs.FrameLaws.{cramer, combination-minus, combination-multiple}
-use Rattle.motions.specs.declared.index.TheConstants.{INDEX}
+use Rattle.motions.specs.declared.miller.TheConstants.{INDEX}
 use Rattle.plane_lattice.specs.Bounds.{largest_entry, largest_level, largest_home}
 use Rattle.plane_lattice.specs.Coordinates.{volume, scaled, IsPlaneCombination}
 use Rattle.plane_lattice.specs.PlaneLattice.{whole_part, home_shift, home_motion}

@@ -10,7 +10,7 @@ use Rattle.integers.proofs.Solver.{Expr.{var, num, ◌⊗◌}, linear, ring, giv
 use Rattle.symmetry.specs.Vectors.{Vector, dot, image, multiple}
 use Rattle.symmetry.specs.Motions.{IsPoint, Motion, Point, identity, moved}
 use Rattle.symmetry.specs.Planes.{Height, IsCoprime, IsHeight, IsOn, KeepsPlane}
-use Rattle.symmetry.specs.Groups.{InAll, InStabiliser, IsGroup, Listing}
+use Rattle.symmetry.specs.Groups.{FixesEveryPlane, InStabiliser, IsGroup, Listing}
 use Rattle.symmetry.specs.Frames.{Basis, IsFrame, KeepsOrientation, mean_of, sign_at, total_up}
 use Rattle.symmetry.specs.Lists.{AreScanning, ListsInPlane, motion_at}
 use Rattle.symmetry.proofs.MatrixLaws.{row_times-dot, row_times-unit}
@@ -66,9 +66,9 @@ mean_over g r tau ms group scanning =
 module _ (g : Listing) (r : Vector) (f : Basis) (ms : List Motion) (group : IsGroup g) (coprime : IsCoprime r) (frame : IsFrame g r f)
     (scanning : AreScanning g r ms) where
   -- what maps every plane to itself leaves c' as it is
-  pub all_keep_mean : (m : Motion) → InAll g r m → image m.matrix (mean_of r f.tau ms).at ≡ (mean_of r f.tau ms).at
-  all_keep_mean m in_all =
-      let (member, (row, flat)) = (all_by_row g r m group coprime).0 in_all in
+  pub all_keep_mean : (m : Motion) → FixesEveryPlane g r m → image m.matrix (mean_of r f.tau ms).at ≡ (mean_of r f.tau ms).at
+  all_keep_mean m fixes =
+      let (member, (row, flat)) = (all_by_row g r m group coprime).0 fixes in
       mean_is_kept g r ms group coprime scanning f.tau m member (inl row)
       ∙ ap (λ e. multiple e (mean_of r f.tau ms).at) (sign_is r m (pos 1) coprime (inl refl) (row ∙ sym (multiple-one r)))
       ∙ multiple-one (mean_of r f.tau ms).at
@@ -200,7 +200,7 @@ module _ (g : Listing) (r : Vector) (f : Basis) (ms : List Motion) (group : IsGr
   abbrev start : Point
   start = point_at (dot r f.tau) bottom (in_cell f.tau)
 
-  pub general_from_bottom : (s : Height) → IsHeight s → (op : RationalMotion) → InGeneralSection g r f c s op ↔ IsSeenFrom (InAll g r) f c start op
+  pub general_from_bottom : (s : Height) → IsHeight s → (op : RationalMotion) → InGeneralSection g r f c s op ↔ IsSeenFrom (FixesEveryPlane g r) f c start op
   general_from_bottom s high op = (
     λ x. record {
       motion = x.motion;
@@ -217,14 +217,14 @@ module _ (g : Listing) (r : Vector) (f : Basis) (ms : List Motion) (group : IsGr
     },
   )
 
-  pub all_by_list : (s : Height) → IsHeight s → (ops : List Motion) (section : List LayerMotion) → ListsInPlane g r (InAll g r) ops
+  pub all_by_list : (s : Height) → IsHeight s → (ops : List Motion) (section : List LayerMotion) → ListsInPlane g r (FixesEveryPlane g r) ops
       → AreSeenAs f c start ops section → (op : RationalMotion) → InGeneralSection g r f c s op ↔ InSection section op
   all_by_list s high ops section lists seen op =
       let there = general_from_bottom s high op in
-      let back = section_by_list g r f frame c start above_mean (over_at g r f frame c bottom bottom_high) (InAll g r) (differs_all g r) ops section lists seen op in
+      let back = section_by_list g r f frame c start above_mean (over_at g r f frame c bottom bottom_high) (FixesEveryPlane g r) (differs_all g r) ops section lists seen op in
       (λ x. back.0 (there.0 x), λ x. there.1 (back.1 x))
 
-  pub all_once : (ops : List Motion) (section : List LayerMotion) → ListsInPlane g r (InAll g r) ops → AreSeenAs f c start ops section
+  pub all_once : (ops : List Motion) (section : List LayerMotion) → ListsInPlane g r (FixesEveryPlane g r) ops → AreSeenAs f c start ops section
       → AllPairs (λ m n. ¬ DifferByWhole m n) section
   all_once ops section lists seen =
-      section_once g r f frame c start above_mean (over_at g r f frame c bottom bottom_high) (InAll g r) (differs_all g r) ops section lists seen
+      section_once g r f frame c start above_mean (over_at g r f frame c bottom bottom_high) (FixesEveryPlane g r) (differs_all g r) ops section lists seen

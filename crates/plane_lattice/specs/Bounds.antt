@@ -1,7 +1,7 @@
 -- How large the numbers become that coordinates in a basis are made of.
 use Rattle.std.specs.Prelude.{ℕ, ◌+◌, ◌*◌, ◌^◌, unsigned_abs}
 use Rattle.fractions.specs.declared.part.TheConstants.{UNIT}
-use Rattle.motions.specs.declared.index.TheConstants.{INDEX}
+use Rattle.motions.specs.declared.miller.TheConstants.{INDEX}
 
 -- an entry of a vector of a basis
 abbrev pub largest_entry : ℕ

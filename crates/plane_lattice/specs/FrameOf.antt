@@ -8,12 +8,13 @@ use Rattle.symmetry.specs.Lists.{AreScanning}
 use Rattle.motions.specs.BasisView.{basis_of}
 use Rattle.motions.specs.Views.{parts, row_of}
 use Rattle.motions.specs.declared.basis.Basis.{Basis}
-use Rattle.motions.specs.declared.frame_fault.FrameFault.{FrameFault}
-use Rattle.motions.specs.declared.frame_fault.FrameFault.TheVariants.{NotFrame, Skewed}
+use Rattle.motions.specs.declared.basis.FrameFault.{FrameFault}
+use Rattle.motions.specs.declared.basis.FrameFault.TheVariants.{NotFrame, Skewed}
 use Rattle.motions.specs.declared.miller.Miller.{Miller}
 use Rattle.closure.specs.declared.group.Group.{Group}
 use Rattle.closure.specs.Groups.{group_listing}
 use Rattle.plane_lattice.specs.declared.frame.Frame.{Frame}
+use Rattle.plane_lattice.specs.FrameView.{basis_of_frame}
 use Rattle.plane_lattice.specs.Scanning.{IsPointOf}
 
 -- the frame of what is listed and the plane with these vectors: it is a frame that is not skewed, with the period and the
@@ -29,6 +30,10 @@ pub record IsFrameOf (g : Listing) (orientation : Miller) (basis : Basis) (frame
   pub scanning : List Motion
   pub are_scanning : AreScanning g (row_of orientation) scanning
   pub mean : IsPointOf (mean_of (row_of orientation) (parts basis.tau) scanning) frame.c
+
+-- the frame is one of what is listed and its plane
+abbrev pub HasFrame : Listing → Frame → Type 0
+HasFrame g frame = IsFrame g (row_of frame.plane) (basis_of_frame frame)
 
 -- the vectors are no frame; they are one that is skewed
 abbrev pub IsFrameFault : Listing → Vector → ThreeVectors → FrameFault → Type 0

@@ -20,7 +20,7 @@ use motions::{Basis, FrameFault, Miller};
 impl Frame {
     ghost use Rattle.std.specs.Prelude.{◌≡◌, ◌↔◌, IfOk};
     ghost use Rattle.symmetry.specs.Groups.{Listing};
-    ghost use Rattle.motions.specs.declared.frame_fault.FrameFault.{FrameFault};
+    ghost use Rattle.motions.specs.declared.basis.FrameFault.{FrameFault};
     ghost use Rattle.closure.specs.Groups.{IsGroupOf};
     ghost use Rattle.plane_lattice.specs.FrameOf.{IsFrameFault, IsFrameOf};
 

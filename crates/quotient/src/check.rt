@@ -1,8 +1,9 @@
 // The test that a list of motions is a group modulo shifts.
 ghost use Rattle.std.specs.Prelude.{◌≡◌, ◌↔◌, ◌^◌, pos, All, Contains, IfSome, IsOk, IsTrue, MatchOption, map, unsigned_abs};
 ghost use Rattle.quotient.specs.Groups.{AllHaveInverse, AllKeep, AreInverse, HasInverse, IsClosed, IsFault, IsFirstOpen, IsFirstWithout, IsGroup};
-ghost use Rattle.quotient.specs.Kind.{Keeps, kind_of};
+ghost use Rattle.quotient.specs.Kind.{Keeps};
 ghost use Rattle.quotient.specs.Lists.{AreHomes, IsListed};
+ghost use Rattle.quotient.specs.Modulo.{modulo};
 
 use crate::lists::find;
 use crate::traits::{Motion, Quotient};
@@ -27,9 +28,9 @@ pub fn check_group<Q: Quotient>(q: &Q, list: &[Q::M]) -> Result<(), GroupFault>
     requires reach { Q.REACH ≡ pos (2 ^ 52) }
     requires small { All Q.M.IsSmall (map Q.M.meaning list.now) }
     ensures accepted { IsOk result
-        ↔ IsGroup (kind_of Q.M.meaning Q.M.product Q.M.one (Q.IsShift q.now)) (map Q.M.meaning list.now) }
+        ↔ IsGroup (modulo Q.M.Motion.own (Q.IsShift q.now)) (map Q.M.meaning list.now) }
     ensures refused { (fault : GroupFault) → (result ≡ Err fault)
-        ↔ IsFault (kind_of Q.M.meaning Q.M.product Q.M.one (Q.IsShift q.now)) (map Q.M.meaning list.now) fault }
+        ↔ IsFault (modulo Q.M.Motion.own (Q.IsShift q.now)) (map Q.M.meaning list.now) fault }
 {
     check_listed(q, list, known_homes(q, list))
 }
@@ -44,9 +45,9 @@ pub fn check_group_by_homes<Q: Quotient>(
     requires small { All Q.M.IsSmall (map Q.M.meaning list.now) }
     requires homes { AreHomes Q.M.meaning (Q.home_of q.now) list.now homes.now }
     ensures accepted { IsOk result
-        ↔ IsGroup (kind_of Q.M.meaning Q.M.product Q.M.one (Q.IsShift q.now)) (map Q.M.meaning list.now) }
+        ↔ IsGroup (modulo Q.M.Motion.own (Q.IsShift q.now)) (map Q.M.meaning list.now) }
     ensures refused { (fault : GroupFault) → (result ≡ Err fault)
-        ↔ IsFault (kind_of Q.M.meaning Q.M.product Q.M.one (Q.IsShift q.now)) (map Q.M.meaning list.now) fault }
+        ↔ IsFault (modulo Q.M.Motion.own (Q.IsShift q.now)) (map Q.M.meaning list.now) fault }
 {
     check_listed(q, list, Some(homes))
 }
@@ -71,9 +72,9 @@ fn check_listed<Q: Quotient>(q: &Q, list: &[Q::M], homes: Option<&[Q::M]>) -> Re
     requires small { All Q.M.IsSmall (map Q.M.meaning list.now) }
     requires homes { IfSome homes (λ known. AreHomes Q.M.meaning (Q.home_of q.now) list.now known.now) }
     ensures accepted { IsOk result
-        ↔ IsGroup (kind_of Q.M.meaning Q.M.product Q.M.one (Q.IsShift q.now)) (map Q.M.meaning list.now) }
+        ↔ IsGroup (modulo Q.M.Motion.own (Q.IsShift q.now)) (map Q.M.meaning list.now) }
     ensures refused { (fault : GroupFault) → (result ≡ Err fault)
-        ↔ IsFault (kind_of Q.M.meaning Q.M.product Q.M.one (Q.IsShift q.now)) (map Q.M.meaning list.now) fault }
+        ↔ IsFault (modulo Q.M.Motion.own (Q.IsShift q.now)) (map Q.M.meaning list.now) fault }
 {
     if find(q, list, &Q::M::identity()).is_none() {
         return Err(GroupFault::NoIdentity);
@@ -93,10 +94,10 @@ fn check_listed<Q: Quotient>(q: &Q, list: &[Q::M], homes: Option<&[Q::M]>) -> Re
 // The first position of a motion that does not carry shifts into shifts.
 fn first_moving_shifts<Q: Quotient>(q: &Q, list: &[Q::M]) -> Option<usize>
     requires { All Q.M.IsSmall (map Q.M.meaning list.now) }
-    ensures { MatchOption result
-        (AllKeep (kind_of Q.M.meaning Q.M.product Q.M.one (Q.IsShift q.now)) (map Q.M.meaning list.now))
-        (IsFirstWithout (kind_of Q.M.meaning Q.M.product Q.M.one (Q.IsShift q.now))
-        (Keeps (kind_of Q.M.meaning Q.M.product Q.M.one (Q.IsShift q.now))) (map Q.M.meaning list.now)) }
+    ensures { let K = modulo Q.M.Motion.own (Q.IsShift q.now) in
+        MatchOption result
+        (AllKeep K (map Q.M.meaning list.now))
+        (IsFirstWithout K (Keeps K) (map Q.M.meaning list.now)) }
 {
     for (i, m) in list.iter().enumerate() {
         if !q.keeps(m) {
@@ -115,9 +116,10 @@ fn first_open_pair<Q: Quotient>(
     requires reach { Q.REACH ≡ pos (2 ^ 52) }
     requires small { All Q.M.IsSmall (map Q.M.meaning list.now) }
     requires homes { IfSome homes (λ known. AreHomes Q.M.meaning (Q.home_of q.now) list.now known.now) }
-    ensures { MatchOption result
-        (IsClosed (kind_of Q.M.meaning Q.M.product Q.M.one (Q.IsShift q.now)) (map Q.M.meaning list.now))
-        (λ pair. IsFirstOpen (kind_of Q.M.meaning Q.M.product Q.M.one (Q.IsShift q.now)) (map Q.M.meaning list.now) pair.0 pair.1) }
+    ensures { let K = modulo Q.M.Motion.own (Q.IsShift q.now) in
+        MatchOption result
+        (IsClosed K (map Q.M.meaning list.now))
+        (λ pair. IsFirstOpen K (map Q.M.meaning list.now) pair.0 pair.1) }
 {
     for (i, m) in list.iter().enumerate() {
         if let Some(j) = first_open_after(q, list, homes, m) {
@@ -138,11 +140,12 @@ fn first_open_after<Q: Quotient>(
     requires small { All Q.M.IsSmall (map Q.M.meaning list.now) }
     requires homes { IfSome homes (λ known. AreHomes Q.M.meaning (Q.home_of q.now) list.now known.now) }
     requires first { Q.M.IsSmall (Q.M.meaning m.now) }
-    ensures { MatchOption result
-        ((n : Q.M.Meaning) → Contains (map Q.M.meaning list.now) n
-        → IsListed (kind_of Q.M.meaning Q.M.product Q.M.one (Q.IsShift q.now)) (map Q.M.meaning list.now) (Q.M.product (Q.M.meaning m.now) n))
-        (IsFirstWithout (kind_of Q.M.meaning Q.M.product Q.M.one (Q.IsShift q.now))
-        (λ n. IsListed (kind_of Q.M.meaning Q.M.product Q.M.one (Q.IsShift q.now)) (map Q.M.meaning list.now) (Q.M.product (Q.M.meaning m.now) n))
+    ensures { let K = modulo Q.M.Motion.own (Q.IsShift q.now) in
+        MatchOption result
+        ((n : Q.M.Meaning) → Contains (map Q.M.meaning list.now) n →
+        IsListed K (map Q.M.meaning list.now) (Q.M.product (Q.M.meaning m.now) n))
+        (IsFirstWithout K
+        (λ n. IsListed K (map Q.M.meaning list.now) (Q.M.product (Q.M.meaning m.now) n))
         (map Q.M.meaning list.now)) }
 {
     for (j, n) in list.iter().enumerate() {
@@ -167,7 +170,7 @@ fn has_product<Q: Quotient>(
     requires first { Q.M.IsSmall (Q.M.meaning m.now) }
     requires second { Q.M.IsSmall (Q.M.meaning n.now) }
     ensures { IsTrue result
-        ↔ IsListed (kind_of Q.M.meaning Q.M.product Q.M.one (Q.IsShift q.now)) (map Q.M.meaning list.now)
+        ↔ IsListed (modulo Q.M.Motion.own (Q.IsShift q.now)) (map Q.M.meaning list.now)
         (Q.M.product (Q.M.meaning m.now) (Q.M.meaning n.now)) }
 {
     let product = m.then(n);
@@ -181,11 +184,10 @@ fn has_product<Q: Quotient>(
 fn first_without_inverse<Q: Quotient>(q: &Q, list: &[Q::M]) -> Option<usize>
     requires reach { Q.REACH ≡ pos (2 ^ 52) }
     requires small { All Q.M.IsSmall (map Q.M.meaning list.now) }
-    ensures { MatchOption result
-        (AllHaveInverse (kind_of Q.M.meaning Q.M.product Q.M.one (Q.IsShift q.now)) (map Q.M.meaning list.now))
-        (IsFirstWithout (kind_of Q.M.meaning Q.M.product Q.M.one (Q.IsShift q.now))
-        (HasInverse (kind_of Q.M.meaning Q.M.product Q.M.one (Q.IsShift q.now)) (map Q.M.meaning list.now))
-        (map Q.M.meaning list.now)) }
+    ensures { let K = modulo Q.M.Motion.own (Q.IsShift q.now) in
+        MatchOption result
+        (AllHaveInverse K (map Q.M.meaning list.now))
+        (IsFirstWithout K (HasInverse K (map Q.M.meaning list.now)) (map Q.M.meaning list.now)) }
 {
     for (i, m) in list.iter().enumerate() {
         if !has_inverse(q, list, m) {
@@ -201,7 +203,7 @@ fn has_inverse<Q: Quotient>(q: &Q, list: &[Q::M], m: &Q::M) -> bool
     requires small { All Q.M.IsSmall (map Q.M.meaning list.now) }
     requires motion { Q.M.IsSmall (Q.M.meaning m.now) }
     ensures { IsTrue result
-        ↔ HasInverse (kind_of Q.M.meaning Q.M.product Q.M.one (Q.IsShift q.now)) (map Q.M.meaning list.now) (Q.M.meaning m.now) }
+        ↔ HasInverse (modulo Q.M.Motion.own (Q.IsShift q.now)) (map Q.M.meaning list.now) (Q.M.meaning m.now) }
 {
     for n in list {
         if are_inverse(q, m, n) {
@@ -217,7 +219,7 @@ fn are_inverse<Q: Quotient>(q: &Q, m: &Q::M, n: &Q::M) -> bool
     requires first { Q.M.IsSmall (Q.M.meaning m.now) }
     requires second { Q.M.IsSmall (Q.M.meaning n.now) }
     ensures { IsTrue result
-        ↔ AreInverse (kind_of Q.M.meaning Q.M.product Q.M.one (Q.IsShift q.now)) (Q.M.meaning m.now) (Q.M.meaning n.now) }
+        ↔ AreInverse (modulo Q.M.Motion.own (Q.IsShift q.now)) (Q.M.meaning m.now) (Q.M.meaning n.now) }
 {
     q.is_shift(&m.then(n)) && q.is_shift(&n.then(m))
 }

@@ -1,6 +1,6 @@
 // The traits of motions and of shifts.
 ghost use Rattle.std.specs.Prelude.{◌≡◌, ℕ, ℤ, ◌^◌, ◌≤◌, ◌↔◌, IsTrue, MatchOption, unsigned_abs};
-ghost use Rattle.quotient.specs.Kind.{IsInverse, IsMonoid, kind_of, AreShiftsGroup, IsSame, Keeps};
+ghost use Rattle.quotient.specs.Kind.{IsInverse, IsMonoid, AreShiftsGroup, IsSame, Keeps};
 
 /// A motion, with numbers of bounded size. What it stands for has numbers of any size.
 pub trait Motion: Copy + PartialEq {
@@ -52,6 +52,8 @@ pub trait Motion: Copy + PartialEq {
 
 /// The shifts that motions are taken modulo: two motions are the same when one is the other followed by a shift.
 pub trait Quotient {
+    ghost use Rattle.quotient.specs.Modulo.{modulo};
+
     type M: Motion;
 
     /// How large the translations may be that `is_shift` and `home` are asked about.
@@ -76,19 +78,19 @@ pub trait Quotient {
     /// Whether the motion carries shifts into shifts.
     fn keeps(&self, m: &Self::M) -> bool
         requires { Self.M.IsSmall (Self.M.meaning m.now) }
-        ensures { IsTrue result ↔ Keeps (kind_of Self.M.meaning Self.M.product Self.M.one (IsShift self.now)) (Self.M.meaning m.now) };
+        ensures { IsTrue result ↔ Keeps (modulo Self.M.Motion.own (IsShift self.now)) (Self.M.meaning m.now) };
 
     // what a motion stands for decides whether it is a shift
     ghost by_meaning: { (q : Self) (a b : Self.M) → Self.M.meaning a ≡ Self.M.meaning b → IsShift q a → IsShift q b };
 
-    ghost shifts: { (q : Self) → AreShiftsGroup (kind_of Self.M.meaning Self.M.product Self.M.one (IsShift q)) };
+    ghost shifts: { (q : Self) → AreShiftsGroup (modulo Self.M.Motion.own (IsShift q)) };
 
     // home(m) is the same as m
     ghost home_is_same: { (q : Self) (m : Self.M) →
-        IsSame (kind_of Self.M.meaning Self.M.product Self.M.one (IsShift q)) (Self.M.meaning (home_of q m)) (Self.M.meaning m) };
+        IsSame (modulo Self.M.Motion.own (IsShift q)) (Self.M.meaning (home_of q m)) (Self.M.meaning m) };
 
     // m and n are the same exactly if home(m) = home(n)
     ghost homes: { (q : Self) (m n : Self.M) →
-        IsSame (kind_of Self.M.meaning Self.M.product Self.M.one (IsShift q)) (Self.M.meaning m) (Self.M.meaning n)
+        IsSame (modulo Self.M.Motion.own (IsShift q)) (Self.M.meaning m) (Self.M.meaning n)
         ↔ (Self.M.meaning (home_of q m) ≡ Self.M.meaning (home_of q n)) };
 }

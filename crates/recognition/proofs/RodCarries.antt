@@ -12,7 +12,7 @@ use Rattle.motions.specs.declared.motion.Sign.{Sign}
 use Rattle.motions.specs.Signs.{sign_value}
 use Rattle.motions.specs.PlaneMatrices.{Matrix2, product2, determinant2, adjugate2}
 use Rattle.motions.specs.RodMotions.{RodOperation, rod_of}
-use Rattle.recognition.specs.declared.rod_grid.TheConstants.{ROD_GRID}
+use Rattle.recognition.specs.declared.found_rod.TheConstants.{ROD_GRID}
 use Rattle.recognition.specs.RationalRods.{RationalRod, IsRationalRod, IsListedRod, IsWhole, fraction_minus, multiple2, part_of_axis, rational_rod}
 use Rattle.recognition.specs.RodChanges.{hand, rest_along, IsCarried, grid_part, Carries}
 use Rattle.recognition.specs.RodTests.{IsClose, IsPaired, Fits}

@@ -13,7 +13,7 @@ use Rattle.motions.specs.Signs.{sign_value}
 use Rattle.motions.specs.PlaneMatrices.{Matrix2}
 use Rattle.motions.specs.RodMotions.{RodOperation, rod_of, rod_identity}
 use Rattle.line_types.specs.Rods.{rod_entries}
-use Rattle.recognition.specs.declared.rod_grid.TheConstants.{ROD_GRID}
+use Rattle.recognition.specs.declared.found_rod.TheConstants.{ROD_GRID}
 use Rattle.recognition.specs.declared.rod_origins.TheConstants.{STEP}
 use Rattle.recognition.specs.RodChanges.{hand, Carries}
 use Rattle.recognition.specs.RodTests.{IsLike, IsClose, IsPaired, Fits}

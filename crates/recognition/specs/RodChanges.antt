@@ -4,7 +4,7 @@ use Rattle.fractions.specs.Fraction.{Fraction}
 use Rattle.motions.specs.declared.rod.RodMotion.{RodMotion}
 use Rattle.motions.specs.Signs.{sign_value}
 use Rattle.motions.specs.PlaneMatrices.{Matrix2, product2, determinant2}
-use Rattle.recognition.specs.declared.rod_grid.TheConstants.{ROD_GRID}
+use Rattle.recognition.specs.declared.found_rod.TheConstants.{ROD_GRID}
 use Rattle.recognition.specs.RationalRods.{RationalRod, IsRationalRod, IsListedRod, IsWhole, fraction_minus, multiple2}
 
 -- 1, or -1 below zero

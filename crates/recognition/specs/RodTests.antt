@@ -6,7 +6,7 @@ use Rattle.motions.specs.Rationals.{IsMultiple}
 use Rattle.motions.specs.Signs.{sign_value}
 use Rattle.motions.specs.PlaneMatrices.{Matrix2, product2, determinant2}
 use Rattle.motions.specs.RodMotions.{IsRodSmall, RodOperation, rod_of}
-use Rattle.recognition.specs.declared.rod_grid.TheConstants.{ROD_GRID}
+use Rattle.recognition.specs.declared.found_rod.TheConstants.{ROD_GRID}
 use Rattle.recognition.specs.RodChanges.{hand}
 
 -- one sign, and after the change one matrix: A P = P A'

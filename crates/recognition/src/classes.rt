@@ -5,7 +5,7 @@ ghost use Rattle.recognition.specs.Grid.{grid};
 ghost use Rattle.recognition.specs.Classes.{InClass, IsFirstSolution, IsNextStep, IsPeriod, Leaves, Solves};
 ghost use Rattle.motions.specs.Rationals.{IsMultiple};
 
-use crate::grid::GRID;
+use crate::found::GRID;
 use crate::listed::is_whole;
 
 /// The numbers y + k step of the grid.

@@ -4,6 +4,11 @@ ghost use Rattle.motions.specs.PlaneViews.{matrix2_of};
 ghost use Rattle.recognition.specs.Grid.{grid};
 ghost use Rattle.recognition.specs.Order.{IsBoundedMatrix, IsTypeNumber};
 
+use fractions::UNIT;
+
+/// Origins are counted in parts of which a cell edge has this many.
+pub const GRID: u32 = 12 * UNIT as u32;
+
 /// A change onto a layer type: the number of the type, the matrix, whose columns are the type's two plane vectors in
 /// the section's basis, and the origin (x, y), in parts of which a cell edge has [`GRID`](crate::GRID).
 #[derive(Clone, Copy, PartialEq, Eq, Debug)]

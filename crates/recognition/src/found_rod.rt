@@ -3,6 +3,9 @@ ghost use Rattle.std.specs.Prelude.{◌<◌, ◌≤◌};
 ghost use Rattle.motions.specs.PlaneSizes.{IsMatrix2Within};
 ghost use Rattle.motions.specs.PlaneViews.{matrix2_of};
 
+/// Origins along the axis of a rod are counted in parts of which the axis has this many.
+pub const ROD_GRID: i64 = 96;
+
 /// A change onto a rod type: the number of the type, the matrix, whose columns are the type's two vectors across the axis
 /// in the section's basis, and the origin z, in parts of which the axis has [`ROD_GRID`](crate::ROD_GRID).
 #[derive(Clone, Copy, Debug, PartialEq, Eq)]

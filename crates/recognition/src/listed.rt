@@ -11,7 +11,7 @@ ghost use Rattle.motions.specs.Rationals.{IsMultiple};
 ghost use Rattle.recognition.specs.Sections.{IsSmallMotion};
 ghost use Rattle.recognition.specs.Listed.{IsClose, IsLike, IsPaired, first_rest, second_rest};
 
-use crate::grid::GRID;
+use crate::found::GRID;
 use motions::LayerMotion;
 
 /// A row times the column of x and y.

@@ -15,7 +15,7 @@ use crate::agreement::agrees;
 use crate::change::carries;
 use crate::classes::Class;
 use crate::conditions::{MOST, conditions};
-use crate::grid::GRID;
+use crate::found::GRID;
 use crate::least::{is_in, least_y, possible_x};
 use crate::line::Condition;
 use crate::matrices::takes_lattice;

@@ -8,7 +8,7 @@ ghost use Rattle.recognition.specs.RodChanges.{Carries};
 ghost use Rattle.recognition.specs.RodTests.{IsLike, IsSmallRod};
 ghost use Rattle.recognition.specs.RodOrigins.{AreApart, IsLeastIn, IsLikeliest, IsNotIn, IsOriginOf};
 
-use crate::rod_grid::ROD_GRID;
+use crate::found_rod::ROD_GRID;
 use crate::rod_matrices::hand;
 use crate::rod_pairs::{carries, is_like};
 use fractions::{Part, UNIT};

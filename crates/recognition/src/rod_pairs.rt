@@ -6,11 +6,11 @@ ghost use Rattle.motions.specs.Rationals.{IsMultiple};
 ghost use Rattle.motions.specs.RodMotions.{IsRodSmall, rod_of};
 ghost use Rattle.recognition.specs.RodChanges.{Carries};
 ghost use Rattle.recognition.specs.RodTests.{IsClose, IsLike, IsPaired, IsSmallRod};
-ghost use Rattle.recognition.specs.declared.rod_grid.TheConstants.{ROD_GRID};
+ghost use Rattle.recognition.specs.declared.found_rod.TheConstants.{ROD_GRID};
 ghost use Rattle.fractions.specs.declared.part.TheConstants.{UNIT};
 ghost use Rattle.integers.specs.Size.{IsWithin};
 
-use crate::rod_grid::ROD_GRID;
+use crate::found_rod::ROD_GRID;
 use crate::rod_matrices::{determinant, hand, is_product, product};
 use fractions::UNIT;
 use motions::RodMotion;

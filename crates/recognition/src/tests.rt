@@ -1,7 +1,7 @@
 // Worked sections: what the clauses are meant to say, and that the calls give an answer.
 ghost use Rattle.std.specs.Prelude.{◌≡◌, ◌<◌};
 
-use crate::grid::GRID;
+use crate::found::GRID;
 use crate::origins::first_origin;
 use crate::recognise::layer_type;
 use crate::steps::Steps;

@@ -12,8 +12,8 @@ use Rattle.motions.specs.declared.miller.Miller.{Miller}
 use Rattle.plane_lattice.specs.declared.frame.Frame.{Frame}
 use Rattle.plane_lattice.specs.FrameOf.{IsFrameOf}
 use Rattle.reduction.specs.Reduced.{IsReducedFrame}
-use Rattle.reduction.specs.declared.reduction_fault.ReductionFault.{ReductionFault}
-use Rattle.reduction.specs.declared.reduction_fault.ReductionFault.TheVariants.{OutOfRange, Skewed}
+use Rattle.reduction.specs.declared.reduced.ReductionFault.{ReductionFault}
+use Rattle.reduction.specs.declared.reduced.ReductionFault.TheVariants.{OutOfRange, Skewed}
 
 -- no entry is above 1000 cell edges in size
 pub record IsInRange (f : ThreeVectors) : Type 0 where

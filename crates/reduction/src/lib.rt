@@ -13,11 +13,9 @@ mod handedness;
 mod lattice_basis;
 mod leading;
 mod reduced;
-mod reduction_fault;
 mod sense;
 mod shorten;
 #[cfg(test)]
 mod tests;
 
-pub use reduced::reduced_frame;
-pub use reduction_fault::ReductionFault;
+pub use reduced::{ReductionFault, reduced_frame};

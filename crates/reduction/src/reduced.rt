@@ -14,13 +14,21 @@ use crate::adapted::adapted_basis;
 use crate::form::form_of;
 use crate::handedness::right_handed;
 use crate::lattice_basis::LatticeBasis;
-use crate::reduction_fault::ReductionFault;
 use crate::sense::with_forward_first;
 use crate::shorten::{with_short_pair, with_short_tau, with_shorter_first};
 use closure::Group;
 use fractions::{Part, UNIT};
 use motions::{Basis, FrameFault, MOST_ENTRY, Miller};
 use plane_lattice::Frame;
+
+/// Why a reduced frame is not taken.
+#[derive(Clone, Copy, PartialEq, Eq, Debug)]
+pub enum ReductionFault {
+    /// An entry is above 1000 cell edges in size.
+    OutOfRange,
+    /// A scanning operation, written in it, has a matrix entry above 500 in size.
+    Skewed,
+}
 
 /// A frame of the group and the orientation whose vectors are reduced.
 ///

@@ -4,7 +4,7 @@ use Rattle.integers.specs.Size.{IsWithin}
 use Rattle.integers.proofs.Solver.{Expr, Expr.{var, num, ◌⊕◌, ◌⊗◌}}
 use Rattle.plane_lattice.specs.Bounds.{largest_entry}
 use Rattle.plane_lattice.proofs.Wide.{wide, wide_is}
-use Rattle.recognition.specs.declared.rod_grid.TheConstants.{ROD_GRID}
+use Rattle.recognition.specs.declared.found_rod.TheConstants.{ROD_GRID}
 
 -- x v, over the product of both denominators
 abbrev pub term_bounds : List ℕ

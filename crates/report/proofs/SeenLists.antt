@@ -11,7 +11,7 @@ use Rattle.fractions.specs.declared.part.TheConstants.{UNIT}
 use Rattle.symmetry.specs.Vectors.{Vector, dot}
 use Rattle.symmetry.specs.Motions.{Motion, identity}
 use Rattle.symmetry.specs.Planes.{Height, IsHeight}
-use Rattle.symmetry.specs.Groups.{Listing, InAll, InStabiliser, SameModulo}
+use Rattle.symmetry.specs.Groups.{Listing, FixesEveryPlane, InStabiliser, SameModulo}
 use Rattle.symmetry.specs.Frames.{Basis, IsAtHome, IsFrame, mean_of}
 use Rattle.symmetry.specs.Lists.{AreScanning, ListsInPlane}
 use Rattle.symmetry.specs.Scans.{SpecialHeight}
@@ -107,9 +107,9 @@ module _ (group : Group) (frame : Frame) (made : IsMadeFor group frame) where
       keeps = (is.list.listed i l).0.1 (height_in_steps (dot r f.tau) k) (step_high k);
     })
 
-    general_lists : ListsInPlane g r (InAll g r) ops
+    general_lists : ListsInPlane g r (FixesEveryPlane g r) ops
     general_lists =
-        lists_in_plane (SameModulo g) g.ops (IsAtHome f) (InAll g r) ops g r (has_one_at_home g r f is_frame (InAll g r) (differs_all g r)) is.list
+        lists_in_plane (SameModulo g) g.ops (IsAtHome f) (FixesEveryPlane g r) ops g r (has_one_at_home g r f is_frame (FixesEveryPlane g r) (differs_all g r)) is.list
 
     module _ (section : List LayerMotion) (seen : AllZip (IsSeen g r f (pos 0)) ops section) where
       pub general_section : All IsSmallMotion section → IsSection section

@@ -5,9 +5,9 @@ use Rattle.fractions.specs.Fraction.{SameFraction}
 use Rattle.symmetry.specs.Vectors.{Vector, dot}
 use Rattle.symmetry.specs.Motions.{Motion}
 use Rattle.symmetry.specs.Planes.{Height, KeepsPlane}
-use Rattle.symmetry.specs.Groups.{Listing, InAll, InStabiliser, IsMember, SameModulo}
+use Rattle.symmetry.specs.Groups.{Listing, FixesEveryPlane, InStabiliser, IsMember}
 use Rattle.symmetry.specs.Frames.{Basis, IsAtHome, IsSpecial, mean_of}
-use Rattle.symmetry.specs.Lists.{AreScanning, IsListOf}
+use Rattle.symmetry.specs.Lists.{AreScanning, IsHomeList}
 use Rattle.symmetry.specs.Scans.{IsInPeriod, SpecialHeight}
 use Rattle.symmetry.specs.Sizes.{IsSmall}
 use Rattle.motions.specs.declared.layer.LayerMotion.{LayerMotion}
@@ -37,11 +37,11 @@ IsSeen g r f k m n =
 -- small motions, the list of those that map every plane to itself
 pub record IsGeneralList (g : Listing) (r : Vector) (f : Basis) (ops : List Motion) : Type 0 where
   pub small : All IsSmall ops
-  pub list : IsListOf (SameModulo g) g.ops (IsAtHome f) (InAll g r) ops
+  pub list : IsHomeList g f (FixesEveryPlane g r) ops
 
 -- a special height from 0 to below the period, with small motions, the list of its stabiliser
 pub record IsSpecialList (g : Listing) (r : Vector) (f : Basis) (h : SpecialHeight) : Type 0 where
   pub small : All IsSmall h.ops
-  pub list : IsListOf (SameModulo g) g.ops (IsAtHome f) (InStabiliser g r h.height) h.ops
+  pub list : IsHomeList g f (InStabiliser g r h.height) h.ops
   pub in_period : IsInPeriod (dot r f.tau) h.height
   pub special : IsSpecial g r h.height

@@ -3,7 +3,7 @@ ghost use Rattle.std.specs.Prelude.{◌^◌, All, unsigned_abs};
 ghost use Rattle.symmetry.specs.Sizes.{IsVectorWithin};
 ghost use Rattle.motions.specs.ListedSizes.{IsSmallWithin};
 ghost use Rattle.motions.specs.Views.{motion_of, parts};
-ghost use Rattle.closure.specs.declared.limits.TheConstants.{MAX_ENTRY};
+ghost use Rattle.closure.specs.declared.group.TheConstants.{MAX_ENTRY};
 
 use crate::at::at_text;
 use crate::report::Report;

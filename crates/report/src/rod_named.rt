@@ -10,7 +10,7 @@ ghost use Rattle.symmetry.specs.Vectors.{multiple};
 ghost use Rattle.line_types.specs.RodRows.{rod_row};
 ghost use Rattle.motions.specs.Views.{parts};
 ghost use Rattle.plane_lattice.specs.Bounds.{largest_entry};
-ghost use Rattle.recognition.specs.declared.rod_grid.TheConstants.{ROD_GRID};
+ghost use Rattle.recognition.specs.declared.found_rod.TheConstants.{ROD_GRID};
 ghost use Rattle.recognition.specs.RodChanges.{hand};
 ghost use Rattle.recognition.specs.RodTypes.{change_of};
 ghost use Rattle.penetration.specs.RodOperations.{AreAcrossFractions, IsAcrossFraction, vector_across};

@@ -3,8 +3,8 @@ use Rattle.std.proofs.Common.{◌≡◌, ℕ, List, Result, sym, ap, ◌∙◌, 
 use Rattle.symmetry.specs.Groups.{Listing}
 use Rattle.symmetry.specs.Vectors.{Vector}
 use Rattle.symmetry.specs.Frames.{Basis}
-use Rattle.motions.specs.declared.frame_fault.FrameFault.{FrameFault}
-use Rattle.motions.specs.declared.frame_fault.FrameFault.TheVariants as frames
+use Rattle.motions.specs.declared.basis.FrameFault.{FrameFault}
+use Rattle.motions.specs.declared.basis.FrameFault.TheVariants as frames
 use Rattle.plane_lattice.specs.FrameOf.{IsFrameFault}
 use Rattle.plane_lattice.proofs.FrameListings.{one_frame_fault}
 use Rattle.requests.specs.declared.format.Format.{Format}

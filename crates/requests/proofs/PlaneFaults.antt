@@ -10,9 +10,9 @@ use Rattle.fractions.specs.LowestTerms.{gcd}
 use Rattle.fractions.proofs.Gcd.{IsGcd-gcd}
 use Rattle.symmetry.specs.Vectors.{Vector}
 use Rattle.symmetry.specs.Sizes.{IsVectorWithin}
-use Rattle.motions.specs.declared.index.TheConstants.{INDEX}
-use Rattle.motions.specs.declared.plane_fault.PlaneFault.{PlaneFault}
-use Rattle.motions.specs.declared.plane_fault.PlaneFault.TheVariants.{OutOfRange}
+use Rattle.motions.specs.declared.miller.TheConstants.{INDEX}
+use Rattle.motions.specs.declared.miller.PlaneFault.{PlaneFault}
+use Rattle.motions.specs.declared.miller.PlaneFault.TheVariants.{OutOfRange}
 use Rattle.motions.specs.PlaneFaults.{IsPlaneFault}
 use Rattle.motions.specs.Divisors.{IsGreatestDivisor}
 use Rattle.motions.proofs.Indices.{coprime_by_greatest, origin_by_greatest, greatest_of_three, no_fault}

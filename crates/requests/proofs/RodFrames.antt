@@ -2,8 +2,8 @@
 use Rattle.std.proofs.Common.{◌≡◌, ℕ, List, refl, sym, ap, ◌∙◌, subst}
 use Rattle.symmetry.specs.Vectors.{Vector}
 use Rattle.symmetry.specs.Groups.{Listing}
-use Rattle.motions.specs.declared.frame_fault.FrameFault.{FrameFault}
-use Rattle.motions.specs.declared.frame_fault.FrameFault.TheVariants.{NotFrame, Skewed}
+use Rattle.motions.specs.declared.basis.FrameFault.{FrameFault}
+use Rattle.motions.specs.declared.basis.FrameFault.TheVariants.{NotFrame, Skewed}
 use Rattle.penetration.specs.FrameOf.{IsRodFrameFault, with_axis}
 use Rattle.penetration.specs.RodFrames.{IsRodSkewed}
 use Rattle.penetration.proofs.AxisFacts.{axis_once}

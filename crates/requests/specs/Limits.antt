@@ -7,9 +7,9 @@ use Rattle.fractions.specs.Fraction.{Fraction}
 use Rattle.fractions.specs.LowestTerms.{gcd}
 use Rattle.symmetry.specs.Vectors.{Vector}
 use Rattle.symmetry.specs.Frames.{Basis}
-use Rattle.motions.specs.declared.index.TheConstants.{INDEX}
-use Rattle.motions.specs.declared.plane_fault.PlaneFault.{PlaneFault}
-use Rattle.motions.specs.declared.plane_fault.PlaneFault.TheVariants as planes
+use Rattle.motions.specs.declared.miller.TheConstants.{INDEX}
+use Rattle.motions.specs.declared.miller.PlaneFault.{PlaneFault}
+use Rattle.motions.specs.declared.miller.PlaneFault.TheVariants as planes
 use Rattle.requests.specs.declared.refusal.Refusal.{Refusal}
 use Rattle.requests.specs.declared.refusal.Refusal.TheVariants.{FourIndex, OutOfRange, AllZero, NotCoprime, FrameLimit, HeightLimit}
 use Rattle.requests.specs.Words.{all_three, Fractions, FrameWords, Indices}

@@ -6,8 +6,8 @@ use Rattle.symmetry.specs.Frames.{Basis, IsFrame, IsSkewed}
 use Rattle.plane_lattice.specs.FrameOf.{IsFrameFault}
 use Rattle.quotient.specs.declared.check.GroupFault.{GroupFault}
 use Rattle.quotient.specs.declared.check.GroupFault.TheVariants as group_faults
-use Rattle.motions.specs.declared.frame_fault.FrameFault.{FrameFault}
-use Rattle.motions.specs.declared.frame_fault.FrameFault.TheVariants as frames
+use Rattle.motions.specs.declared.basis.FrameFault.{FrameFault}
+use Rattle.motions.specs.declared.basis.FrameFault.TheVariants as frames
 use Rattle.triplets.specs.declared.fault.TextFault.{TextFault}
 use Rattle.triplets.specs.declared.fault.TextFault.TheVariants as texts
 use Rattle.cif_symops.specs.declared.fault.CifFault.{CifFault}

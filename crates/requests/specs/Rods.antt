@@ -2,7 +2,7 @@
 use Rattle.std.specs.Prelude.{◌≡◌, ℕ, List}
 use Rattle.symmetry.specs.Vectors.{Vector}
 use Rattle.symmetry.specs.Groups.{Listing}
-use Rattle.motions.specs.declared.frame_fault.FrameFault.{FrameFault}
+use Rattle.motions.specs.declared.basis.FrameFault.{FrameFault}
 use Rattle.penetration.specs.FrameOf.{IsRodFrameFault, with_axis}
 use Rattle.penetration.specs.RodFrames.{IsRodFrame, IsRodSkewed}
 use Rattle.report.specs.RodReports.{IsRodReport, RodReport}

@@ -3,9 +3,9 @@ use Rattle.std.specs.Prelude.{◌≡◌, ℕ, List}
 use Rattle.fractions.specs.Fraction.{Fraction}
 use Rattle.symmetry.specs.Vectors.{Vector}
 use Rattle.symmetry.specs.Motions.{Motion}
-use Rattle.symmetry.specs.Groups.{Listing, SameModulo}
-use Rattle.symmetry.specs.Frames.{Basis, IsAtHome}
-use Rattle.symmetry.specs.Lists.{IsListOf}
+use Rattle.symmetry.specs.Groups.{Listing}
+use Rattle.symmetry.specs.Frames.{Basis}
+use Rattle.symmetry.specs.Lists.{IsHomeList}
 use Rattle.slabs.specs.Slabs.{InSlabStabiliser}
 use Rattle.report.specs.SlabTexts.{slab_text}
 use Rattle.requests.specs.Obstacles.{IsFairFrame}
@@ -14,5 +14,5 @@ use Rattle.requests.specs.Obstacles.{IsFairFrame}
 pub record IsSlabAnswer (g : Listing) (row : Vector) (basis : Basis) (low high : Fraction) (text : List ℕ) : Type 0 where
   pub frame : IsFairFrame g row basis
   pub ops : List Motion
-  pub are_ops : IsListOf (SameModulo g) g.ops (IsAtHome basis) (InSlabStabiliser g row low high) ops
+  pub are_ops : IsHomeList g basis (InSlabStabiliser g row low high) ops
   pub is_text : text ≡ slab_text low high ops

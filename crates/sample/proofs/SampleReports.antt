@@ -12,8 +12,8 @@ use Rattle.symmetry.specs.Groups.{Listing}
 use Rattle.symmetry.specs.Frames.{Basis, IsFrame, IsSkewed}
 use Rattle.symmetry.specs.Scans.{IsLower, SpecialHeight}
 use Rattle.motions.specs.declared.basis.Basis.{Basis as BasisOfCode}
-use Rattle.motions.specs.declared.frame_fault.FrameFault.{FrameFault}
-use Rattle.motions.specs.declared.frame_fault.FrameFault.TheVariants.{NotFrame, Skewed}
+use Rattle.motions.specs.declared.basis.FrameFault.{FrameFault}
+use Rattle.motions.specs.declared.basis.FrameFault.TheVariants.{NotFrame, Skewed}
 use Rattle.motions.specs.declared.miller.Miller.{Miller}
 use Rattle.motions.specs.BasisView.{basis_of}
 use Rattle.motions.specs.Views.{parts, row_of}

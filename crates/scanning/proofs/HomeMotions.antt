@@ -11,10 +11,10 @@ use Rattle.symmetry.specs.Groups.{Listing, IsInLattice, SameModulo}
 use Rattle.symmetry.specs.Frames.{Basis, IsFrame, IsAtHome}
 use Rattle.symmetry.specs.Sizes.{IsMatrixWithin, IsVectorWithin}
 use Rattle.symmetry.proofs.LatticeLaws.{same_trans, same_sym}
-use Rattle.motions.specs.declared.index.TheConstants.{INDEX}
+use Rattle.motions.specs.declared.miller.TheConstants.{INDEX}
 use Rattle.motions.specs.ListedSizes.{IsSmallWithin}
 use Rattle.motions.specs.Laws.MotionLaws.{IsVectorWithin-more}
-use Rattle.closure.specs.declared.limits.TheConstants.{MAX_ENTRY}
+use Rattle.closure.specs.declared.group.TheConstants.{MAX_ENTRY}
 use Rattle.plane_lattice.specs.Bounds.{largest_entry}
 use Rattle.plane_lattice.specs.Coordinates.{IsPlaneCombination}
 use Rattle.scanning.specs.Bounds.{largest_shift}

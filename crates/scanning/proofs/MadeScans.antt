@@ -10,7 +10,7 @@ use Rattle.integers.proofs.Order.{mul_left_cancel_pos}
 use Rattle.symmetry.specs.Vectors.{Vector, dot}
 use Rattle.symmetry.specs.Motions.{Motion, identity}
 use Rattle.symmetry.specs.Planes.{IsHeight, KeepsRow, TurnsRow}
-use Rattle.symmetry.specs.Groups.{Listing, IsGroup, IsMember, InAll, InStabiliser, SameModulo}
+use Rattle.symmetry.specs.Groups.{Listing, IsGroup, IsMember, FixesEveryPlane, InStabiliser, SameModulo}
 use Rattle.symmetry.specs.Frames.{Basis, IsAtHome, IsFrame}
 use Rattle.symmetry.specs.Lists.{AreChosen, IsListOf, motion_at}
 use Rattle.symmetry.specs.Scans.{IsInPeriod, IsLower, IsScan, SpecialHeight}
@@ -20,7 +20,7 @@ use Rattle.motions.specs.declared.motion.Motion3.{Motion3}
 use Rattle.motions.specs.ListedSizes.{IsSmallWithin}
 use Rattle.motions.specs.Laws.MotionLaws.{IsVectorWithin-more}
 use Rattle.motions.specs.Views.{motion_of, row_of}
-use Rattle.closure.specs.declared.limits.TheConstants.{MAX_ENTRY}
+use Rattle.closure.specs.declared.group.TheConstants.{MAX_ENTRY}
 use Rattle.plane_lattice.specs.Bounds.{largest_entry}
 use Rattle.plane_lattice.specs.FrameView.{basis_of_frame}
 use Rattle.plane_lattice.specs.declared.frame.Frame.{Frame}
@@ -67,9 +67,9 @@ module _ (frame : Frame) (g : Listing) (is_frame : IsFrame g (row_of frame.plane
 
   module _ (general : List Motion3)
       (chosen : (h : Listing) → IsFrame h r f → All (IsMember h) ms → AreChosen (SameModulo h) (IsAtHome f) (InRows h r None) ms (map motion_of general)) where
-    pub general_list : IsListOf (SameModulo g) g.ops (IsAtHome f) (InAll g r) (map motion_of general)
+    pub general_list : IsListOf (SameModulo g) g.ops (IsAtHome f) (FixesEveryPlane g r) (map motion_of general)
     general_list =
-        chosen_lists g apart (IsAtHome f) (InRows g r None) (InAll g r) (rows_member g r None) (rows_of_all g r group frame.plane.coprime)
+        chosen_lists g apart (IsAtHome f) (InRows g r None) (FixesEveryPlane g r) (rows_member g r None) (rows_of_all g r group frame.plane.coprime)
         ms (map motion_of general) same (chosen g is_frame (same_members g ms same))
 
     pub general_small : All (IsSmallWithin (unsigned_abs MAX_ENTRY)) g.ops → All (IsSmallWithin (unsigned_abs MAX_ENTRY)) (map motion_of general)
@@ -108,7 +108,7 @@ module _ (frame : Frame) (g : Listing) (is_frame : IsFrame g (row_of frame.plane
 
     -- ---- the scan
 
-    pub made_scan : (general : List Motion3) → IsListOf (SameModulo g) g.ops (IsAtHome f) (InAll g r) (map motion_of general)
+    pub made_scan : (general : List Motion3) → IsListOf (SameModulo g) g.ops (IsAtHome f) (FixesEveryPlane g r) (map motion_of general)
         → IsScan g r f (record { general = map motion_of general; special = specials_of hs })
     made_scan general list =
         let P : ℤ → Type 0 = λ d. All (IsInPeriod d) (heights_of_specials hs) in

@@ -13,7 +13,7 @@ use Rattle.symmetry.specs.Planes.{Height as HeightOfPlane, IsHeight}
 use Rattle.symmetry.specs.Scans.{IsInPeriod, IsLower, SpecialHeight, StandsAt, special_at}
 use Rattle.symmetry.proofs.Heights.{at_in_period, level_above, stands_above, stands_once}
 use Rattle.scanning.specs.declared.height.Height.{Height}
-use Rattle.scanning.specs.declared.place.Place.TheVariants.{General, Special}
+use Rattle.scanning.specs.declared.class.Place.TheVariants.{General, Special}
 use Rattle.scanning.specs.HeightView.{heights_of_specials, special_of, specials_of}
 use Rattle.scanning.specs.Levels.{IsInTwoPeriods, IsLevel}
 use Rattle.scanning.specs.PlaceView.{IsPlaceOf}

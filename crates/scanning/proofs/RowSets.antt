@@ -4,7 +4,7 @@ use Rattle.integers.proofs.Order.{mul_left_cancel_pos}
 use Rattle.symmetry.specs.Vectors.{Vector, dot}
 use Rattle.symmetry.specs.Motions.{Motion}
 use Rattle.symmetry.specs.Planes.{Height, IsCoprime, IsHeight}
-use Rattle.symmetry.specs.Groups.{Listing, IsGroup, IsMember, InAll, InRowStabiliser, InStabiliser}
+use Rattle.symmetry.specs.Groups.{Listing, IsGroup, IsMember, FixesEveryPlane, InRowStabiliser, InStabiliser}
 use Rattle.symmetry.proofs.PlaneRows.{all_by_row, stabiliser_by_row}
 use Rattle.scanning.specs.Levels.{IsLevel}
 use Rattle.scanning.specs.Members.{InRows}
@@ -14,7 +14,7 @@ rows_member g r None m in_it = in_it.0
 rows_member g r (Some t) m in_it = in_it.0
 
 -- with no shift given: those that map every plane to itself
-pub rows_of_all : (g : Listing) (r : Vector) → IsGroup g → IsCoprime r → (m : Motion) → InRows g r None m ↔ InAll g r m
+pub rows_of_all : (g : Listing) (r : Vector) → IsGroup g → IsCoprime r → (m : Motion) → InRows g r None m ↔ FixesEveryPlane g r m
 rows_of_all g r group coprime m = let by = all_by_row g r m group coprime in (by.1, by.0)
 
 module _ (g : Listing) (r : Vector) (s : Height) (group : IsGroup g) (coprime : IsCoprime r) (high : IsHeight s) where

@@ -8,7 +8,7 @@ use Rattle.integers.proofs.Ring.{IsWithin-add, IsWithin-more, IsWithin-mul, IsWi
 use Rattle.integers.proofs.Solver.{Expr.{var, ◌⊕◌, ◌⊝◌}}
 use Rattle.symmetry.specs.Sizes.{IsVectorWithin}
 use Rattle.symmetry.specs.Vectors.{Vector, dot}
-use Rattle.motions.specs.declared.index.TheConstants.{INDEX}
+use Rattle.motions.specs.declared.miller.TheConstants.{INDEX}
 use Rattle.motions.specs.Views.{parts, row_of}
 use Rattle.plane_lattice.specs.declared.frame.Frame.{Frame}
 use Rattle.scanning.specs.Bounds.{largest_count, largest_level, largest_shift}

@@ -1,7 +1,7 @@
 -- How large the numbers become that tell whether a motion maps a plane to itself.
 use Rattle.std.specs.Prelude.{ℕ, ◌+◌, ◌*◌, unsigned_abs}
 use Rattle.fractions.specs.declared.part.TheConstants.{UNIT}
-use Rattle.motions.specs.declared.index.TheConstants.{INDEX}
+use Rattle.motions.specs.declared.miller.TheConstants.{INDEX}
 
 -- twice a height with a numerator of at most 1000000000, in parts
 abbrev pub largest_level : ℕ

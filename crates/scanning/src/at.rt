@@ -6,14 +6,14 @@ ghost use Rattle.fractions.specs.FractionOf.{fraction_of};
 ghost use Rattle.integers.specs.Size.{IsWithin};
 ghost use Rattle.motions.specs.ListedSizes.{IsSmallWithin};
 ghost use Rattle.motions.specs.Views.{motion_of, row_of};
-ghost use Rattle.closure.specs.declared.limits.TheConstants.{MAX_ENTRY};
+ghost use Rattle.closure.specs.declared.group.TheConstants.{MAX_ENTRY};
 ghost use Rattle.plane_lattice.specs.FrameView.{basis_of_frame};
 ghost use Rattle.scanning.specs.Bounds.{largest_periods};
 ghost use Rattle.scanning.specs.Conjugates.{IsMoved};
 
 use crate::at_fault::AtFault;
+use crate::class::Place;
 use crate::homes::NoMemory;
-use crate::place::Place;
 use crate::raised::raised;
 use crate::scan::Scan;
 use fractions::Ratio;
@@ -26,12 +26,12 @@ pub const MOST_HEIGHT: u128 = 1_000_000_000;
 
 impl Scan {
     ghost use Rattle.std.specs.Prelude.{map};
-    ghost use Rattle.symmetry.specs.Frames.{IsAtHome, IsFrame};
-    ghost use Rattle.symmetry.specs.Groups.{InStabiliser, IsGroup, Listing, SameModulo};
-    ghost use Rattle.symmetry.specs.Lists.{IsListOf};
-    ghost use Rattle.symmetry.specs.Scans.{GivesAt, IsScan};
-    ghost use Rattle.scanning.specs.ScanView.{scan_of};
+    ghost use Rattle.symmetry.specs.Groups.{InStabiliser, IsGroup, Listing};
+    ghost use Rattle.symmetry.specs.Lists.{IsHomeList};
+    ghost use Rattle.symmetry.specs.Scans.{GivesAt};
+    ghost use Rattle.scanning.specs.ScanView.{HasScan, scan_of};
     ghost use Rattle.scanning.specs.declared.at_fault.AtFault.TheVariants.{Large};
+    ghost use Rattle.plane_lattice.specs.FrameOf.{HasFrame};
 
     /// The operations that map the plane of the height s to itself, as the scan gives them: the general ones, or those at
     /// the special height over which it stands, conjugated by k tau and brought home.
@@ -39,13 +39,11 @@ impl Scan {
     /// [`Large`](AtFault::Large) comes exactly where the numerator or the denominator of s is above [`MOST_HEIGHT`] in size.
     pub fn ops_at(&self, alloc: Global, s: Ratio) -> Result<Vec<Motion3>, AtFault>
         ensures large { (result ≡ Err Large) ↔ (¬ IsFractionWithin 1000000000 (fraction_of s)) }
-        ensures gives { (g : Listing) → IsGroup g → IsFrame g (row_of self.now.frame.plane) (basis_of_frame self.now.frame) →
-            IsScan g (row_of self.now.frame.plane) (basis_of_frame self.now.frame) (scan_of self.now) →
+        ensures gives { (g : Listing) → IsGroup g → HasFrame g self.now.frame → HasScan g self.now →
             IfOk result (λ ops. GivesAt g (row_of self.now.frame.plane) (basis_of_frame self.now.frame) (scan_of self.now)
             (fraction_of s) (map motion_of ops.items)) }
-        ensures list { (g : Listing) → IsGroup g → IsFrame g (row_of self.now.frame.plane) (basis_of_frame self.now.frame) →
-            IsScan g (row_of self.now.frame.plane) (basis_of_frame self.now.frame) (scan_of self.now) →
-            IfOk result (λ ops. IsListOf (SameModulo g) g.ops (IsAtHome (basis_of_frame self.now.frame))
+        ensures list { (g : Listing) → IsGroup g → HasFrame g self.now.frame → HasScan g self.now →
+            IfOk result (λ ops. IsHomeList g (basis_of_frame self.now.frame)
             (InStabiliser g (row_of self.now.frame.plane) (fraction_of s)) (map motion_of ops.items)) }
     {
         if !is_in_range(s) {

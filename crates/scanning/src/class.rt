@@ -7,9 +7,17 @@ ghost use Rattle.scanning.specs.Levels.{IsInTwoPeriods, IsLevel};
 ghost use Rattle.scanning.specs.declared.height.Height.{Height as SpecialHeight};
 
 use crate::height::Height;
-use crate::place::Place;
 use crate::scan::Scan;
 use fractions::{Part, Ratio, UNIT, whole_quotient};
+
+/// Where a height stands among the special heights of a scan.
+#[derive(Clone, Copy, PartialEq, Eq, Debug)]
+pub enum Place {
+    /// It is no whole number of periods from a special height.
+    General,
+    /// It is `k` periods above the special height with this index.
+    Special { index: usize, k: i128 },
+}
 
 impl Scan {
     ghost use Rattle.scanning.specs.PlaceView.{IsPlaceOf};

@@ -1,9 +1,8 @@
 // The special heights, with the operations at each.
 ghost use Rattle.std.specs.Prelude.{All, IfOk, map};
-ghost use Rattle.motions.specs.Views.{motion_of, row_of};
-ghost use Rattle.plane_lattice.specs.FrameView.{basis_of_frame};
+ghost use Rattle.motions.specs.Views.{motion_of};
 ghost use Rattle.scanning.specs.Levels.{IsInTwoPeriods};
-ghost use Rattle.scanning.specs.Members.{IsHomeMotion};
+ghost use Rattle.scanning.specs.Members.{IsHomeOf};
 ghost use Rattle.scanning.specs.SpecialHeights.{AreHeights, IsHeightAt};
 
 use crate::height::Height;
@@ -21,7 +20,7 @@ pub(crate) fn special_heights(
     homes: &[Motion3],
     frame: &Frame,
 ) -> Result<Vec<Height>, NoMemory>
-    requires { All (λ m. IsHomeMotion (row_of frame.now.plane) (basis_of_frame frame.now) (motion_of m)) homes.now }
+    requires { All (IsHomeOf frame.now) homes.now }
     ensures { IfOk result (λ heights. AreHeights frame.now (map motion_of homes.now) heights.items) }
 {
     let levels = special_levels(alloc, homes, frame)?;
@@ -39,7 +38,7 @@ fn height_at(
     frame: &Frame,
     level: i64,
 ) -> Result<Height, NoMemory>
-    requires homes { All (λ m. IsHomeMotion (row_of frame.now.plane) (basis_of_frame frame.now) (motion_of m)) homes.now }
+    requires homes { All (IsHomeOf frame.now) homes.now }
     requires level { IsInTwoPeriods frame.now.period.0 level }
     ensures { IfOk result (IsHeightAt frame.now (map motion_of homes.now) level) }
 {

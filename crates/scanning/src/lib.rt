@@ -14,7 +14,6 @@ mod homes;
 mod make;
 mod members;
 mod periods;
-mod place;
 mod raised;
 mod scan;
 #[cfg(test)]
@@ -23,7 +22,7 @@ mod turned;
 
 pub use at::MOST_HEIGHT;
 pub use at_fault::AtFault;
+pub use class::Place;
 pub use height::Height;
 pub use homes::NoMemory;
-pub use place::Place;
 pub use scan::Scan;

@@ -1,8 +1,5 @@
 // The scan of a group in a frame.
-ghost use Rattle.symmetry.specs.Frames.{IsFrame};
-ghost use Rattle.motions.specs.Views.{row_of};
 ghost use Rattle.closure.specs.Groups.{group_listing};
-ghost use Rattle.plane_lattice.specs.FrameView.{basis_of_frame};
 
 use crate::heights::special_heights;
 use crate::homes::{NoMemory, homes};
@@ -17,6 +14,7 @@ impl Scan {
     ghost use Rattle.symmetry.specs.Groups.{Listing};
     ghost use Rattle.closure.specs.Groups.{IsGroupOf};
     ghost use Rattle.scanning.specs.ScanView.{IsScanOf};
+    ghost use Rattle.plane_lattice.specs.FrameOf.{HasFrame};
 
     /// The scan of the group in the frame, which is one of the group: that of each listing of the group.
     ///
@@ -24,7 +22,7 @@ impl Scan {
     /// periods. The operations at each are the members of its stabiliser that are at home, each once, in the order of
     /// the group's operations.
     pub fn make(alloc: Global, group: &Group, frame: &Frame) -> Result<Scan, NoMemory>
-        requires { IsFrame (group_listing group.now) (row_of frame.now.plane) (basis_of_frame frame.now) }
+        requires { HasFrame (group_listing group.now) frame.now }
         ensures { (g : Listing) → IsGroupOf g group.now → IfOk result (IsScanOf g frame.now) }
     {
         let homes = homes(alloc, group, frame)?;

@@ -2,13 +2,14 @@
 ghost use Rattle.std.specs.Prelude.{◌≡◌, ℤ, pos, All, IfOk, IfSome, map};
 ghost use Rattle.std.specs.Option.{option_map};
 ghost use Rattle.integers.specs.Size.{IsWithin};
-ghost use Rattle.symmetry.specs.Frames.{IsAtHome, IsFrame};
+ghost use Rattle.symmetry.specs.Frames.{IsAtHome};
 ghost use Rattle.symmetry.specs.Groups.{IsMember, Listing, SameModulo};
 ghost use Rattle.symmetry.specs.Lists.{AreChosen, IsChoice};
 ghost use Rattle.motions.specs.Views.{motion_of, row_of};
 ghost use Rattle.plane_lattice.specs.FrameView.{basis_of_frame};
 ghost use Rattle.scanning.specs.Bounds.{largest_level};
-ghost use Rattle.scanning.specs.Members.{InRows, IsHomeMotion, asked};
+ghost use Rattle.scanning.specs.Members.{InRows, IsHomeOf, asked};
+ghost use Rattle.plane_lattice.specs.FrameOf.{HasFrame};
 
 use crate::homes::NoMemory;
 use crate::periods::periods_to;
@@ -25,10 +26,9 @@ pub(crate) fn members(
     frame: &Frame,
     turned: Option<i64>,
 ) -> Result<Vec<Motion3>, NoMemory>
-    requires homes { All (λ m. IsHomeMotion (row_of frame.now.plane) (basis_of_frame frame.now) (motion_of m)) homes.now }
+    requires homes { All (IsHomeOf frame.now) homes.now }
     requires turned { IfSome turned (IsWithin largest_level) }
-    ensures { (g : Listing) → IsFrame g (row_of frame.now.plane) (basis_of_frame frame.now) →
-        All (IsMember g) (map motion_of homes.now) →
+    ensures { (g : Listing) → HasFrame g frame.now → All (IsMember g) (map motion_of homes.now) →
         IfOk result (λ members. AreChosen (SameModulo g) (IsAtHome (basis_of_frame frame.now))
         (InRows g (row_of frame.now.plane) turned) (map motion_of homes.now) (map motion_of members.items)) }
 {
@@ -43,9 +43,9 @@ pub(crate) fn members(
 
 /// That motion for one motion. None comes exactly where there is none.
 fn member(m: &Motion3, frame: &Frame, turned: Option<i64>) -> Option<Motion3>
-    requires home { IsHomeMotion (row_of frame.now.plane) (basis_of_frame frame.now) (motion_of m.now) }
+    requires home { IsHomeOf frame.now m.now }
     requires turned { IfSome turned (IsWithin largest_level) }
-    ensures { (g : Listing) → IsFrame g (row_of frame.now.plane) (basis_of_frame frame.now) → IsMember g (motion_of m.now) →
+    ensures { (g : Listing) → HasFrame g frame.now → IsMember g (motion_of m.now) →
         IsChoice (SameModulo g) (IsAtHome (basis_of_frame frame.now)) (InRows g (row_of frame.now.plane) turned)
         (motion_of m.now) (option_map motion_of result) }
 {

@@ -3,7 +3,7 @@ ghost use Rattle.std.specs.Prelude.{All, AllPairs, map, unsigned_abs};
 ghost use Rattle.symmetry.specs.Scans.{IsInPeriod, IsLower};
 ghost use Rattle.motions.specs.ListedSizes.{IsSmallWithin};
 ghost use Rattle.motions.specs.Views.{motion_of, row_of};
-ghost use Rattle.closure.specs.declared.limits.TheConstants.{MAX_ENTRY};
+ghost use Rattle.closure.specs.declared.group.TheConstants.{MAX_ENTRY};
 ghost use Rattle.plane_lattice.specs.FrameView.{basis_of_frame};
 ghost use Rattle.scanning.specs.HeightView.{IsGeneralOperation, IsSpecialOperation, heights_of_specials, specials_of};
 

@@ -4,10 +4,10 @@ ghost use Rattle.integers.specs.Size.{IsWithin};
 ghost use Rattle.symmetry.specs.Sizes.{IsVectorWithin};
 ghost use Rattle.motions.specs.ListedSizes.{IsSmallWithin};
 ghost use Rattle.motions.specs.Views.{motion_of, parts};
-ghost use Rattle.closure.specs.declared.limits.TheConstants.{MAX_ENTRY};
+ghost use Rattle.closure.specs.declared.group.TheConstants.{MAX_ENTRY};
 
 use crate::at_fault::AtFault;
-use crate::place::Place;
+use crate::class::Place;
 use crate::scan::Scan;
 use closure::{Group, GroupError};
 use fractions::{Part, Ratio, UNIT};

@@ -2,9 +2,8 @@
 ghost use Rattle.std.specs.Prelude.{◌≡◌, ◌+ℤ◌, ◌*ℤ◌, ◌≤ℤ◌, ◌<ℤ◌, ℤ, pos, All, IfOk, MatchOption, map};
 ghost use Rattle.symmetry.specs.Vectors.{dot, opposite, row_times};
 ghost use Rattle.motions.specs.Views.{motion_of, row_of};
-ghost use Rattle.plane_lattice.specs.FrameView.{basis_of_frame};
 ghost use Rattle.scanning.specs.Levels.{AreLevels, AreTurned};
-ghost use Rattle.scanning.specs.Members.{IsHomeMotion};
+ghost use Rattle.scanning.specs.Members.{IsHomeOf};
 
 use crate::homes::NoMemory;
 use motions::{Motion3, Sign, shift, side};
@@ -18,7 +17,7 @@ pub(crate) fn special_levels(
     homes: &[Motion3],
     frame: &Frame,
 ) -> Result<Vec<i64>, NoMemory>
-    requires { All (λ m. IsHomeMotion (row_of frame.now.plane) (basis_of_frame frame.now) (motion_of m)) homes.now }
+    requires { All (IsHomeOf frame.now) homes.now }
     ensures { IfOk result (λ levels.
         AreLevels (row_of frame.now.plane) frame.now.period.0 (map motion_of homes.now) levels.items) }
 {
@@ -30,7 +29,7 @@ pub(crate) fn special_levels(
 
 /// The same in any order, each at least once.
 fn turned_levels(alloc: Global, homes: &[Motion3], frame: &Frame) -> Result<Vec<i64>, NoMemory>
-    requires { All (λ m. IsHomeMotion (row_of frame.now.plane) (basis_of_frame frame.now) (motion_of m)) homes.now }
+    requires { All (IsHomeOf frame.now) homes.now }
     ensures { IfOk result (λ levels.
         AreTurned (row_of frame.now.plane) frame.now.period.0 (map motion_of homes.now) levels.items) }
 {
@@ -46,7 +45,7 @@ fn turned_levels(alloc: Global, homes: &[Motion3], frame: &Frame) -> Result<Vec<
 
 /// The (hkl).w of the motion, modulo the period. None comes exactly where it does not turn the row.
 fn turned_level(m: &Motion3, frame: &Frame) -> Option<i64>
-    requires { IsHomeMotion (row_of frame.now.plane) (basis_of_frame frame.now) (motion_of m.now) }
+    requires { IsHomeOf frame.now m.now }
     ensures { let turns = row_times (row_of frame.now.plane) (motion_of m.now).matrix ≡ opposite (row_of frame.now.plane) in
         MatchOption result (¬ turns) (λ t. turns × (pos 0 ≤ℤ t) × (t <ℤ frame.now.period.0)
         × ((k : ℤ) × (t ≡ dot (row_of frame.now.plane) (motion_of m.now).shift +ℤ k *ℤ frame.now.period.0))) }

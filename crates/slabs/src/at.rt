@@ -2,15 +2,15 @@
 ghost use Rattle.std.specs.Prelude.{◌≡◌, ◌↔◌, Err, IfOk, map};
 ghost use Rattle.fractions.specs.Fraction.{IsFractionWithin};
 ghost use Rattle.fractions.specs.FractionOf.{fraction_of};
-ghost use Rattle.symmetry.specs.Frames.{IsAtHome, IsFrame};
-ghost use Rattle.symmetry.specs.Groups.{IsGroup, Listing, SameModulo};
-ghost use Rattle.symmetry.specs.Lists.{IsListOf};
-ghost use Rattle.symmetry.specs.Scans.{GivesAt, IsScan};
+ghost use Rattle.symmetry.specs.Groups.{IsGroup, Listing};
+ghost use Rattle.symmetry.specs.Lists.{IsHomeList};
+ghost use Rattle.symmetry.specs.Scans.{GivesAt};
 ghost use Rattle.motions.specs.Views.{motion_of, row_of};
 ghost use Rattle.plane_lattice.specs.FrameView.{basis_of_frame};
-ghost use Rattle.scanning.specs.ScanView.{scan_of};
+ghost use Rattle.scanning.specs.ScanView.{HasScan, scan_of};
 ghost use Rattle.scanning.specs.declared.at_fault.AtFault.TheVariants.{Large};
 ghost use Rattle.slabs.specs.Slabs.{InSlabStabiliser, IsAtMost, half_sum};
+ghost use Rattle.plane_lattice.specs.FrameOf.{HasFrame};
 
 use crate::heights::middle;
 use fractions::Ratio;
@@ -32,14 +32,12 @@ pub fn slab_at(alloc: Global, scan: &Scan, low: Ratio, high: Ratio) -> Result<Ve
     ensures large { (result ≡ Err Large)
         ↔ (¬ IsFractionWithin 1000000000 (half_sum (fraction_of low) (fraction_of high))) }
     ensures gives { (g : Listing) → IsGroup g →
-        IsFrame g (row_of scan.now.frame.plane) (basis_of_frame scan.now.frame) →
-        IsScan g (row_of scan.now.frame.plane) (basis_of_frame scan.now.frame) (scan_of scan.now) →
+        HasFrame g scan.now.frame → HasScan g scan.now →
         IfOk result (λ ops. GivesAt g (row_of scan.now.frame.plane) (basis_of_frame scan.now.frame)
         (scan_of scan.now) (half_sum (fraction_of low) (fraction_of high)) (map motion_of ops.items)) }
     ensures list { (g : Listing) → IsGroup g →
-        IsFrame g (row_of scan.now.frame.plane) (basis_of_frame scan.now.frame) →
-        IsScan g (row_of scan.now.frame.plane) (basis_of_frame scan.now.frame) (scan_of scan.now) →
-        IfOk result (λ ops. IsListOf (SameModulo g) g.ops (IsAtHome (basis_of_frame scan.now.frame))
+        HasFrame g scan.now.frame → HasScan g scan.now →
+        IfOk result (λ ops. IsHomeList g (basis_of_frame scan.now.frame)
         (InSlabStabiliser g (row_of scan.now.frame.plane) (fraction_of low) (fraction_of high))
         (map motion_of ops.items)) }
 {

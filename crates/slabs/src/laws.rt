@@ -3,9 +3,9 @@ ghost use Rattle.std.specs.Prelude.{◌↔◌, List};
 ghost use Rattle.symmetry.specs.Vectors.{Vector};
 ghost use Rattle.symmetry.specs.Motions.{IsPoint, Motion, Point};
 ghost use Rattle.symmetry.specs.Planes.{Height, IsCoprime, IsHeight, IsInvertible, KeepsPlane};
-ghost use Rattle.symmetry.specs.Groups.{InStabiliser, IsGroup, Listing, SameModulo};
-ghost use Rattle.symmetry.specs.Frames.{Basis, IsAtHome, IsFrame};
-ghost use Rattle.symmetry.specs.Lists.{IsListOf, ListsInPlane};
+ghost use Rattle.symmetry.specs.Groups.{InStabiliser, IsGroup, Listing};
+ghost use Rattle.symmetry.specs.Frames.{Basis, IsFrame};
+ghost use Rattle.symmetry.specs.Lists.{IsHomeList, ListsInPlane};
 ghost use Rattle.symmetry.specs.Scans.{IsLower};
 ghost use Rattle.slabs.specs.Slabs.{InSlabStabiliser, IsAtMost, IsInSlab, KeepsSlab, half_sum};
 
@@ -27,11 +27,11 @@ pub fn stabiliser_by_middle()
 pub fn slab_lists()
     ensures same { (g : Listing) (r : Vector) (f : Basis) (low high : Height) (ms : List Motion) →
         IsGroup g → IsCoprime r → IsHeight low → IsHeight high → IsAtMost low high →
-        IsListOf (SameModulo g) g.ops (IsAtHome f) (InSlabStabiliser g r low high) ms
-        ↔ IsListOf (SameModulo g) g.ops (IsAtHome f) (InStabiliser g r (half_sum low high)) ms }
+        IsHomeList g f (InSlabStabiliser g r low high) ms
+        ↔ IsHomeList g f (InStabiliser g r (half_sum low high)) ms }
     ensures plane { (g : Listing) (r : Vector) (f : Basis) (low high : Height) (ms : List Motion) →
         IsGroup g → IsCoprime r → IsHeight low → IsHeight high → IsAtMost low high → IsFrame g r f →
-        IsListOf (SameModulo g) g.ops (IsAtHome f) (InSlabStabiliser g r low high) ms →
+        IsHomeList g f (InSlabStabiliser g r low high) ms →
         ListsInPlane g r (InSlabStabiliser g r low high) ms }
 {}
 

@@ -6,7 +6,7 @@ ghost use Rattle.fractions.specs.LowestTerms.{IsLowestForm};
 ghost use Rattle.integers.specs.Size.{IsWithin};
 ghost use Rattle.motions.specs.ListedSizes.{IsSmallWithin};
 ghost use Rattle.motions.specs.Views.{motion_of};
-ghost use Rattle.closure.specs.declared.limits.TheConstants.{MAX_ENTRY};
+ghost use Rattle.closure.specs.declared.group.TheConstants.{MAX_ENTRY};
 
 use crate::at::slab_at;
 use crate::heights::{is_empty, middle};

@@ -8,9 +8,9 @@ use Rattle.integers.proofs.Coded.{again, again_is}
 use Rattle.symmetry.specs.Sizes.{IsVectorWithin}
 use Rattle.symmetry.specs.Vectors.{Vector}
 use Rattle.symmetry.proofs.VectorLaws.{vector_path}
-use Rattle.motions.specs.declared.index.TheConstants.{INDEX}
+use Rattle.motions.specs.declared.miller.TheConstants.{INDEX}
 use Rattle.motions.specs.declared.miller.Miller.{Miller}
-use Rattle.motions.specs.declared.plane_fault.PlaneFault.{PlaneFault}
+use Rattle.motions.specs.declared.miller.PlaneFault.{PlaneFault}
 use Rattle.motions.specs.PlaneFaults.{IsPlaneFault}
 use Rattle.motions.specs.Views.{row_of}
 use Rattle.motions.proofs.Indices.{no_fault}

@@ -3,7 +3,7 @@ use Rattle.std.proofs.Common.{◌≡◌, sym, subst, unsigned_abs}
 use Rattle.integers.proofs.Ring.{IsWithin-add, IsWithin-mul}
 use Rattle.symmetry.specs.Sizes.{IsMatrixWithin, IsVectorWithin}
 use Rattle.symmetry.specs.Vectors.{Matrix, Vector, multiple, plus, row_times}
-use Rattle.motions.specs.declared.index.TheConstants.{INDEX}
+use Rattle.motions.specs.declared.miller.TheConstants.{INDEX}
 use Rattle.surveys.specs.Bounds.{largest_row}
 
 row_within : (r : Vector) (m : Matrix) → IsVectorWithin (unsigned_abs INDEX) r → IsMatrixWithin 500 m → IsVectorWithin largest_row (row_times r m)

@@ -2,7 +2,7 @@
 ghost use Rattle.std.specs.Prelude.{All, unsigned_abs};
 ghost use Rattle.motions.specs.ListedSizes.{IsSmallWithin};
 ghost use Rattle.motions.specs.Views.{motion_of};
-ghost use Rattle.closure.specs.declared.limits.TheConstants.{MAX_ENTRY};
+ghost use Rattle.closure.specs.declared.group.TheConstants.{MAX_ENTRY};
 
 use crate::surveyed::Surveyed;
 use crate::surveying::survey;

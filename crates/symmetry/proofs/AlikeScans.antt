@@ -4,7 +4,7 @@ use Rattle.std.proofs.lemmas.List.Elements.{All-weaker}
 use Rattle.symmetry.specs.Vectors.{Vector, dot}
 use Rattle.symmetry.specs.Motions.{Motion}
 use Rattle.symmetry.specs.Planes.{Height}
-use Rattle.symmetry.specs.Groups.{Listing, SameModulo, InAll, InStabiliser}
+use Rattle.symmetry.specs.Groups.{Listing, SameModulo, FixesEveryPlane, InStabiliser}
 use Rattle.symmetry.specs.Frames.{Basis, IsAtHome}
 use Rattle.symmetry.specs.Lists.{AreScanning, ExactlyOne, IsListOf, motion_at}
 use Rattle.symmetry.specs.Scans.{IsInOneClass, IsInPeriod, IsScan, Scan, SpecialHeight}
@@ -40,7 +40,7 @@ module _ (g h : Listing) (alike : AreAlike g h) (r : Vector) where
   }
 
   pub all_from : (f : Basis) (ms : List Motion)
-      → IsListOf (SameModulo h) h.ops (IsAtHome f) (InAll h r) ms → IsListOf (SameModulo g) g.ops (IsAtHome f) (InAll g r) ms
+      → IsListOf (SameModulo h) h.ops (IsAtHome f) (FixesEveryPlane h r) ms → IsListOf (SameModulo g) g.ops (IsAtHome f) (FixesEveryPlane g r) ms
   all_from f ms list = record {
     listed = λ k l. ((member_from g h alike (motion_at ms k) (list.listed k l).0.0, (list.listed k l).0.1), (list.listed k l).1);
     once = λ m in_set home. list.once m (member_to g h alike m in_set.0, in_set.1) home;

@@ -5,7 +5,7 @@ use Rattle.integers.proofs.Ring.{zero_add}
 use Rattle.symmetry.specs.Vectors.{Vector, plus, minus, opposite, dot, row_times}
 use Rattle.symmetry.specs.Motions.{Motion}
 use Rattle.symmetry.specs.Planes.{Height, MapsPlane}
-use Rattle.symmetry.specs.Groups.{Listing, SameModulo, IsMember, InStabiliser, InAll}
+use Rattle.symmetry.specs.Groups.{Listing, SameModulo, IsMember, InStabiliser, FixesEveryPlane}
 use Rattle.symmetry.specs.Frames.{InPlaneLattice, DiffersInPlane}
 use Rattle.symmetry.proofs.VectorLaws.{dot-origin, dot-plus, dot-multiple, minus-same, minus-plus, minus-plus-minus, opposite-minus}
 use Rattle.symmetry.proofs.LatticeLaws.{lattice-plus, lattice-opposite, same_refl, same_sym, same_member}
@@ -60,5 +60,5 @@ differs_maps g r s s' m n differs maps p h on =
 pub differs_stabiliser : (g : Listing) (r : Vector) (s : Height) (m n : Motion) → DiffersInPlane g r m n → InStabiliser g r s m → InStabiliser g r s n
 differs_stabiliser g r s m n p in_it = (differs_member g r m n p in_it.0, differs_maps g r s s m n p in_it.1)
 
-pub differs_all : (g : Listing) (r : Vector) (m n : Motion) → DiffersInPlane g r m n → InAll g r m → InAll g r n
+pub differs_all : (g : Listing) (r : Vector) (m n : Motion) → DiffersInPlane g r m n → FixesEveryPlane g r m → FixesEveryPlane g r n
 differs_all g r m n p in_it = (differs_member g r m n p in_it.0, λ s high. differs_maps g r s s m n p (in_it.1 s high))

@@ -7,7 +7,7 @@ use Rattle.integers.proofs.Ring.{mul_assoc, mul_zero}
 use Rattle.symmetry.specs.Vectors.{Vector, dot}
 use Rattle.symmetry.specs.Motions.{Motion}
 use Rattle.symmetry.specs.Planes.{Height, IsHeight, IsCoprime, KeepsPlane, KeepsRow, TurnsRow, MovesRow, IsInvertible}
-use Rattle.symmetry.specs.Groups.{Listing, IsMember, IsGroup, InStabiliser, InRowStabiliser, InAll, InRowAll}
+use Rattle.symmetry.specs.Groups.{Listing, IsMember, IsGroup, InStabiliser, InRowStabiliser, FixesEveryPlane, FixesEveryPlaneByRow}
 use Rattle.symmetry.specs.Frames.{IsSpecial}
 use Rattle.symmetry.proofs.VectorLaws.{multiple-one}
 use Rattle.symmetry.proofs.Coprime.{not_opposite}
@@ -73,10 +73,10 @@ stabiliser_by_row g r s m group coprime high = (
 )
 
 -- the planes of heights 0 and 1 tell that a motion maps every plane to itself
-pub all_by_row : (g : Listing) (r : Vector) (m : Motion) → IsGroup g → IsCoprime r → InAll g r m ↔ InRowAll g r m
+pub all_by_row : (g : Listing) (r : Vector) (m : Motion) → IsGroup g → IsCoprime r → FixesEveryPlane g r m ↔ FixesEveryPlaneByRow g r m
 all_by_row g r m group coprime = (
-  λ in_all. (in_all.0, keeps_row (at_height in_all zero_height (omega (arith, ints))) (at_height in_all one_height (omega (arith, ints)))),
-  λ in_all. (in_all.0, λ s high. ((stabiliser_by_row g r s m group coprime high).1 (in_all.0, inl in_all.1)).1),
+  λ fixes. (fixes.0, keeps_row (at_height fixes zero_height (omega (arith, ints))) (at_height fixes one_height (omega (arith, ints)))),
+  λ fixes. (fixes.0, λ s high. ((stabiliser_by_row g r s m group coprime high).1 (fixes.0, inl fixes.1)).1),
 )
   where
     zero_height : Height
@@ -85,8 +85,8 @@ all_by_row g r m group coprime = (
     one_height : Height
     one_height = record { num = pos 1; den = pos 1 }
 
-    at_height : InAll g r m → (s : Height) → IsHeight s → KeepsRow r m ⊎ TurnsRow r s m
-    at_height in_all s high = ((stabiliser_by_row g r s m group coprime high).0 (in_all.0, in_all.1 s high)).1
+    at_height : FixesEveryPlane g r m → (s : Height) → IsHeight s → KeepsRow r m ⊎ TurnsRow r s m
+    at_height fixes s high = ((stabiliser_by_row g r s m group coprime high).0 (fixes.0, fixes.1 s high)).1
 
     keeps_row : KeepsRow r m ⊎ TurnsRow r zero_height m → KeepsRow r m ⊎ TurnsRow r one_height m → KeepsRow r m
     keeps_row (inl k) _ = k

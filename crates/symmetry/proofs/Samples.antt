@@ -6,7 +6,7 @@ use Rattle.fractions.specs.declared.part.TheConstants.{UNIT}
 use Rattle.symmetry.specs.Vectors.{Vector, Matrix, origin, plus, multiple, dot, cross}
 use Rattle.symmetry.specs.Motions.{Motion, identity}
 use Rattle.symmetry.specs.Planes.{Height, TurnsRow, KeepsPlane}
-use Rattle.symmetry.specs.Groups.{Listing, zero_vector, added, subtracted, SameModulo, IsMember, InAll}
+use Rattle.symmetry.specs.Groups.{Listing, zero_vector, added, subtracted, SameModulo, IsMember, FixesEveryPlane}
 use Rattle.symmetry.specs.Frames.{Basis, mean_of, sign_at, IsAtHome, IsSpecial}
 use Rattle.symmetry.specs.Lists.{ComesBefore, motion_at}
 use Rattle.symmetry.proofs.PlaneImages.{maps_from_row}
@@ -88,11 +88,11 @@ keeps_quarter : KeepsPlane row quarter glide
 unfolding dot plus multiple
 keeps_quarter = maps_from_row row quarter quarter (negsuc 0) glide (omega (arith, ints)) (refl, refl)
 
-not_all : ¬ (InAll listing row glide)
+not_all : ¬ (FixesEveryPlane listing row glide)
 unfolding dot plus multiple
-not_all in_all =
+not_all fixes =
     let zero_height : Height = record { num = pos 0; den = pos 1 } in
-    absurd (omega (arith, ints, in_all.1 zero_height (omega (arith, ints)) (record { at = origin; over = pos 1 }) (omega (arith, ints)) refl))
+    absurd (omega (arith, ints, fixes.1 zero_height (omega (arith, ints)) (record { at = origin; over = pos 1 }) (omega (arith, ints)) refl))
 
 special : IsSpecial listing row quarter
 special = (glide, (is_member, keeps_quarter), not_all)

@@ -6,7 +6,7 @@ use Rattle.fractions.specs.Fraction.{SameFraction}
 use Rattle.symmetry.specs.Vectors.{Vector, dot, multiple, opposite}
 use Rattle.symmetry.specs.Motions.{Motion, identity}
 use Rattle.symmetry.specs.Planes.{Height, IsCoprime, IsHeight, KeepsRow, TurnsRow}
-use Rattle.symmetry.specs.Groups.{Listing, IsGroup, InAll, InStabiliser, SameModulo}
+use Rattle.symmetry.specs.Groups.{Listing, IsGroup, FixesEveryPlane, InStabiliser, SameModulo}
 use Rattle.symmetry.specs.Frames.{Basis, DiffersInPlane, IsAtHome, IsFrame, IsSpecial}
 use Rattle.symmetry.specs.Lists.{HasOneAtHome, IsFirstPlace, IsListOf, ListsInPlane, motion_at}
 use Rattle.symmetry.specs.Scans.{AreConjugated, GivesAt, general, special, IsInOneClass, IsScan, Scan, StandsAt, conjugated, raised_height, special_at}
@@ -110,10 +110,10 @@ module _ (g : Listing) (r : Vector) (f : Basis) (frame : IsFrame g r f) (group :
   -- ---- general heights
 
   -- where a height is general, its stabiliser has those that map every plane to itself, and no more
-  all_is_stabiliser : (s : Height) → IsHeight s → ¬ IsSpecial g r s → (m : Motion) → InAll g r m ↔ InStabiliser g r s m
-  all_is_stabiliser s high not m = (λ in_all. (in_all.0, in_all.1 s high), λ in_it. back in_it ((stabiliser_by_row g r s m group coprime high).0 in_it).1)
+  all_is_stabiliser : (s : Height) → IsHeight s → ¬ IsSpecial g r s → (m : Motion) → FixesEveryPlane g r m ↔ InStabiliser g r s m
+  all_is_stabiliser s high not m = (λ fixes. (fixes.0, fixes.1 s high), λ in_it. back in_it ((stabiliser_by_row g r s m group coprime high).0 in_it).1)
     where
-      back : InStabiliser g r s m → KeepsRow r m ⊎ TurnsRow r s m → InAll g r m
+      back : InStabiliser g r s m → KeepsRow r m ⊎ TurnsRow r s m → FixesEveryPlane g r m
       back in_it (inl keeps) = (all_by_row g r m group coprime).1 (in_it.0, keeps)
       back in_it (inr turns) = absurd (not ((special_by_row g r s group coprime high).1 (m, in_it.0, turns)))
 
@@ -124,7 +124,7 @@ module _ (g : Listing) (r : Vector) (f : Basis) (frame : IsFrame g r f) (group :
         → IsListOf (SameModulo g) g.ops (IsAtHome f) (InStabiliser g r s) ops
     in_general ops none same (general not none') =
         subst (IsListOf (SameModulo g) g.ops (IsAtHome f) (InStabiliser g r s)) (sym same)
-        ((list_of_same_set (SameModulo g) g.ops (IsAtHome f) (InAll g r) (InStabiliser g r s) scan.general (all_is_stabiliser s high not)).0 is.general)
+        ((list_of_same_set (SameModulo g) g.ops (IsAtHome f) (FixesEveryPlane g r) (InStabiliser g r s) scan.general (all_is_stabiliser s high not)).0 is.general)
     in_general ops none same (special i k is_special stands only) = absurd (none i k stands)
 
     pub scan_list : (ops : List Motion) → GivesAt g r f scan s ops → IsListOf (SameModulo g) g.ops (IsAtHome f) (InStabiliser g r s) ops

@@ -6,7 +6,7 @@ use Rattle.symmetry.specs.Vectors.{Vector, origin, plus, minus, multiple, opposi
 use Rattle.symmetry.specs.Motions.{Motion, Point}
 use Rattle.symmetry.specs.Planes.{Height}
 use Rattle.symmetry.specs.Sizes.{IsVectorWithin}
-use Rattle.symmetry.specs.Groups.{Listing, IsInLattice, InStabiliser, InAll}
+use Rattle.symmetry.specs.Groups.{Listing, IsInLattice, InStabiliser, FixesEveryPlane}
 
 -- the plane lattice: the members t of L with (hkl).t = 0
 abbrev pub InPlaneLattice : Listing → Vector → Vector → Type 0
@@ -32,6 +32,10 @@ pub record Basis : Type 0 where
 abbrev pub combination : Basis → Vector → Vector
 combination f c = plus (plus (multiple c.x f.a) (multiple c.y f.b)) (multiple c.z f.tau)
 
+-- a, b and the normal of the planes are right-handed
+abbrev pub IsRightHanded : Vector → Basis → Type 0
+IsRightHanded r f = (c : ℤ) × (pos 0 <ℤ c) × (cross f.a f.b ≡ multiple c r)
+
 -- a, b and tau are a frame of G and (hkl)
 pub record IsFrame (g : Listing) (r : Vector) (f : Basis) : Type 0 where
   pub spans : (t : Vector) → IsInLattice g t → (c : Vector) × (combination f c ≡ t)
@@ -40,7 +44,7 @@ pub record IsFrame (g : Listing) (r : Vector) (f : Basis) : Type 0 where
   pub a_in_plane : dot r f.a ≡ pos 0
   pub b_in_plane : dot r f.b ≡ pos 0
   pub tau_above : pos 0 <ℤ dot r f.tau
-  pub right_handed : (c : ℤ) × (pos 0 <ℤ c) × (cross f.a f.b ≡ multiple c r)
+  pub right_handed : IsRightHanded r f
 
 -- a frame is skewed when a scanning operation takes a, b or tau to a combination with a coefficient above 500 in size
 pub record IsSkewed (g : Listing) (r : Vector) (f : Basis) : Type 0 where
@@ -71,7 +75,7 @@ mean_of r tau ops = record { at = total_up r tau ops; over = UNIT *ℤ pos (leng
 
 -- a height where some member maps the plane to itself that does not map every plane to itself
 abbrev pub IsSpecial : Listing → Vector → Height → Type 0
-IsSpecial g r s = (m : Motion) × InStabiliser g r s m × ¬ (InAll g r m)
+IsSpecial g r s = (m : Motion) × InStabiliser g r s m × ¬ (FixesEveryPlane g r m)
 
 -- translations that differ by a vector of the plane lattice, and one matrix
 pub record DiffersInPlane (g : Listing) (r : Vector) (m n : Motion) : Type 0 where

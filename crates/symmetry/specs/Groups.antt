@@ -60,14 +60,14 @@ pub record IsListedGroup (g : Listing) : Type 0 where
 abbrev pub InStabiliser : Listing → Vector → Height → Motion → Type 0
 InStabiliser g r s m = IsMember g m × KeepsPlane r s m
 
--- All: the members that map every plane of the orientation to itself
-abbrev pub InAll : Listing → Vector → Motion → Type 0
-InAll g r m = IsMember g m × ((s : Height) → IsHeight s → KeepsPlane r s m)
+-- the members that map every plane of the orientation to itself
+abbrev pub FixesEveryPlane : Listing → Vector → Motion → Type 0
+FixesEveryPlane g r m = IsMember g m × ((s : Height) → IsHeight s → KeepsPlane r s m)
 
 -- RowStab(p/q), the same as rows say it
 abbrev pub InRowStabiliser : Listing → Vector → Height → Motion → Type 0
 InRowStabiliser g r s m = IsMember g m × (KeepsRow r m ⊎ TurnsRow r s m)
 
--- RowAll
-abbrev pub InRowAll : Listing → Vector → Motion → Type 0
-InRowAll g r m = IsMember g m × KeepsRow r m
+-- the same as rows say it
+abbrev pub FixesEveryPlaneByRow : Listing → Vector → Motion → Type 0
+FixesEveryPlaneByRow g r m = IsMember g m × KeepsRow r m

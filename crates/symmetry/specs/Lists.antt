@@ -3,7 +3,7 @@ use Rattle.std.specs.Prelude.{◌≡◌, ℕ, ◌<◌, List, [], ◌∷◌, leng
 use Rattle.symmetry.specs.Motions.{Motion, identity}
 use Rattle.symmetry.specs.Vectors.{Vector}
 use Rattle.symmetry.specs.Groups.{Listing, IsMember, SameModulo}
-use Rattle.symmetry.specs.Frames.{DiffersInPlane, KeepsOrientation}
+use Rattle.symmetry.specs.Frames.{Basis, DiffersInPlane, IsAtHome, KeepsOrientation}
 
 -- the motion at a place of a list
 abbrev pub motion_at : List Motion → ℕ → Motion
@@ -35,6 +35,10 @@ pub record IsListOf (Same : Motion → Motion → Type 0) (ops : List Motion) (I
   pub listed : (k : ℕ) → k < length ms → S (motion_at ms k) × IsHome (motion_at ms k)
   pub once : (m : Motion) → S m → IsHome m → ExactlyOne ms (λ n. m ≡ n)
   pub ordered : (j k : ℕ) → j < k → k < length ms → ComesBefore Same ops (motion_at ms j) (motion_at ms k)
+
+-- the same for a set of motions of the listed group, in a frame
+abbrev pub IsHomeList : Listing → Basis → (Motion → Type 0) → List Motion → Type 0
+IsHomeList g f S ms = IsListOf (SameModulo g) g.ops (IsAtHome f) S ms
 
 -- the list lists the set modulo the plane lattice
 pub record ListsInPlane (g : Listing) (r : Vector) (S : Motion → Type 0) (ms : List Motion) : Type 0 where

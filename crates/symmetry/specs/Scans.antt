@@ -5,9 +5,9 @@ use Rattle.fractions.specs.Fraction.{IsInLowestTerms, SameFraction}
 use Rattle.symmetry.specs.Vectors.{Vector, dot, multiple, opposite}
 use Rattle.symmetry.specs.Motions.{Motion, followed_by, translation}
 use Rattle.symmetry.specs.Planes.{Height, IsHeight}
-use Rattle.symmetry.specs.Groups.{Listing, InAll, InStabiliser, SameModulo}
+use Rattle.symmetry.specs.Groups.{Listing, FixesEveryPlane, InStabiliser}
 use Rattle.symmetry.specs.Frames.{Basis, DiffersInPlane, IsAtHome, IsSpecial}
-use Rattle.symmetry.specs.Lists.{IsListOf, motion_at}
+use Rattle.symmetry.specs.Lists.{IsHomeList, motion_at}
 
 -- the height s + k d, where the period d is counted in parts
 abbrev pub raised_height : ℤ → ℤ → Height → Height
@@ -59,8 +59,8 @@ pub record IsScan (g : Listing) (r : Vector) (f : Basis) (scan : Scan) : Type 0 
   pub in_period : All (IsInPeriod (dot r f.tau)) (heights_of scan.special)
   pub rising : AllPairs IsLower (heights_of scan.special)
   pub classes : (s : Height) → IsHeight s → IsInOneClass g r (dot r f.tau) scan.special s
-  pub general : IsListOf (SameModulo g) g.ops (IsAtHome f) (InAll g r) scan.general
-  pub lists : All (λ (h : SpecialHeight). IsListOf (SameModulo g) g.ops (IsAtHome f) (InStabiliser g r h.height) h.ops) scan.special
+  pub general : IsHomeList g f (FixesEveryPlane g r) scan.general
+  pub lists : All (λ (h : SpecialHeight). IsHomeList g f (InStabiliser g r h.height) h.ops) scan.special
 
 -- first the translation by -t, then the motion, then the translation by t
 abbrev pub conjugated : Vector → Motion → Motion

@@ -3,9 +3,9 @@ ghost use Rattle.std.specs.Prelude.{◌↔◌, ℕ, ℤ, List};
 ghost use Rattle.symmetry.specs.Vectors.{Vector};
 ghost use Rattle.symmetry.specs.Motions.{Motion};
 ghost use Rattle.symmetry.specs.Planes.{Height};
-ghost use Rattle.symmetry.specs.Groups.{InAll, InStabiliser, IsGroup, Listing, SameModulo};
-ghost use Rattle.symmetry.specs.Frames.{Basis, IsAtHome, IsFrame, IsPeriod, IsSkewed, IsSpecial};
-ghost use Rattle.symmetry.specs.Lists.{AreScanning, IsListOf};
+ghost use Rattle.symmetry.specs.Groups.{FixesEveryPlane, InStabiliser, IsGroup, Listing, SameModulo};
+ghost use Rattle.symmetry.specs.Frames.{Basis, IsFrame, IsPeriod, IsSkewed, IsSpecial};
+ghost use Rattle.symmetry.specs.Lists.{AreScanning, IsHomeList};
 ghost use Rattle.symmetry.specs.Scans.{IsInOneClass, IsScan, Scan, SpecialHeight};
 ghost use Rattle.symmetry.specs.Orbits.{AreInOneOrbit, AreOrbitNumbers, IsPlaneCount};
 ghost use Rattle.symmetry.specs.Listings.{AreAlike};
@@ -36,11 +36,11 @@ pub fn alike_frames()
 pub fn alike_lists()
     ensures scanning { (g h : Listing) → AreAlike g h → (r : Vector) (ms : List Motion) → AreScanning g r ms ↔ AreScanning h r ms }
     ensures stabiliser { (g h : Listing) → AreAlike g h → (r : Vector) (f : Basis) (s : Height) (ms : List Motion) →
-        IsListOf (SameModulo g) g.ops (IsAtHome f) (InStabiliser g r s) ms
-        ↔ IsListOf (SameModulo h) h.ops (IsAtHome f) (InStabiliser h r s) ms }
+        IsHomeList g f (InStabiliser g r s) ms
+        ↔ IsHomeList h f (InStabiliser h r s) ms }
     ensures all { (g h : Listing) → AreAlike g h → (r : Vector) (f : Basis) (ms : List Motion) →
-        IsListOf (SameModulo g) g.ops (IsAtHome f) (InAll g r) ms
-        ↔ IsListOf (SameModulo h) h.ops (IsAtHome f) (InAll h r) ms }
+        IsHomeList g f (FixesEveryPlane g r) ms
+        ↔ IsHomeList h f (FixesEveryPlane h r) ms }
 {}
 
 /// Each height is in the same class, and a scan of the one is a scan of the other.

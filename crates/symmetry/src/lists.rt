@@ -3,26 +3,27 @@ ghost use Rattle.std.specs.Prelude.{◌≡◌, ◌↔◌, List, ⊤};
 ghost use Rattle.symmetry.specs.Vectors.{Vector};
 ghost use Rattle.symmetry.specs.Motions.{Motion};
 ghost use Rattle.symmetry.specs.Planes.{Height, IsCoprime, IsHeight};
-ghost use Rattle.symmetry.specs.Groups.{InAll, InRowAll, InRowStabiliser, InStabiliser, IsGroup, Listing, SameModulo};
+ghost use Rattle.symmetry.specs.Groups.{FixesEveryPlane, FixesEveryPlaneByRow, InRowStabiliser, InStabiliser, IsGroup, Listing, SameModulo};
 ghost use Rattle.symmetry.specs.Frames.{Basis, IsAtHome, IsFrame};
-ghost use Rattle.symmetry.specs.Lists.{HasOneAtHome, IsListOf, ListsInPlane};
+ghost use Rattle.symmetry.specs.Lists.{HasOneAtHome, IsHomeList, ListsInPlane};
 
 /// Two lists of the stabiliser of a plane, or of the motions that map every plane to itself, are equal: a set has one list.
 pub fn lists_agree()
     ensures stabiliser { (g : Listing) (r : Vector) (f : Basis) (s : Height) (ms : List Motion) (ns : List Motion) →
-        IsListOf (SameModulo g) g.ops (IsAtHome f) (InStabiliser g r s) ms →
-        IsListOf (SameModulo g) g.ops (IsAtHome f) (InStabiliser g r s) ns → ms ≡ ns }
+        IsHomeList g f (InStabiliser g r s) ms →
+        IsHomeList g f (InStabiliser g r s) ns → ms ≡ ns }
     ensures all { (g : Listing) (r : Vector) (f : Basis) (ms : List Motion) (ns : List Motion) →
-        IsListOf (SameModulo g) g.ops (IsAtHome f) (InAll g r) ms →
-        IsListOf (SameModulo g) g.ops (IsAtHome f) (InAll g r) ns → ms ≡ ns }
+        IsHomeList g f (FixesEveryPlane g r) ms →
+        IsHomeList g f (FixesEveryPlane g r) ns → ms ≡ ns }
 {}
 
 /// The stabiliser, and the motions that map every plane to itself, have the lists of the sets that rows tell.
 pub fn lists_by_rows()
     ensures stabiliser { (g : Listing) (r : Vector) (f : Basis) (s : Height) (ms : List Motion) → IsGroup g → IsCoprime r → IsHeight s →
-        IsListOf (SameModulo g) g.ops (IsAtHome f) (InRowStabiliser g r s) ms ↔ IsListOf (SameModulo g) g.ops (IsAtHome f) (InStabiliser g r s) ms }
+        IsHomeList g f (InRowStabiliser g r s) ms ↔ IsHomeList g f (InStabiliser g r s) ms }
     ensures all { (g : Listing) (r : Vector) (f : Basis) (ms : List Motion) → IsGroup g → IsCoprime r →
-        IsListOf (SameModulo g) g.ops (IsAtHome f) (InRowAll g r) ms ↔ IsListOf (SameModulo g) g.ops (IsAtHome f) (InAll g r) ms }
+        IsHomeList g f (FixesEveryPlaneByRow g r) ms
+        ↔ IsHomeList g f (FixesEveryPlane g r) ms }
 {}
 
 /// In a frame each motion differs by the plane lattice from exactly one motion at home, which is in the stabiliser of a plane,
@@ -31,16 +32,17 @@ pub fn one_is_at_home()
     ensures motion { (g : Listing) (r : Vector) (f : Basis) → IsFrame g r f → (m : Motion) → HasOneAtHome g r (IsAtHome f) (λ _. ⊤) m }
     ensures stabiliser { (g : Listing) (r : Vector) (f : Basis) (s : Height) → IsFrame g r f → (m : Motion) → InStabiliser g r s m →
         HasOneAtHome g r (IsAtHome f) (InStabiliser g r s) m }
-    ensures all { (g : Listing) (r : Vector) (f : Basis) → IsFrame g r f → (m : Motion) → InAll g r m →
-        HasOneAtHome g r (IsAtHome f) (InAll g r) m }
+    ensures all { (g : Listing) (r : Vector) (f : Basis) → IsFrame g r f → (m : Motion) →
+        FixesEveryPlane g r m → HasOneAtHome g r (IsAtHome f) (FixesEveryPlane g r) m }
 {}
 
 /// So the lists of these sets list them modulo the plane lattice.
 pub fn lists_in_plane()
     ensures stabiliser { (g : Listing) (r : Vector) (f : Basis) (s : Height) (ms : List Motion) → IsFrame g r f →
-        IsListOf (SameModulo g) g.ops (IsAtHome f) (InStabiliser g r s) ms → ListsInPlane g r (InStabiliser g r s) ms }
+        IsHomeList g f (InStabiliser g r s) ms → ListsInPlane g r (InStabiliser g r s) ms }
     ensures all { (g : Listing) (r : Vector) (f : Basis) (ms : List Motion) → IsFrame g r f →
-        IsListOf (SameModulo g) g.ops (IsAtHome f) (InAll g r) ms → ListsInPlane g r (InAll g r) ms }
+        IsHomeList g f (FixesEveryPlane g r) ms →
+        ListsInPlane g r (FixesEveryPlane g r) ms }
 {}
 
 /// The stabiliser has at most one member at home for each listed operation, so the order of the listed operations is an

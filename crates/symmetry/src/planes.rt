@@ -3,7 +3,7 @@ ghost use Rattle.std.specs.Prelude.{◌⊎◌, ◌↔◌, pos, negsuc};
 ghost use Rattle.symmetry.specs.Vectors.{Vector};
 ghost use Rattle.symmetry.specs.Motions.{Motion};
 ghost use Rattle.symmetry.specs.Planes.{Height, IsHeight, IsCoprime, KeepsPlane, KeepsRow, TurnsRow, IsInvertible, MapsPlane, MovesRow};
-ghost use Rattle.symmetry.specs.Groups.{IsMember, Listing, IsGroup, InStabiliser, InRowStabiliser, InAll, InRowAll};
+ghost use Rattle.symmetry.specs.Groups.{IsMember, Listing, IsGroup, InStabiliser, InRowStabiliser, FixesEveryPlane, FixesEveryPlaneByRow};
 ghost use Rattle.symmetry.specs.Frames.{IsSpecial};
 
 /// The plane theorem: a motion whose matrix has an inverse of whole entries takes every point of one plane to a point of
@@ -24,7 +24,8 @@ pub fn plane_by_row()
 pub fn stabiliser_by_rows()
     ensures each { (g : Listing) (r : Vector) (s : Height) (m : Motion) → IsGroup g → IsCoprime r → IsHeight s →
         InStabiliser g r s m ↔ InRowStabiliser g r s m }
-    ensures every { (g : Listing) (r : Vector) (m : Motion) → IsGroup g → IsCoprime r → InAll g r m ↔ InRowAll g r m }
+    ensures every { (g : Listing) (r : Vector) (m : Motion) → IsGroup g → IsCoprime r →
+        FixesEveryPlane g r m ↔ FixesEveryPlaneByRow g r m }
 {}
 
 /// A height is special exactly where some member turns the row, (hkl) W = -(hkl), and has twice the height as (hkl).w.

@@ -3,9 +3,9 @@ ghost use Rattle.std.specs.Prelude.{◌≡◌, ℕ, ℤ, List, All, AllPairs};
 ghost use Rattle.symmetry.specs.Vectors.{Vector};
 ghost use Rattle.symmetry.specs.Motions.{Motion};
 ghost use Rattle.symmetry.specs.Planes.{Height, IsCoprime, IsHeight};
-ghost use Rattle.symmetry.specs.Groups.{InStabiliser, IsGroup, Listing, SameModulo};
-ghost use Rattle.symmetry.specs.Frames.{Basis, IsAtHome, IsFrame};
-ghost use Rattle.symmetry.specs.Lists.{IsListOf, ListsInPlane};
+ghost use Rattle.symmetry.specs.Groups.{InStabiliser, IsGroup, Listing};
+ghost use Rattle.symmetry.specs.Frames.{Basis, IsFrame};
+ghost use Rattle.symmetry.specs.Lists.{IsHomeList, ListsInPlane};
 ghost use Rattle.symmetry.specs.Scans.{GivesAt, IsInPeriod, IsLower, IsScan, Scan, SpecialHeight, StandsAt, heights_of};
 
 /// Each height stands over at most one of the listed heights, by one number of periods.
@@ -20,7 +20,7 @@ pub fn stands_once()
 pub fn scan_gives()
     ensures list { (g : Listing) (r : Vector) (f : Basis) (scan : Scan) (s : Height) (ops : List Motion) →
         IsGroup g → IsCoprime r → IsFrame g r f → IsScan g r f scan → IsHeight s → GivesAt g r f scan s ops →
-        IsListOf (SameModulo g) g.ops (IsAtHome f) (InStabiliser g r s) ops }
+        IsHomeList g f (InStabiliser g r s) ops }
     ensures plane { (g : Listing) (r : Vector) (f : Basis) (scan : Scan) (s : Height) (ops : List Motion) →
         IsGroup g → IsCoprime r → IsFrame g r f → IsScan g r f scan → IsHeight s → GivesAt g r f scan s ops →
         ListsInPlane g r (InStabiliser g r s) ops }

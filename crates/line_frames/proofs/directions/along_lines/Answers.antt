@@ -5,7 +5,7 @@ use Rattle.fractions.specs.declared.part.TheConstants.{UNIT}
 use Rattle.integers.proofs.Coded.{code_is, code_within}
 use Rattle.integers.proofs.Ring.{IsWithin-more}
 use Rattle.integers.proofs.Solver.{Expr, Expr.{var, num, ◌⊝◌, ◌⊗◌}}
-use Rattle.motions.specs.declared.index.TheConstants.{INDEX}
+use Rattle.motions.specs.declared.miller.TheConstants.{INDEX}
 use Rattle.symmetry.proofs.VectorLaws.{vector_path}
 use Rattle.line_frames.proofs.directions.along_lines.Goals as goal
 

@@ -1,7 +1,7 @@
 -- Where k is 0, h is not.
 use Rattle.std.proofs.Common.{◌≡◌, pos, ◌<ℤ◌, arith, lit<}
 use Rattle.std.specs.Prelude.{unsigned_abs}
-use Rattle.motions.specs.declared.index.TheConstants.{INDEX}
+use Rattle.motions.specs.declared.miller.TheConstants.{INDEX}
 use Rattle.std.proofs.lemmas.Int.{ints}
 use Rattle.integers.proofs.Coded.{again_is}
 use Rattle.motions.specs.Views.{row_of}

@@ -4,7 +4,7 @@ use Rattle.std.specs.Prelude.{unsigned_abs}
 use Rattle.std.proofs.lemmas.Int.{ints}
 use Rattle.integers.proofs.Coded.{code_fits, code_is, AllWithinBounds}
 use Rattle.integers.proofs.Solver.{Expr, Expr.{var, ◌⊕◌, ◌⊗◌}}
-use Rattle.motions.specs.declared.index.TheConstants.{INDEX}
+use Rattle.motions.specs.declared.miller.TheConstants.{INDEX}
 use Rattle.motions.specs.declared.miller.Miller.{Miller}
 use Rattle.motions.specs.Views.{parts}
 use Rattle.symmetry.specs.Sizes.{IsVectorWithin}

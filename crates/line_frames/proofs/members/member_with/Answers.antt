@@ -2,7 +2,7 @@
 use Rattle.std.proofs.Common.{◌*◌, subst, sym, lit<}
 use Rattle.std.specs.Prelude.{unsigned_abs}
 use Rattle.fractions.specs.declared.part.TheConstants.{UNIT}
-use Rattle.motions.specs.declared.index.TheConstants.{INDEX}
+use Rattle.motions.specs.declared.miller.TheConstants.{INDEX}
 use Rattle.symmetry.specs.Groups.{IsInLattice}
 use Rattle.integers.proofs.Coded.{again, again_is}
 use Rattle.motions.specs.Views.{parts, row_of}

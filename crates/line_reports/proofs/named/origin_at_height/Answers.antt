@@ -2,7 +2,7 @@ use Rattle.std.proofs.Common.{pos, ◌+ℤ◌, ◌*ℤ◌, ℤ, ap, ◌∙◌}
 use Rattle.fractions.specs.declared.part.TheConstants.{UNIT}
 use Rattle.fractions.specs.FractionOf.{fraction_of}
 use Rattle.fractions.specs.LowestTerms.{lowest_terms}
-use Rattle.friezes.specs.declared.edge.TheConstants.{GRID}
+use Rattle.friezes.specs.declared.found_frieze.TheConstants.{GRID}
 use Rattle.motions.specs.PlaneMatrices.{Pair}
 use Rattle.plane_motions.specs.PlaneMotions.{parts2}
 use Rattle.line_reports.proofs.named.origin_at_height.Goals as goal

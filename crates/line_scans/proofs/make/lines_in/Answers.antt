@@ -2,7 +2,7 @@
 use Rattle.std.proofs.Common.{ℤ, pos, map, sym, subst, lit<}
 use Rattle.std.specs.Prelude.{All, unsigned_abs}
 use Rattle.motions.specs.Views.{motion_of, row_of}
-use Rattle.motions.specs.declared.index.TheConstants.{INDEX}
+use Rattle.motions.specs.declared.miller.TheConstants.{INDEX}
 use Rattle.integers.proofs.Coded.{again_is}
 use Rattle.closure.specs.Groups.{group_listing}
 use Rattle.closure.proofs.OwnLattice.{own_listing}

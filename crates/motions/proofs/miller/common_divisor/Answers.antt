@@ -2,7 +2,7 @@
 use Rattle.std.proofs.Common.{◌≡◌, ◌≤◌, ◌∙◌, ap, subst, arith, unsigned_abs, w64, to_z}
 use Rattle.std.proofs.lemmas.Int.{ints, to_z-of_z}
 use Rattle.motions.specs.Divisors.{IsGreatestDivisor}
-use Rattle.motions.specs.declared.index.TheConstants.{INDEX}
+use Rattle.motions.specs.declared.miller.TheConstants.{INDEX}
 use Rattle.motions.proofs.Indices.{row, greatest_of_three, greatest_within}
 use Rattle.motions.proofs.miller.common_divisor.Goals as goal
 use Rattle.motions.proofs.miller.common_divisor.Goals.{After-greatest_common_divisor}

@@ -1,5 +1,5 @@
 use Rattle.std.proofs.Common.{map, refl}
-use Rattle.quotient.specs.Kind.{kind_of}
+use Rattle.quotient.specs.Modulo.{modulo}
 use Rattle.quotient.specs.Lists.{IsListed}
 use Rattle.quotient.proofs.Items.{All-item, all_items, more_items}
 use Rattle.quotient.proofs.Positions.{first_item}
@@ -13,7 +13,7 @@ has_product-requires-clause-second g c =
 pub returns-then-not-has_product : goal.returns-then-not-has_product
 returns-then-not-has_product g c =
     let M = g.Q.M.Motion in
-    let K = kind_of M.meaning M.product M.one (g.Q.Quotient.IsShift c.args.q.now) in
+    let K = modulo M (g.Q.Quotient.IsShift c.args.q.now) in
     let l = map M.meaning c.args.list.now in
     first_item K M.meaning c.args.list.now (λ n. IsListed K l (M.product (M.meaning c.args.m.now) n)) c.loop-j.j c.index-list-j.result c.loop-j-test.true c.index-list-j.is c.loop-j.invariant
     (λ h. let t = c.if-not-has_product.ensures.1 h in cc)
@@ -21,7 +21,7 @@ returns-then-not-has_product g c =
 pub loop-j-preserved : goal.loop-j-preserved
 loop-j-preserved g c =
     let M = g.Q.M.Motion in
-    let K = kind_of M.meaning M.product M.one (g.Q.Quotient.IsShift c.args.q.now) in
+    let K = modulo M (g.Q.Quotient.IsShift c.args.q.now) in
     let l = map M.meaning c.args.list.now in
     more_items M.meaning c.args.list.now (λ n. IsListed K l (M.product (M.meaning c.args.m.now) n)) M.one c.loop-j.j c.index-list-j.result c.loop-j-test.true c.index-list-j.is c.loop-j.invariant
     (c.if-not-has_product.ensures.0 refl)
@@ -29,6 +29,6 @@ loop-j-preserved g c =
 pub returns : goal.returns
 returns g c =
     let M = g.Q.M.Motion in
-    let K = kind_of M.meaning M.product M.one (g.Q.Quotient.IsShift c.args.q.now) in
+    let K = modulo M (g.Q.Quotient.IsShift c.args.q.now) in
     let l = map M.meaning c.args.list.now in
     all_items M.meaning c.args.list.now (λ n. IsListed K l (M.product (M.meaning c.args.m.now) n)) M.one c.loop-j.j c.loop-j-test.false c.loop-j.invariant

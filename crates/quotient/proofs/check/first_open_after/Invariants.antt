@@ -1,5 +1,5 @@
 use Rattle.std.proofs.Common.{ℕ, ◌<◌, get_or, map}
-use Rattle.quotient.specs.Kind.{kind_of}
+use Rattle.quotient.specs.Modulo.{modulo}
 use Rattle.quotient.specs.Lists.{IsListed}
 use Rattle.quotient.proofs.check.first_open_after.Given as goal
 
@@ -7,5 +7,5 @@ use Rattle.quotient.proofs.check.first_open_after.Given as goal
 abbrev pub invariant-loop-j : goal.invariant-loop-j
 invariant-loop-j g l =
     let M = g.Q.M.Motion in
-    let K = kind_of M.meaning M.product M.one (g.Q.Quotient.IsShift l.q) in
+    let K = modulo M (g.Q.Quotient.IsShift l.q) in
     (k : ℕ) → k < l.j → IsListed K (map M.meaning l.list) (M.product (M.meaning l.m) (get_or (map M.meaning l.list) k M.one))

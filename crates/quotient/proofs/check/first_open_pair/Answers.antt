@@ -1,5 +1,5 @@
 use Rattle.std.proofs.Common.{Contains, map}
-use Rattle.quotient.specs.Kind.{kind_of}
+use Rattle.quotient.specs.Modulo.{modulo}
 use Rattle.quotient.specs.Lists.{IsListed}
 use Rattle.quotient.proofs.Items.{All-item, all_items, more_items}
 use Rattle.quotient.proofs.Positions.{first_pair}
@@ -13,13 +13,13 @@ first_open_after-requires-clause-first g c =
 pub returns-in-Some : goal.returns-in-Some
 returns-in-Some g c =
     let M = g.Q.M.Motion in
-    let K = kind_of M.meaning M.product M.one (g.Q.Quotient.IsShift c.args.q.now) in
+    let K = modulo M (g.Q.Quotient.IsShift c.args.q.now) in
     first_pair K M.meaning c.args.list.now c.loop-i.i c.in-Some.j c.index-list-i.result c.loop-i-test.true c.index-list-i.is c.loop-i.invariant c.in-Some.ensures
 
 pub loop-i-preserved : goal.loop-i-preserved
 loop-i-preserved g c =
     let M = g.Q.M.Motion in
-    let K = kind_of M.meaning M.product M.one (g.Q.Quotient.IsShift c.args.q.now) in
+    let K = modulo M (g.Q.Quotient.IsShift c.args.q.now) in
     let l = map M.meaning c.args.list.now in
     more_items M.meaning c.args.list.now (λ m. (n : M.Meaning) → Contains l n → IsListed K l (M.product m n)) M.one c.loop-i.i c.index-list-i.result c.loop-i-test.true c.index-list-i.is c.loop-i.invariant
     c.in_default.ensures
@@ -27,6 +27,6 @@ loop-i-preserved g c =
 pub returns : goal.returns
 returns g c =
     let M = g.Q.M.Motion in
-    let K = kind_of M.meaning M.product M.one (g.Q.Quotient.IsShift c.args.q.now) in
+    let K = modulo M (g.Q.Quotient.IsShift c.args.q.now) in
     let l = map M.meaning c.args.list.now in
     λ m n h. all_items M.meaning c.args.list.now (λ m. (n : M.Meaning) → Contains l n → IsListed K l (M.product m n)) M.one c.loop-i.i c.loop-i-test.false c.loop-i.invariant m h n

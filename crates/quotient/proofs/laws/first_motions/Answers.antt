@@ -1,5 +1,6 @@
 use Rattle.std.proofs.Common.{map}
-use Rattle.quotient.specs.Kind.{IsSame, kind_of}
+use Rattle.quotient.specs.Kind.{IsSame}
+use Rattle.quotient.specs.Modulo.{modulo}
 use Rattle.quotient.specs.Lists.{AreFirst}
 use Rattle.quotient.proofs.Firsts.{AreFirst-map, firsts_apart, firsts_in_order}
 use Rattle.quotient.proofs.Parts.{firsts_are_listed, group_of_firsts}
@@ -8,7 +9,7 @@ use Rattle.quotient.proofs.laws.first_motions.Goals as goal
 pub returns : goal.returns
 returns g c =
     let M = g.Q.M.Motion in
-    let K = kind_of M.meaning M.product M.one (g.Q.Quotient.IsShift c.args.q.now) in
+    let K = modulo M (g.Q.Quotient.IsShift c.args.q.now) in
     let list = map M.meaning c.args.list.now in
     let firsts = map M.meaning c.args.firsts.now in
     let are : AreFirst (IsSame K) list firsts = AreFirst-map M.meaning c.args.list.now c.args.firsts.now c.requires in

@@ -1,8 +1,8 @@
-use Rattle.quotient.specs.Kind.{kind_of}
+use Rattle.quotient.specs.Modulo.{modulo}
 use Rattle.quotient.proofs.Sameness.{same_products}
 use Rattle.quotient.proofs.laws.products_respect_sameness.Goals as goal
 
 pub returns : goal.returns
 returns g c =
     let M = g.Q.M.Motion in
-    same_products (kind_of M.meaning M.product M.one (g.Q.Quotient.IsShift c.args.q.now)) g.met.Q.M.Motion.monoid (g.met.Q.Quotient.shifts c.args.q.now)
+    same_products (modulo M (g.Q.Quotient.IsShift c.args.q.now)) g.met.Q.M.Motion.monoid (g.met.Q.Quotient.shifts c.args.q.now)

@@ -1,5 +1,5 @@
 use Rattle.std.proofs.Common.{[], ◌∷◌, ◌++◌, unsigned_abs, subst, sym, ◌∙◌}
-use Rattle.quotient.specs.Kind.{kind_of}
+use Rattle.quotient.specs.Modulo.{modulo}
 use Rattle.quotient.specs.Lists.{AreHomes}
 use Rattle.quotient.proofs.HomeLists.{AreHomes-none, AreHomes-push, AreHomes-same, listed_by_homes}
 use Rattle.quotient.proofs.Items.{All-item}
@@ -11,7 +11,7 @@ use Rattle.quotient.proofs.lists.distinct.Goals.{then-not-contains+in_ok-push+in
 pub loop-m-init : goal.loop-m-init
 loop-m-init g c =
     let M = g.Q.M.Motion in
-    let K = kind_of M.meaning M.product M.one (g.Q.Quotient.IsShift c.args.q.now) in
+    let K = modulo M (g.Q.Quotient.IsShift c.args.q.now) in
     record {
       first = KeepsFirst-none K M.meaning (M.MovesWithin (unsigned_abs g.Q.Quotient.REACH)) c.args.list.now c.new-kept.result.items c.new-kept.ensures.items;
       homes = AreHomes-none M.meaning (g.Q.Quotient.home_of c.args.q.now) _ _ c.new-kept.ensures.items c.new-homes.ensures.items;
@@ -26,7 +26,7 @@ pub loop-m-preserved : goal.loop-m-preserved
 loop-m-preserved g c =
     let M = g.Q.M.Motion in
     let q = c.args.q.now in
-    let K = kind_of M.meaning M.product M.one (g.Q.Quotient.IsShift q) in
+    let K = modulo M (g.Q.Quotient.IsShift q) in
     let home = g.Q.Quotient.home_of q in
     let P = M.MovesWithin (unsigned_abs g.Q.Quotient.REACH) in
     let list = c.args.list.now in
@@ -56,5 +56,5 @@ loop-m-preserved g c =
 pub returns : goal.returns
 returns g c =
     let M = g.Q.M.Motion in
-    let K = kind_of M.meaning M.product M.one (g.Q.Quotient.IsShift c.args.q.now) in
+    let K = modulo M (g.Q.Quotient.IsShift c.args.q.now) in
     KeepsFirst-all K M.meaning (M.MovesWithin (unsigned_abs g.Q.Quotient.REACH)) c.args.list.now c.loop-m.m-index c.loop-m-test.false c.loop-m.kept.items c.loop-m.invariant.first

@@ -2,7 +2,7 @@ use Rattle.std.proofs.Common.{◌≡◌, ◌∙◌, IsTrue, subst, rules, w64, F
 use Rattle.std.specs.Prelude.{◌↔◌}
 use Rattle.std.proofs.lemmas.Int.{to_z-of_z}
 use Rattle.fractions.specs.declared.part.TheConstants.{UNIT}
-use Rattle.recognition.specs.declared.rod_grid.TheConstants.{ROD_GRID}
+use Rattle.recognition.specs.declared.found_rod.TheConstants.{ROD_GRID}
 use Rattle.motions.specs.Rationals.{IsMultiple}
 use Rattle.recognition.proofs.rod_pairs.is_close.Goals as goal
 

@@ -1,6 +1,6 @@
 use Rattle.std.specs.Prelude.{unsigned_abs}
 use Rattle.fractions.specs.declared.part.TheConstants.{UNIT}
-use Rattle.recognition.specs.declared.rod_grid.TheConstants.{ROD_GRID}
+use Rattle.recognition.specs.declared.found_rod.TheConstants.{ROD_GRID}
 use Rattle.std.proofs.Common.{◌*ℤ◌, ◌≡◌, ℕ, ◌%◌, ◌∙◌, sym, ap, arith, w64, FitsSigned, IsTrue, nat_eq}
 use Rattle.std.proofs.lemmas.Int.{to_z-of_z}
 use Rattle.recognition.proofs.Multiples.{multiple_is}

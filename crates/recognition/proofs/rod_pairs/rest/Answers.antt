@@ -4,7 +4,7 @@ use Rattle.fractions.specs.declared.part.TheConstants.{UNIT}
 use Rattle.integers.specs.Size.{IsWithin}
 use Rattle.integers.proofs.Solver.{Expr, Expr.{var, num, ◌⊝◌, ◌⊗◌}}
 use Rattle.integers.proofs.Coded.{coded, code_fits, code_is, is_bounded}
-use Rattle.recognition.specs.declared.rod_grid.TheConstants.{ROD_GRID}
+use Rattle.recognition.specs.declared.found_rod.TheConstants.{ROD_GRID}
 use Rattle.recognition.proofs.rod_pairs.rest.Goals as goal
 
 abbrev bounds : List ℕ

@@ -5,7 +5,7 @@ use Rattle.integers.proofs.Solver.{Expr, Expr.{var, ◌⊕◌, ◌⊗◌}}
 use Rattle.integers.proofs.Coded.{code_fits, code_is, code_within, AllWithinBounds}
 use Rattle.symmetry.specs.Vectors.{dot, Vector}
 use Rattle.motions.specs.Views.{vector_of}
-use Rattle.motions.specs.declared.index.TheConstants.{INDEX}
+use Rattle.motions.specs.declared.miller.TheConstants.{INDEX}
 use Rattle.reduction.specs.Bounds.{largest_first}
 use Rattle.reduction.proofs.adapted.height_of.Goals as goal
 

@@ -7,7 +7,7 @@ use Rattle.integers.proofs.Coded.{again, again_is, AllWithinBounds}
 use Rattle.integers.proofs.Solver.{Expr, Expr.{var, ◌⊕◌, ◌⊗◌}}
 use Rattle.symmetry.specs.Vectors.{Vector, cross, dot}
 use Rattle.motions.specs.Views.{vector_of}
-use Rattle.motions.specs.declared.index.TheConstants.{INDEX}
+use Rattle.motions.specs.declared.miller.TheConstants.{INDEX}
 use Rattle.reduction.specs.Bounds.{largest_minor, largest_short}
 use Rattle.reduction.proofs.FormPassed.{short_again}
 use Rattle.plane_lattice.proofs.Wide.{wide}

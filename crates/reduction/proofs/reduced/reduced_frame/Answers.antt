@@ -3,7 +3,7 @@ use Rattle.std.proofs.Common.{sym, ap, subst, ◌∙◌}
 use Rattle.std.specs.Prelude.{Err}
 use Rattle.symmetry.specs.Frames.{IsFrame, IsSkewed}
 use Rattle.motions.specs.Views.{row_of}
-use Rattle.motions.specs.declared.frame_fault.FrameFault.TheVariants.{NotFrame, Skewed}
+use Rattle.motions.specs.declared.basis.FrameFault.TheVariants.{NotFrame, Skewed}
 use Rattle.closure.specs.Groups.{group_listing}
 use Rattle.closure.proofs.OwnLattice.{own_listing}
 use Rattle.reduction.specs.BasisView.{vectors_of}

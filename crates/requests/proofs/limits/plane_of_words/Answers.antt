@@ -1,7 +1,7 @@
 use Rattle.std.proofs.Common.{rules, ◌≡◌, ◌↔◌}
 use Rattle.std.specs.Prelude.{Err}
 use Rattle.motions.specs.PlaneFaults.{IsPlaneFault}
-use Rattle.motions.specs.declared.plane_fault.PlaneFault.{PlaneFault}
+use Rattle.motions.specs.declared.miller.PlaneFault.{PlaneFault}
 use Rattle.requests.specs.Views.{indices_of}
 use Rattle.requests.proofs.PlaneFaults.{fault_is}
 use Rattle.requests.proofs.limits.plane_of_words.Goals as goal

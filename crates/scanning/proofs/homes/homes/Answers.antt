@@ -1,7 +1,7 @@
 -- Each operation gives one motion.
 use Rattle.std.proofs.Common.{unsigned_abs}
 use Rattle.motions.specs.ListedSizes.{IsSmallWithin}
-use Rattle.closure.specs.declared.limits.TheConstants.{MAX_ENTRY}
+use Rattle.closure.specs.declared.group.TheConstants.{MAX_ENTRY}
 use Rattle.scanning.proofs.ChosenLists.{homes_more, op_has}
 use Rattle.scanning.proofs.SameMotions.{same_all, same_more}
 use Rattle.scanning.proofs.homes.homes.Goals as goal

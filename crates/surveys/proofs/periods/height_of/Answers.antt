@@ -7,7 +7,7 @@ use Rattle.integers.specs.Size.{IsWithin}
 use Rattle.integers.proofs.Coded.{AllWithinBounds, code_fits, code_is}
 use Rattle.integers.proofs.Solver.{Expr, Expr.{var, ◌⊕◌, ◌⊗◌}}
 use Rattle.symmetry.specs.Vectors.{dot}
-use Rattle.motions.specs.declared.index.TheConstants.{INDEX}
+use Rattle.motions.specs.declared.miller.TheConstants.{INDEX}
 use Rattle.motions.specs.declared.miller.Miller.{Miller}
 use Rattle.motions.specs.Views.{part_at}
 use Rattle.closure.specs.Residues.{IsResidue, IsResidueEntry}

@@ -1,4 +1,4 @@
-use Rattle.symmetry.specs.Groups.{InAll, InRowAll, InRowStabiliser, InStabiliser, SameModulo}
+use Rattle.symmetry.specs.Groups.{FixesEveryPlane, FixesEveryPlaneByRow, InRowStabiliser, InStabiliser, SameModulo}
 use Rattle.symmetry.specs.Frames.{IsAtHome}
 use Rattle.symmetry.proofs.PlaneRows.{all_by_row, stabiliser_by_row}
 use Rattle.symmetry.proofs.ListLaws.{list_of_same_set}
@@ -11,5 +11,5 @@ returns-clause-stabiliser c = λ g r f s ms group coprime high.
 
 pub returns-clause-all : goal.returns-clause-all
 returns-clause-all c = λ g r f ms group coprime.
-    list_of_same_set (SameModulo g) g.ops (IsAtHome f) (InRowAll g r) (InAll g r) ms
+    list_of_same_set (SameModulo g) g.ops (IsAtHome f) (FixesEveryPlaneByRow g r) (FixesEveryPlane g r) ms
     (λ m. let by = all_by_row g r m group coprime in (by.1, by.0))

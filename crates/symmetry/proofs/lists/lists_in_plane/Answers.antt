@@ -1,4 +1,4 @@
-use Rattle.symmetry.specs.Groups.{InAll, InStabiliser, SameModulo}
+use Rattle.symmetry.specs.Groups.{FixesEveryPlane, InStabiliser, SameModulo}
 use Rattle.symmetry.specs.Frames.{IsAtHome}
 use Rattle.symmetry.proofs.PlaneLattice.{differs_all, differs_stabiliser}
 use Rattle.symmetry.proofs.HomeLaws.{has_one_at_home}
@@ -11,4 +11,4 @@ returns-clause-stabiliser c = λ g r f s ms frame.
 
 pub returns-clause-all : goal.returns-clause-all
 returns-clause-all c = λ g r f ms frame.
-    lists_in_plane (SameModulo g) g.ops (IsAtHome f) (InAll g r) ms g r (has_one_at_home g r f frame (InAll g r) (differs_all g r))
+    lists_in_plane (SameModulo g) g.ops (IsAtHome f) (FixesEveryPlane g r) ms g r (has_one_at_home g r f frame (FixesEveryPlane g r) (differs_all g r))

@@ -1,5 +1,5 @@
 use Rattle.std.specs.Prelude.{⊤}
-use Rattle.symmetry.specs.Groups.{InAll, InStabiliser}
+use Rattle.symmetry.specs.Groups.{FixesEveryPlane, InStabiliser}
 use Rattle.symmetry.proofs.PlaneLattice.{differs_all, differs_stabiliser}
 use Rattle.symmetry.proofs.HomeLaws.{has_one_at_home}
 use Rattle.symmetry.proofs.lists.one_is_at_home.Goals as goal
@@ -11,4 +11,4 @@ pub returns-clause-stabiliser : goal.returns-clause-stabiliser
 returns-clause-stabiliser c = λ g r f s frame. has_one_at_home g r f frame (InStabiliser g r s) (differs_stabiliser g r s)
 
 pub returns-clause-all : goal.returns-clause-all
-returns-clause-all c = λ g r f frame. has_one_at_home g r f frame (InAll g r) (differs_all g r)
+returns-clause-all c = λ g r f frame. has_one_at_home g r f frame (FixesEveryPlane g r) (differs_all g r)

@@ -4,8 +4,8 @@ use Rattle.std.proofs.lemmas.Int.{ints, to_z-of_z}
 use Rattle.integers.proofs.Coded.{again}
 use Rattle.motions.specs.Divisors.{IsGreatestDivisor}
 use Rattle.motions.specs.PlaneFaults.{IsPlaneFault}
-use Rattle.motions.specs.declared.index.TheConstants.{INDEX}
-use Rattle.motions.specs.declared.plane_fault.PlaneFault.TheVariants.{AllZero, NotCoprime}
+use Rattle.motions.specs.declared.miller.TheConstants.{INDEX}
+use Rattle.motions.specs.declared.miller.PlaneFault.TheVariants.{AllZero, NotCoprime}
 use Rattle.symmetry.specs.Sizes.{IsVectorWithin}
 use Rattle.motions.proofs.Indices.{row, passed, refused, no_fault, coprime_by_greatest, origin_by_greatest}
 use Rattle.motions.proofs.miller.Miller.make.Goals as goal

@@ -12,7 +12,7 @@ use Rattle.symmetry.proofs.FrameLaws.{frame_period}
 use Rattle.motions.specs.BasisView.{basis_of}
 use Rattle.motions.specs.Views.{row_of}
 use Rattle.motions.specs.declared.basis.Basis.{Basis as BasisOfCode}
-use Rattle.motions.specs.declared.frame_fault.FrameFault.TheVariants.{NotFrame, Skewed}
+use Rattle.motions.specs.declared.basis.FrameFault.TheVariants.{NotFrame, Skewed}
 use Rattle.closure.proofs.OwnLattice.{own_fine}
 use Rattle.closure.specs.Groups.{group_listing}
 use Rattle.plane_lattice.specs.Bounds.{largest_period}

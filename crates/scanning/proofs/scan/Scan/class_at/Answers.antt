@@ -7,7 +7,7 @@ use Rattle.integers.proofs.Ring.{IsWithin-more}
 use Rattle.scanning.specs.declared.height.Height.{Height}
 use Rattle.scanning.specs.HeightView.{specials_of}
 use Rattle.scanning.specs.PlaceView.{IsPlaceOf}
-use Rattle.scanning.specs.declared.place.Place.TheVariants.{Special}
+use Rattle.scanning.specs.declared.class.Place.TheVariants.{Special}
 use Rattle.scanning.proofs.Places.{no_level_place, no_rest_place, rest_place}
 use Rattle.scanning.proofs.Shifts.{period_within}
 use Rattle.scanning.proofs.Wide.{wide, wide_is}
