@@ -1,104 +1,29 @@
 // Worked cases, by hand.
-ghost use Rattle.std.specs.Prelude.{All, ◌*◌, unsigned_abs};
+ghost use Rattle.std.specs.Prelude.{◌*◌, unsigned_abs};
 ghost use Rattle.fractions.specs.declared.part.TheConstants.{UNIT};
 ghost use Rattle.symmetry.specs.Sizes.{IsVectorWithin};
-ghost use Rattle.motions.specs.ListedSizes.{IsSmallWithin};
-ghost use Rattle.motions.specs.Views.{motion_of, parts};
+ghost use Rattle.motions.specs.Views.{parts};
 
 use crate::at::rod_at;
 use crate::direction::Direction;
 use crate::frame::{RodBasis, RodFrame};
 use crate::rod::Rod;
-use closure::{Group, GroupError};
+use closure::Group;
 use fractions::{Part, UNIT};
-use motions::{FrameFault, Listed, Motion3, PlaneFault};
+use motions::{FrameFault, Motion3, PlaneFault};
+use sample_groups::{
+    EDGE, FOURFOLD_SCREW, HALF, IDENTITY, INVERSION, NONE, ORIGIN, p_1, p_3, p4_1,
+};
 use std::alloc::Global;
 use std::test::Fail;
 
-const EDGE: Part = Part(UNIT);
-
-const HALF: Part = Part(UNIT / 2);
-
-const NONE: Part = Part(0);
-
-const ORIGIN: [Part; 3] = [NONE, NONE, NONE];
-
 const ONE: [[i64; 2]; 2] = [[1, 0], [0, 1]];
 
-// x,y,z
-const IDENTITY: Motion3 = Motion3 {
-    w: [[1, 0, 0], [0, 1, 0], [0, 0, 1]],
-    t: ORIGIN,
-};
-
-// -x,-y,-z
-const INVERSION: Motion3 = Motion3 {
-    w: [[-1, 0, 0], [0, -1, 0], [0, 0, -1]],
-    t: ORIGIN,
-};
-
-// -x,-y,z+1/2 and -x+1,-y,z+1/2
-const HALF_TURN: Motion3 = Motion3 {
-    w: [[-1, 0, 0], [0, -1, 0], [0, 0, 1]],
-    t: [NONE, NONE, HALF],
-};
-
+// -x+1,-y,z+1/2
 const MOVED_HALF_TURN: Motion3 = Motion3 {
     w: [[-1, 0, 0], [0, -1, 0], [0, 0, 1]],
     t: [EDGE, NONE, HALF],
 };
-
-// the operations of P4_1: also -y,x,z+1/4 and y,-x,z+3/4
-const SCREWS: [Motion3; 4] = [
-    IDENTITY,
-    HALF_TURN,
-    Motion3 {
-        w: [[0, -1, 0], [1, 0, 0], [0, 0, 1]],
-        t: [NONE, NONE, Part(UNIT / 4)],
-    },
-    Motion3 {
-        w: [[0, 1, 0], [-1, 0, 0], [0, 0, 1]],
-        t: [NONE, NONE, Part(UNIT / 4 * 3)],
-    },
-];
-
-const CENTRED: [Motion3; 2] = [IDENTITY, INVERSION];
-
-// turns about [111] and their products with the inversion
-const DIAGONAL: [Motion3; 6] = [
-    IDENTITY,
-    Motion3 {
-        w: [[0, 0, 1], [1, 0, 0], [0, 1, 0]],
-        t: ORIGIN,
-    },
-    Motion3 {
-        w: [[0, 1, 0], [0, 0, 1], [1, 0, 0]],
-        t: ORIGIN,
-    },
-    INVERSION,
-    Motion3 {
-        w: [[0, 0, -1], [-1, 0, 0], [0, -1, 0]],
-        t: ORIGIN,
-    },
-    Motion3 {
-        w: [[0, -1, 0], [0, 0, -1], [-1, 0, 0]],
-        t: ORIGIN,
-    },
-];
-
-fn group_of(alloc: Global, ops: &[Motion3]) -> Result<Group, GroupError>
-    requires { All (λ m. IsSmallWithin 50 (motion_of m)) ops.now }
-{
-    let ops = Vec::from_slice(alloc, ops)?;
-    Group::make(
-        alloc,
-        Listed {
-            ops,
-            centrings: Vec::new(alloc),
-            generated: false,
-        },
-    )
-}
 
 // the first two cell edges
 fn edges() -> RodBasis {
@@ -110,16 +35,14 @@ fn edges() -> RodBasis {
 
 fn rod_through(
     alloc: Global,
-    ops: &[Motion3],
+    group: &Group,
     direction: Direction,
     point: [Part; 3],
 ) -> Result<Rod, Fail>
-    requires ops { All (λ m. IsSmallWithin 50 (motion_of m)) ops.now }
-    requires point { IsVectorWithin (1000 * unsigned_abs UNIT) (parts point) }
+    requires { IsVectorWithin (1000 * unsigned_abs UNIT) (parts point) }
 {
-    let group = group_of(alloc, ops)?;
-    let frame = RodFrame::make(&group, direction, edges())?;
-    Ok(rod_at(alloc, &group, &frame, point)?)
+    let frame = RodFrame::make(group, direction, edges())?;
+    Ok(rod_at(alloc, group, &frame, point)?)
 }
 
 // Whether the rod has this type with the first two vectors as its own and this origin.
@@ -132,18 +55,20 @@ fn is_of_type(rod: &Rod, number: u8, z: u32) -> bool {
 
 #[test]
 fn screws_by_a_quarter_are_a_rod_of_their_own(rt: HostRuntime) -> Result<(), Fail> {
-    let rod = rod_through(rt.alloc(), &SCREWS, Direction::make(0, 0, 1)?, ORIGIN)?;
+    let group = p4_1(rt.alloc())?;
+    let rod = rod_through(rt.alloc(), &group, Direction::make(0, 0, 1)?, ORIGIN)?;
     assert!(rt; rod.frame.axis == [NONE, NONE, EDGE]);
-    assert!(rt; rod.ops[..] == SCREWS[..]);
+    assert!(rt; rod.ops[..] == FOURFOLD_SCREW[..]);
     assert!(rt; is_of_type(&rod, 24, 0));
     Ok(())
 }
 
 #[test]
 fn beside_the_axis_half_turns_are_left(rt: HostRuntime) -> Result<(), Fail> {
+    let group = p4_1(rt.alloc())?;
     let rod = rod_through(
         rt.alloc(),
-        &SCREWS,
+        &group,
         Direction::make(0, 0, 1)?,
         [HALF, NONE, NONE],
     )?;
@@ -154,20 +79,22 @@ fn beside_the_axis_half_turns_are_left(rt: HostRuntime) -> Result<(), Fail> {
 
 #[test]
 fn a_centre_above_the_point_is_the_origin(rt: HostRuntime) -> Result<(), Fail> {
+    let group = p_1(rt.alloc())?;
     let rod = rod_through(
         rt.alloc(),
-        &CENTRED,
+        &group,
         Direction::make(0, 0, 1)?,
         [NONE, NONE, Part(UNIT / 8)],
     )?;
-    assert!(rt; rod.ops[..] == CENTRED[..]);
+    assert!(rt; rod.ops[..] == [IDENTITY, INVERSION][..]);
     assert!(rt; is_of_type(&rod, 2, 36));
     Ok(())
 }
 
 #[test]
 fn across_the_diagonal_the_edges_are_made_level(rt: HostRuntime) -> Result<(), Fail> {
-    let rod = rod_through(rt.alloc(), &DIAGONAL, Direction::make(1, 1, 1)?, ORIGIN)?;
+    let group = p_3(rt.alloc())?;
+    let rod = rod_through(rt.alloc(), &group, Direction::make(1, 1, 1)?, ORIGIN)?;
     assert!(rt; rod.frame.axis == [EDGE, EDGE, EDGE]);
     let across = &rod.frame.across[..];
     if let Some(a) = across.first() {
@@ -186,7 +113,7 @@ fn across_the_diagonal_the_edges_are_made_level(rt: HostRuntime) -> Result<(), F
 #[test]
 fn directions_and_frames_are_refused(rt: HostRuntime) -> Result<(), Fail> {
     assert!(rt; Direction::make(0, 0, 2) == Err(PlaneFault::NotCoprime(2)));
-    let group = group_of(rt.alloc(), &CENTRED)?;
+    let group = p_1(rt.alloc())?;
     let frame = RodFrame::make(&group, Direction::make(0, 1, 0)?, edges());
     assert!(rt; frame == Err(FrameFault::NotFrame));
     Ok(())

@@ -1,63 +1,16 @@
 // Worked reports, by hand.
-ghost use Rattle.std.specs.Prelude.{◌^◌, All, unsigned_abs};
-ghost use Rattle.symmetry.specs.Sizes.{IsVectorWithin};
-ghost use Rattle.motions.specs.ListedSizes.{IsSmallWithin};
-ghost use Rattle.motions.specs.Views.{motion_of, parts};
-ghost use Rattle.closure.specs.declared.group.TheConstants.{MAX_ENTRY};
-
 use crate::at::at_text;
 use crate::report::Report;
 use crate::slab::slab_text;
-use closure::{Group, GroupError};
-use fractions::{Part, Ratio, UNIT};
-use motions::{Basis, Listed, Miller, Motion3};
+use closure::Group;
+use fractions::Ratio;
+use motions::{Basis, Miller};
 use plane_lattice::Frame;
+use sample_groups::{
+    FAR_INVERSION, IDENTITY, NEXT_INVERSION, c2_over_m, c2_over_m_edges, cell_edges, p_1, p1,
+};
 use std::alloc::Global;
 use std::test::Fail;
-
-const EDGE: Part = Part(UNIT);
-
-const HALF: Part = Part(UNIT / 2);
-
-const NONE: Part = Part(0);
-
-const ORIGIN: [Part; 3] = [NONE, NONE, NONE];
-
-// x,y,z
-const IDENTITY: Motion3 = Motion3 {
-    w: [[1, 0, 0], [0, 1, 0], [0, 0, 1]],
-    t: ORIGIN,
-};
-
-// -x,y,-z
-const TURN: Motion3 = Motion3 {
-    w: [[-1, 0, 0], [0, 1, 0], [0, 0, -1]],
-    t: ORIGIN,
-};
-
-// -x,-y,-z
-const INVERSION: Motion3 = Motion3 {
-    w: [[-1, 0, 0], [0, -1, 0], [0, 0, -1]],
-    t: ORIGIN,
-};
-
-// -x,-y,-z+1
-const NEXT_INVERSION: Motion3 = Motion3 {
-    w: [[-1, 0, 0], [0, -1, 0], [0, 0, -1]],
-    t: [NONE, NONE, EDGE],
-};
-
-// -x,-y,-z-7
-const FAR_INVERSION: Motion3 = Motion3 {
-    w: [[-1, 0, 0], [0, -1, 0], [0, 0, -1]],
-    t: [NONE, NONE, Part(-7 * UNIT)],
-};
-
-// x,-y,z
-const MIRROR: Motion3 = Motion3 {
-    w: [[1, 0, 0], [0, -1, 0], [0, 0, 1]],
-    t: ORIGIN,
-};
 
 const P1: &str = "\
 plane 0 0 1
@@ -140,40 +93,6 @@ op x-1/2,-y+1/2,z
 end
 ";
 
-fn group_of(alloc: Global, ops: &[Motion3], centrings: &[[Part; 3]]) -> Result<Group, GroupError>
-    requires ops { All (λ m. IsSmallWithin (unsigned_abs MAX_ENTRY) (motion_of m)) ops.now }
-    requires centrings { All (λ v. IsVectorWithin (2 ^ 40) (parts v)) centrings.now }
-{
-    let ops = Vec::from_slice(alloc, ops)?;
-    let centrings = Vec::from_slice(alloc, centrings)?;
-    Group::make(
-        alloc,
-        Listed {
-            ops,
-            centrings,
-            generated: false,
-        },
-    )
-}
-
-// a, b and c
-fn cell_edges() -> Basis {
-    Basis {
-        a: [EDGE, NONE, NONE],
-        b: [NONE, EDGE, NONE],
-        tau: [NONE, NONE, EDGE],
-    }
-}
-
-// a, -c and -1/2,1/2,0
-fn along_the_axis() -> Basis {
-    Basis {
-        a: [EDGE, NONE, NONE],
-        b: [NONE, NONE, Part(-UNIT)],
-        tau: [Part(-UNIT / 2), HALF, NONE],
-    }
-}
-
 // The report of an orientation.
 fn report_of(alloc: Global, group: &Group, plane: Miller, basis: Basis) -> Result<Report, Fail> {
     let frame = Frame::make(group, plane, basis)?;
@@ -206,7 +125,7 @@ fn an_inversion_in_the_middle_of_a_period(rt: HostRuntime) -> Result<(), Fail> {
 
 #[test]
 fn p1_has_no_special_height(rt: HostRuntime) -> Result<(), Fail> {
-    let group = group_of(rt.alloc(), &[IDENTITY], &[])?;
+    let group = p1(rt.alloc())?;
     let text = text_of(rt.alloc(), &group, Miller::make(0, 0, 1)?, cell_edges())?;
     assert_eq!(rt; text.as_slice(), P1.as_bytes());
     Ok(())
@@ -214,7 +133,7 @@ fn p1_has_no_special_height(rt: HostRuntime) -> Result<(), Fail> {
 
 #[test]
 fn p1_has_its_json(rt: HostRuntime) -> Result<(), Fail> {
-    let group = group_of(rt.alloc(), &[IDENTITY], &[])?;
+    let group = p1(rt.alloc())?;
     let report = report_of(rt.alloc(), &group, Miller::make(0, 0, 1)?, cell_edges())?;
     let line = report.json(rt.alloc())?;
     assert_eq!(rt; line.as_slice(), P1_JSON.as_bytes());
@@ -223,7 +142,7 @@ fn p1_has_its_json(rt: HostRuntime) -> Result<(), Fail> {
 
 #[test]
 fn p_1_has_an_inversion_at_each_half(rt: HostRuntime) -> Result<(), Fail> {
-    let group = group_of(rt.alloc(), &[IDENTITY, INVERSION], &[])?;
+    let group = p_1(rt.alloc())?;
     let text = text_of(rt.alloc(), &group, Miller::make(0, 0, 1)?, cell_edges())?;
     assert_eq!(rt; text.as_slice(), P_1.as_bytes());
     Ok(())
@@ -231,9 +150,9 @@ fn p_1_has_an_inversion_at_each_half(rt: HostRuntime) -> Result<(), Fail> {
 
 #[test]
 fn c2_over_m_has_two_orbits_along_its_axis(rt: HostRuntime) -> Result<(), Fail> {
-    let ops = [IDENTITY, TURN, INVERSION, MIRROR];
-    let group = group_of(rt.alloc(), &ops, &[[HALF, HALF, NONE]])?;
-    let text = text_of(rt.alloc(), &group, Miller::make(0, 1, 0)?, along_the_axis())?;
+    let group = c2_over_m(rt.alloc())?;
+    let plane = Miller::make(0, 1, 0)?;
+    let text = text_of(rt.alloc(), &group, plane, c2_over_m_edges())?;
     assert_eq!(rt; text.as_slice(), C2_OVER_M.as_bytes());
     Ok(())
 }

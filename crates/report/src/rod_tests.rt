@@ -1,5 +1,4 @@
 // Worked rods, by hand.
-ghost use Rattle.std.specs.Prelude.{◌≤◌, length};
 ghost use Rattle.integers.specs.Size.{IsWithin};
 ghost use Rattle.symmetry.specs.Sizes.{IsVectorWithin};
 ghost use Rattle.motions.specs.Views.{parts};
@@ -9,19 +8,10 @@ use crate::rods::rod_text;
 use closure::Group;
 use fractions::{Part, UNIT};
 use penetration::{Direction, RodBasis, RodFrame, rod_at};
+use sample_groups::{EDGE, HALF, NONE, ORIGIN, p_1, p_3, p2, p4_1};
 use std::alloc::Global;
 use std::test::Fail;
 use triplets::read_group;
-
-const EDGE: Part = Part(UNIT);
-
-const NONE: Part = Part(0);
-
-const ORIGIN: [Part; 3] = [NONE, NONE, NONE];
-
-const P4_1: &str = "x,y,z\n-x,-y,z+1/2\n-y,x,z+1/4\ny,-x,z+3/4\n";
-
-const P_3: &str = "x,y,z\nz,x,y\ny,z,x\n-x,-y,-z\n-z,-x,-y\n-y,-z,-x\n";
 
 const SCREWS: &str = "\
 line 0 0 1
@@ -133,104 +123,63 @@ fn edges(times: i64) -> RodBasis
     }
 }
 
+// The text of the line of a direction through the point.
 fn text_of(
     alloc: Global,
     group: &Group,
-    direction: Direction,
+    direction: [i64; 3],
     basis: RodBasis,
     point: [Part; 3],
 ) -> Result<Vec<u8>, Fail>
     requires { IsVectorWithin largest_entry (parts point) }
 {
-    let frame = RodFrame::make(group, direction, basis)?;
+    let [u, v, w] = direction;
+    let frame = RodFrame::make(group, Direction::make(u, v, w)?, basis)?;
     Ok(rod_text(alloc, &rod_at(alloc, group, &frame, point)?)?)
-}
-
-fn listed(alloc: Global, ops: &str) -> Result<Group, Fail>
-    requires { length ops.now ≤ 1000 }
-{
-    Ok(Group::make(alloc, read_group(alloc, ops.as_bytes())?)?)
 }
 
 #[test]
 fn screws_by_a_quarter(rt: HostRuntime) -> Result<(), Fail> {
-    let group = listed(rt.alloc(), P4_1)?;
-    let text = text_of(
-        rt.alloc(),
-        &group,
-        Direction::make(0, 0, 1)?,
-        edges(0),
-        ORIGIN,
-    )?;
+    let group = p4_1(rt.alloc())?;
+    let text = text_of(rt.alloc(), &group, [0, 0, 1], edges(0), ORIGIN)?;
     assert_eq!(rt; text.as_slice(), SCREWS.as_bytes());
     Ok(())
 }
 
 #[test]
 fn beside_the_axis_half_turns_are_left(rt: HostRuntime) -> Result<(), Fail> {
-    let group = listed(rt.alloc(), P4_1)?;
-    let text = text_of(
-        rt.alloc(),
-        &group,
-        Direction::make(0, 0, 1)?,
-        edges(0),
-        [Part(UNIT / 2), NONE, NONE],
-    )?;
+    let group = p4_1(rt.alloc())?;
+    let point = [HALF, NONE, NONE];
+    let text = text_of(rt.alloc(), &group, [0, 0, 1], edges(0), point)?;
     assert_eq!(rt; text.as_slice(), BESIDE_THE_SCREWS.as_bytes());
     Ok(())
 }
 
 #[test]
 fn the_origin_is_a_centre_above_the_point(rt: HostRuntime) -> Result<(), Fail> {
-    let group = listed(rt.alloc(), "x,y,z\n-x,-y,-z\n")?;
-    let text = text_of(
-        rt.alloc(),
-        &group,
-        Direction::make(0, 0, 1)?,
-        edges(0),
-        [NONE, NONE, Part(UNIT / 8)],
-    )?;
+    let group = p_1(rt.alloc())?;
+    let point = [NONE, NONE, Part(UNIT / 8)];
+    let text = text_of(rt.alloc(), &group, [0, 0, 1], edges(0), point)?;
     assert_eq!(rt; text.as_slice(), BELOW_A_CENTRE.as_bytes());
     Ok(())
 }
 
 #[test]
 fn the_diagonal_of_a_cube_is_trigonal(rt: HostRuntime) -> Result<(), Fail> {
-    let generators = read_group(
-        rt.alloc(),
-        "generators\n-x,-y,-z\ny,z,x\n-y,x,z\n".as_bytes(),
-    )?;
+    let generators = read_group(rt.alloc(), b"generators\n-x,-y,-z\ny,z,x\n-y,x,z\n")?;
     let group = Group::generated(rt.alloc(), generators)?;
-    let text = text_of(
-        rt.alloc(),
-        &group,
-        Direction::make(1, 1, 1)?,
-        edges(0),
-        ORIGIN,
-    )?;
+    let text = text_of(rt.alloc(), &group, [1, 1, 1], edges(0), ORIGIN)?;
     assert!(rt; text.as_slice().starts_with(CUBE_DIAGONAL.as_bytes()));
     Ok(())
 }
 
 #[test]
 fn a_turned_basis_has_the_axis_downwards(rt: HostRuntime) -> Result<(), Fail> {
-    let group = listed(rt.alloc(), P_3)?;
-    let text = text_of(
-        rt.alloc(),
-        &group,
-        Direction::make(1, 1, 1)?,
-        edges(1),
-        ORIGIN,
-    )?;
+    let group = p_3(rt.alloc())?;
+    let text = text_of(rt.alloc(), &group, [1, 1, 1], edges(1), ORIGIN)?;
     assert_eq!(rt; text.as_slice(), NARROW_FRAME.as_bytes());
-    let turns = listed(rt.alloc(), "x,y,z\n-x,y,-z\n")?;
-    let text = text_of(
-        rt.alloc(),
-        &turns,
-        Direction::make(0, 0, 1)?,
-        edges(0),
-        ORIGIN,
-    )?;
+    let turns = p2(rt.alloc())?;
+    let text = text_of(rt.alloc(), &turns, [0, 0, 1], edges(0), ORIGIN)?;
     assert_eq!(rt; text.as_slice(), ACROSS_A_TURN.as_bytes());
     Ok(())
 }
@@ -238,14 +187,8 @@ fn a_turned_basis_has_the_axis_downwards(rt: HostRuntime) -> Result<(), Fail> {
 // In a frame whose b leans by three a no vector with entries of at most 2 lies along the turn.
 #[test]
 fn in_an_oblique_frame_no_change_is_bounded(rt: HostRuntime) -> Result<(), Fail> {
-    let group = listed(rt.alloc(), "x,y,z\n-x,y,-z\n")?;
-    let text = text_of(
-        rt.alloc(),
-        &group,
-        Direction::make(0, 0, 1)?,
-        edges(3),
-        ORIGIN,
-    )?;
+    let group = p2(rt.alloc())?;
+    let text = text_of(rt.alloc(), &group, [0, 0, 1], edges(3), ORIGIN)?;
     assert_eq!(rt; text.as_slice(), OBLIQUE_FRAME.as_bytes());
     Ok(())
 }

@@ -1,52 +1,20 @@
 // Worked cases, by hand.
-ghost use Rattle.std.specs.Prelude.{◌^◌, ◌≤ℤ◌, pos, All, unsigned_abs};
+ghost use Rattle.std.specs.Prelude.{◌^◌, ◌≤ℤ◌, pos};
 ghost use Rattle.integers.specs.Size.{IsWithin};
-ghost use Rattle.symmetry.specs.Sizes.{IsVectorWithin};
-ghost use Rattle.motions.specs.ListedSizes.{IsSmallWithin};
-ghost use Rattle.motions.specs.Views.{motion_of, parts};
-ghost use Rattle.closure.specs.declared.group.TheConstants.{MAX_ENTRY};
 
 use crate::at_fault::AtFault;
 use crate::class::Place;
 use crate::scan::Scan;
-use closure::{Group, GroupError};
+use closure::Group;
 use fractions::{Part, Ratio, UNIT};
-use motions::{Basis, Listed, Miller, Motion3};
+use motions::{Basis, Miller, Motion3};
 use plane_lattice::Frame;
+use sample_groups::{
+    EDGE, FAR_INVERSION, HALF, IDENTITY, INVERSION, NEXT_INVERSION, NONE, TURN_ABOUT_B, c2_over_m,
+    c2_over_m_edges, cell_edges, edges_along_b, p_1, p2_1_over_c,
+};
 use std::alloc::Global;
 use std::test::Fail;
-
-const EDGE: Part = Part(UNIT);
-
-const HALF: Part = Part(UNIT / 2);
-
-const NONE: Part = Part(0);
-
-const ORIGIN: [Part; 3] = [NONE, NONE, NONE];
-
-// x,y,z
-const IDENTITY: Motion3 = Motion3 {
-    w: [[1, 0, 0], [0, 1, 0], [0, 0, 1]],
-    t: ORIGIN,
-};
-
-// -x,y,-z
-const TURN: Motion3 = Motion3 {
-    w: [[-1, 0, 0], [0, 1, 0], [0, 0, -1]],
-    t: ORIGIN,
-};
-
-// -x,-y,-z
-const INVERSION: Motion3 = Motion3 {
-    w: [[-1, 0, 0], [0, -1, 0], [0, 0, -1]],
-    t: ORIGIN,
-};
-
-// x,-y,z
-const MIRROR: Motion3 = Motion3 {
-    w: [[1, 0, 0], [0, -1, 0], [0, 0, 1]],
-    t: ORIGIN,
-};
 
 // -x-1/2,-y+1/2,-z
 const RAISED_INVERSION: Motion3 = Motion3 {
@@ -58,30 +26,6 @@ const RAISED_INVERSION: Motion3 = Motion3 {
 const GLIDE: Motion3 = Motion3 {
     w: [[1, 0, 0], [0, -1, 0], [0, 0, 1]],
     t: [Part(-UNIT / 2), HALF, NONE],
-};
-
-// -x,-y,-z+1
-const NEXT_INVERSION: Motion3 = Motion3 {
-    w: [[-1, 0, 0], [0, -1, 0], [0, 0, -1]],
-    t: [NONE, NONE, EDGE],
-};
-
-// -x,-y,-z-7
-const FAR_INVERSION: Motion3 = Motion3 {
-    w: [[-1, 0, 0], [0, -1, 0], [0, 0, -1]],
-    t: [NONE, NONE, Part(-7 * UNIT)],
-};
-
-// -x,y+1/2,-z+1/2
-const SCREW: Motion3 = Motion3 {
-    w: [[-1, 0, 0], [0, 1, 0], [0, 0, -1]],
-    t: [NONE, HALF, HALF],
-};
-
-// x,-y+1/2,z+1/2
-const GLIDE_ALONG_C: Motion3 = Motion3 {
-    w: [[1, 0, 0], [0, -1, 0], [0, 0, 1]],
-    t: [NONE, HALF, HALF],
 };
 
 // x,-y+1/2,z-1/2
@@ -108,20 +52,10 @@ const FARTHEST_INVERSION: Motion3 = Motion3 {
     t: [NONE, NONE, Part(2_000_000_000 * UNIT)],
 };
 
-fn group_of(alloc: Global, ops: &[Motion3], centrings: &[[Part; 3]]) -> Result<Group, GroupError>
-    requires ops { All (λ m. IsSmallWithin (unsigned_abs MAX_ENTRY) (motion_of m)) ops.now }
-    requires centrings { All (λ v. IsVectorWithin (2 ^ 40) (parts v)) centrings.now }
-{
-    let ops = Vec::from_slice(alloc, ops)?;
-    let centrings = Vec::from_slice(alloc, centrings)?;
-    Group::make(
-        alloc,
-        Listed {
-            ops,
-            centrings,
-            generated: false,
-        },
-    )
+// The scan along the plane in the frame with the basis.
+fn scan_along(alloc: Global, group: &Group, plane: Miller, basis: Basis) -> Result<Scan, Fail> {
+    let frame = Frame::make(group, plane, basis)?;
+    Ok(Scan::make(alloc, group, &frame)?)
 }
 
 // The operations at the height num/den, in the frame of the plane with the basis.
@@ -137,35 +71,8 @@ fn operations(
     requires den { IsWithin (10 ^ 9) den }
     requires positive { pos 1 ≤ℤ den }
 {
-    let frame = Frame::make(group, plane, basis)?;
-    let s = Ratio::make(num, den).unwrap();
-    Ok(Scan::make(alloc, group, &frame)?.ops_at(alloc, s)?)
-}
-
-fn c2_over_m(alloc: Global) -> Result<Group, GroupError> {
-    group_of(
-        alloc,
-        &[IDENTITY, TURN, INVERSION, MIRROR],
-        &[[HALF, HALF, NONE]],
-    )
-}
-
-// a, -c and -1/2,1/2,0
-fn along_the_axis() -> Basis {
-    Basis {
-        a: [EDGE, NONE, NONE],
-        b: [NONE, NONE, Part(-UNIT)],
-        tau: [Part(-UNIT / 2), HALF, NONE],
-    }
-}
-
-// a, b and c
-fn cell_edges() -> Basis {
-    Basis {
-        a: [EDGE, NONE, NONE],
-        b: [NONE, EDGE, NONE],
-        tau: [NONE, NONE, EDGE],
-    }
+    let scan = scan_along(alloc, group, plane, basis)?;
+    Ok(scan.ops_at(alloc, Ratio::make(num, den).unwrap())?)
 }
 
 #[test]
@@ -175,13 +82,13 @@ fn a_glide_and_an_inversion_stand_at_a_quarter_of_c2_over_m(rt: HostRuntime) -> 
         rt.alloc(),
         &group,
         Miller::make(0, 1, 0)?,
-        along_the_axis(),
+        c2_over_m_edges(),
         1,
         4,
     )?;
     assert_eq!(rt;
         ops.as_slice(),
-        [IDENTITY, TURN, RAISED_INVERSION, GLIDE].as_slice()
+        [IDENTITY, TURN_ABOUT_B, RAISED_INVERSION, GLIDE].as_slice()
     );
     Ok(())
 }
@@ -193,17 +100,17 @@ fn a_general_plane_of_c2_over_m_has_the_turn(rt: HostRuntime) -> Result<(), Fail
         rt.alloc(),
         &group,
         Miller::make(0, 1, 0)?,
-        along_the_axis(),
+        c2_over_m_edges(),
         1,
         3,
     )?;
-    assert_eq!(rt; ops.as_slice(), [IDENTITY, TURN].as_slice());
+    assert_eq!(rt; ops.as_slice(), [IDENTITY, TURN_ABOUT_B].as_slice());
     Ok(())
 }
 
 #[test]
 fn an_inversion_is_raised_to_each_half_of_p_1(rt: HostRuntime) -> Result<(), Fail> {
-    let group = group_of(rt.alloc(), &[IDENTITY, INVERSION], &[])?;
+    let group = p_1(rt.alloc())?;
     let plane = Miller::make(0, 0, 1)?;
     let near = operations(rt.alloc(), &group, plane, cell_edges(), 1, 2)?;
     let far = operations(rt.alloc(), &group, plane, cell_edges(), -7, 2)?;
@@ -212,32 +119,21 @@ fn an_inversion_is_raised_to_each_half_of_p_1(rt: HostRuntime) -> Result<(), Fai
     Ok(())
 }
 
-// The scan along the plane in the frame with the basis.
-fn scan_along(alloc: Global, group: &Group, plane: Miller, basis: Basis) -> Result<Scan, Fail> {
-    let frame = Frame::make(group, plane, basis)?;
-    Ok(Scan::make(alloc, group, &frame)?)
-}
-
 // P2_1/c along b, with a, -c and b.
-fn p2_1_over_c(alloc: Global) -> Result<Scan, Fail> {
-    let group = group_of(alloc, &[IDENTITY, SCREW, INVERSION, GLIDE_ALONG_C], &[])?;
-    let basis = Basis {
-        a: [EDGE, NONE, NONE],
-        b: [NONE, NONE, Part(-UNIT)],
-        tau: [NONE, EDGE, NONE],
-    };
-    scan_along(alloc, &group, Miller::make(0, 1, 0)?, basis)
+fn p2_1_over_c_along_b(alloc: Global) -> Result<Scan, Fail> {
+    let group = p2_1_over_c(alloc)?;
+    scan_along(alloc, &group, Miller::make(0, 1, 0)?, edges_along_b())
 }
 
 // P-1 along c.
-fn p_1(alloc: Global) -> Result<Scan, Fail> {
-    let group = group_of(alloc, &[IDENTITY, INVERSION], &[])?;
+fn p_1_along_c(alloc: Global) -> Result<Scan, Fail> {
+    let group = p_1(alloc)?;
     scan_along(alloc, &group, Miller::make(0, 0, 1)?, cell_edges())
 }
 
 #[test]
 fn inversions_and_glides_of_p2_1_over_c_take_turns_along_b(rt: HostRuntime) -> Result<(), Fail> {
-    let scan = p2_1_over_c(rt.alloc())?;
+    let scan = p2_1_over_c_along_b(rt.alloc())?;
     let classes = [
         (0, 1, [IDENTITY, INVERSION]),
         (1, 4, [IDENTITY, LOW_GLIDE]),
@@ -256,7 +152,7 @@ fn inversions_and_glides_of_p2_1_over_c_take_turns_along_b(rt: HostRuntime) -> R
 
 #[test]
 fn a_height_stands_whole_periods_above_or_below_a_special_one(rt: HostRuntime) -> Result<(), Fail> {
-    let scan = p2_1_over_c(rt.alloc())?;
+    let scan = p2_1_over_c_along_b(rt.alloc())?;
     let above = scan.class_at(Ratio::make(9, 4).unwrap());
     let below = scan.class_at(Ratio::make(-1, 4).unwrap());
     let between = scan.class_at(Ratio::make(1, 3).unwrap());
@@ -268,7 +164,7 @@ fn a_height_stands_whole_periods_above_or_below_a_special_one(rt: HostRuntime) -
 
 #[test]
 fn the_inversion_of_p_1_is_raised_to_any_height(rt: HostRuntime) -> Result<(), Fail> {
-    let scan = p_1(rt.alloc())?;
+    let scan = p_1_along_c(rt.alloc())?;
     let far = scan.ops_at(rt.alloc(), Ratio::make(-7, 2).unwrap())?;
     let between = scan.ops_at(rt.alloc(), Ratio::make(1, 3).unwrap())?;
     let farthest = scan.ops_at(rt.alloc(), Ratio::make(1_000_000_000, 1).unwrap())?;
@@ -283,7 +179,7 @@ fn the_inversion_of_p_1_is_raised_to_any_height(rt: HostRuntime) -> Result<(), F
 
 #[test]
 fn a_height_beyond_the_limit_is_large(rt: HostRuntime) -> Result<(), Fail> {
-    let scan = p_1(rt.alloc())?;
+    let scan = p_1_along_c(rt.alloc())?;
     let beyond = scan.ops_at(rt.alloc(), Ratio::make(1_000_000_001, 1).unwrap());
     let fine = scan.ops_at(rt.alloc(), Ratio::make(1, 1_000_000_001).unwrap());
     assert_eq!(rt; beyond.err(), Some(AtFault::Large));

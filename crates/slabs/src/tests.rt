@@ -1,85 +1,23 @@
 // Worked slabs, by hand.
-ghost use Rattle.std.specs.Prelude.{◌*ℤ◌, ◌≤ℤ◌, pos, All, unsigned_abs};
+ghost use Rattle.std.specs.Prelude.{◌*ℤ◌, ◌≤ℤ◌, pos};
 ghost use Rattle.fractions.specs.Fraction.{IsFractionWithin};
 ghost use Rattle.fractions.specs.FractionOf.{fraction_of};
 ghost use Rattle.fractions.specs.LowestTerms.{IsLowestForm};
 ghost use Rattle.integers.specs.Size.{IsWithin};
-ghost use Rattle.motions.specs.ListedSizes.{IsSmallWithin};
-ghost use Rattle.motions.specs.Views.{motion_of};
-ghost use Rattle.closure.specs.declared.group.TheConstants.{MAX_ENTRY};
 
 use crate::at::slab_at;
 use crate::heights::{is_empty, middle};
-use closure::{Group, GroupError};
-use fractions::{Part, Ratio, UNIT};
-use motions::{Basis, Listed, Miller, Motion3};
+use closure::Group;
+use fractions::Ratio;
+use motions::{Basis, Miller, Motion3};
 use plane_lattice::Frame;
+use sample_groups::{
+    FAR_INVERSION, IDENTITY, INVERSION, MIRROR_ACROSS_C, NEXT_INVERSION, TURN_ABOUT_C, cell_edges,
+    p_1, p2_over_m,
+};
 use scanning::{AtFault, Scan};
 use std::alloc::Global;
 use std::test::Fail;
-
-const NONE: Part = Part(0);
-
-const EDGE: Part = Part(UNIT);
-
-// x,y,z
-const IDENTITY: Motion3 = Motion3 {
-    w: [[1, 0, 0], [0, 1, 0], [0, 0, 1]],
-    t: [NONE, NONE, NONE],
-};
-
-// -x,-y,-z
-const INVERSION: Motion3 = Motion3 {
-    w: [[-1, 0, 0], [0, -1, 0], [0, 0, -1]],
-    t: [NONE, NONE, NONE],
-};
-
-// -x,-y,-z+1
-const NEXT_INVERSION: Motion3 = Motion3 {
-    w: [[-1, 0, 0], [0, -1, 0], [0, 0, -1]],
-    t: [NONE, NONE, EDGE],
-};
-
-// -x,-y,-z-7
-const FAR_INVERSION: Motion3 = Motion3 {
-    w: [[-1, 0, 0], [0, -1, 0], [0, 0, -1]],
-    t: [NONE, NONE, Part(-7 * UNIT)],
-};
-
-// x,y,-z
-const MIRROR: Motion3 = Motion3 {
-    w: [[1, 0, 0], [0, 1, 0], [0, 0, -1]],
-    t: [NONE, NONE, NONE],
-};
-
-// -x,-y,z
-const TURN: Motion3 = Motion3 {
-    w: [[-1, 0, 0], [0, -1, 0], [0, 0, 1]],
-    t: [NONE, NONE, NONE],
-};
-
-fn group_of(alloc: Global, ops: &[Motion3]) -> Result<Group, GroupError>
-    requires { All (λ m. IsSmallWithin (unsigned_abs MAX_ENTRY) (motion_of m)) ops.now }
-{
-    let ops = Vec::from_slice(alloc, ops)?;
-    Group::make(
-        alloc,
-        Listed {
-            ops,
-            centrings: Vec::new(alloc),
-            generated: false,
-        },
-    )
-}
-
-// a, b and c
-fn cell_edges() -> Basis {
-    Basis {
-        a: [EDGE, NONE, NONE],
-        b: [NONE, EDGE, NONE],
-        tau: [NONE, NONE, EDGE],
-    }
-}
 
 // The scan along the plane in the frame with the basis.
 fn scan_along(alloc: Global, group: &Group, plane: Miller, basis: Basis) -> Result<Scan, Fail> {
@@ -87,16 +25,9 @@ fn scan_along(alloc: Global, group: &Group, plane: Miller, basis: Basis) -> Resu
     Ok(Scan::make(alloc, group, &frame)?)
 }
 
-// P-1 along c.
-fn p_1(alloc: Global) -> Result<Scan, Fail> {
-    let group = group_of(alloc, &[IDENTITY, INVERSION])?;
-    scan_along(alloc, &group, Miller::make(0, 0, 1)?, cell_edges())
-}
-
-// P2/m along c, its axis.
-fn p2_over_m(alloc: Global) -> Result<Scan, Fail> {
-    let group = group_of(alloc, &[IDENTITY, INVERSION, MIRROR, TURN])?;
-    scan_along(alloc, &group, Miller::make(0, 0, 1)?, cell_edges())
+// The scan of the group along c, with the cell edges.
+fn along_c(alloc: Global, group: &Group) -> Result<Scan, Fail> {
+    scan_along(alloc, group, Miller::make(0, 0, 1)?, cell_edges())
 }
 
 // The height num/den.
@@ -132,7 +63,7 @@ fn between(
 
 #[test]
 fn an_inversion_of_p_1_stands_in_the_middle_of_a_period(rt: HostRuntime) -> Result<(), Fail> {
-    let scan = p_1(rt.alloc())?;
+    let scan = along_c(rt.alloc(), &p_1(rt.alloc())?)?;
     let period = between(rt.alloc(), &scan, 0, 1, 1, 1)?;
     let below = between(rt.alloc(), &scan, -15, 4, -13, 4)?;
     assert_eq!(rt; period.as_slice(), [IDENTITY, NEXT_INVERSION].as_slice());
@@ -142,7 +73,7 @@ fn an_inversion_of_p_1_stands_in_the_middle_of_a_period(rt: HostRuntime) -> Resu
 
 #[test]
 fn no_inversion_of_p_1_stands_in_the_middle_of_two_thirds(rt: HostRuntime) -> Result<(), Fail> {
-    let scan = p_1(rt.alloc())?;
+    let scan = along_c(rt.alloc(), &p_1(rt.alloc())?)?;
     let ops = between(rt.alloc(), &scan, 0, 1, 2, 3)?;
     assert_eq!(rt; ops.as_slice(), [IDENTITY].as_slice());
     Ok(())
@@ -150,7 +81,7 @@ fn no_inversion_of_p_1_stands_in_the_middle_of_two_thirds(rt: HostRuntime) -> Re
 
 #[test]
 fn a_slab_may_be_one_plane(rt: HostRuntime) -> Result<(), Fail> {
-    let scan = p_1(rt.alloc())?;
+    let scan = along_c(rt.alloc(), &p_1(rt.alloc())?)?;
     let special = between(rt.alloc(), &scan, 1, 2, 2, 4)?;
     let general = between(rt.alloc(), &scan, 1, 3, 1, 3)?;
     assert_eq!(rt; special.as_slice(), [IDENTITY, NEXT_INVERSION].as_slice());
@@ -160,20 +91,20 @@ fn a_slab_may_be_one_plane(rt: HostRuntime) -> Result<(), Fail> {
 
 #[test]
 fn what_keeps_every_plane_keeps_every_slab(rt: HostRuntime) -> Result<(), Fail> {
-    let scan = p2_over_m(rt.alloc())?;
+    let scan = along_c(rt.alloc(), &p2_over_m(rt.alloc())?)?;
     let about_zero = between(rt.alloc(), &scan, -1, 3, 1, 3)?;
     let above_zero = between(rt.alloc(), &scan, 0, 1, 1, 3)?;
     assert_eq!(rt;
         about_zero.as_slice(),
-        [IDENTITY, INVERSION, MIRROR, TURN].as_slice()
+        [IDENTITY, INVERSION, MIRROR_ACROSS_C, TURN_ABOUT_C].as_slice()
     );
-    assert_eq!(rt; above_zero.as_slice(), [IDENTITY, TURN].as_slice());
+    assert_eq!(rt; above_zero.as_slice(), [IDENTITY, TURN_ABOUT_C].as_slice());
     Ok(())
 }
 
 #[test]
 fn the_middle_may_be_too_large(rt: HostRuntime) -> Result<(), Fail> {
-    let scan = p_1(rt.alloc())?;
+    let scan = along_c(rt.alloc(), &p_1(rt.alloc())?)?;
     let large = between(rt.alloc(), &scan, 1, 999_999_999, 1, 999_999_998);
     let largest = between(rt.alloc(), &scan, 1_000_000_000, 1, 1_000_000_000, 1)?;
     assert_eq!(rt; large.err(), Some(AtFault::Large));

@@ -1,61 +1,8 @@
 // Worked cases, by hand.
-ghost use Rattle.std.specs.Prelude.{All, unsigned_abs};
-ghost use Rattle.motions.specs.ListedSizes.{IsSmallWithin};
-ghost use Rattle.motions.specs.Views.{motion_of};
-ghost use Rattle.closure.specs.declared.group.TheConstants.{MAX_ENTRY};
-
 use crate::surveyed::Surveyed;
 use crate::surveying::survey;
-use closure::{Group, GroupError};
-use fractions::Part;
-use motions::{Listed, Motion3};
-use std::alloc::Global;
+use sample_groups::{p_1, p4};
 use std::test::Fail;
-
-const ORIGIN: [Part; 3] = [Part(0), Part(0), Part(0)];
-
-// x,y,z
-const IDENTITY: Motion3 = Motion3 {
-    w: [[1, 0, 0], [0, 1, 0], [0, 0, 1]],
-    t: ORIGIN,
-};
-
-// -x,-y,-z
-const INVERSION: Motion3 = Motion3 {
-    w: [[-1, 0, 0], [0, -1, 0], [0, 0, -1]],
-    t: ORIGIN,
-};
-
-// -x,-y,z; -y,x,z; y,-x,z
-const FOURFOLD: [Motion3; 4] = [
-    IDENTITY,
-    Motion3 {
-        w: [[-1, 0, 0], [0, -1, 0], [0, 0, 1]],
-        t: ORIGIN,
-    },
-    Motion3 {
-        w: [[0, -1, 0], [1, 0, 0], [0, 0, 1]],
-        t: ORIGIN,
-    },
-    Motion3 {
-        w: [[0, 1, 0], [-1, 0, 0], [0, 0, 1]],
-        t: ORIGIN,
-    },
-];
-
-fn group_of(alloc: Global, ops: &[Motion3]) -> Result<Group, GroupError>
-    requires { All (λ m. IsSmallWithin (unsigned_abs MAX_ENTRY) (motion_of m)) ops.now }
-{
-    let ops = Vec::from_slice(alloc, ops)?;
-    Group::make(
-        alloc,
-        Listed {
-            ops,
-            centrings: Vec::new(alloc),
-            generated: false,
-        },
-    )
-}
 
 // The indices of an orientation, how many triples are equivalent to it, and its special heights.
 fn told(surveyed: &Surveyed) -> ([i64; 3], u32, u32) {
@@ -69,7 +16,7 @@ fn told(surveyed: &Surveyed) -> ([i64; 3], u32, u32) {
 
 #[test]
 fn an_inversion_makes_each_orientation_its_own_class(rt: HostRuntime) -> Result<(), Fail> {
-    let group = group_of(rt.alloc(), &[IDENTITY, INVERSION])?;
+    let group = p_1(rt.alloc())?;
     let list = survey(rt.alloc(), &group, 1)?;
     let planes = [
         [1, 1, 1],
@@ -95,7 +42,7 @@ fn an_inversion_makes_each_orientation_its_own_class(rt: HostRuntime) -> Result<
 
 #[test]
 fn a_fourfold_axis_turns_what_stands_along_it(rt: HostRuntime) -> Result<(), Fail> {
-    let group = group_of(rt.alloc(), &FOURFOLD)?;
+    let group = p4(rt.alloc())?;
     let list = survey(rt.alloc(), &group, 1)?;
     let wanted = [
         ([1, 1, 1], 8, 0),
