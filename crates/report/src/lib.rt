@@ -8,8 +8,6 @@
 
 mod at;
 mod frame;
-#[cfg(test)]
-mod generator_tests;
 mod images;
 mod json;
 mod kind;
