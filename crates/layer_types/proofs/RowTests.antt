@@ -1,12 +1,10 @@
--- A value that passes the test of a row is the layer type of its number, or the generators of that type.
+-- A value that passes the test of a row is the layer type of its number.
 use Rattle.std.proofs.Common.{◌≡◌, ℕ, Bool, true, ◌&&◌, ◌^◌, not, List, [], ◌∷◌, length, All, map, leb, nat_eq, arith, lit≤, ℤ, pos, negsuc, nat_abs, inl, inr}
 use Rattle.std.specs.Prelude.{AllPairs, int_le, int_lt}
-use Rattle.std.specs.Borrow.{Bor}
 use Rattle.std.specs.Bool.{passes}
 use Rattle.std.specs.List.{list_all}
 use Rattle.std.specs.Str.{bytes_eq}
 use Rattle.std.specs.Cmp.{booleans_Decides}
-use Rattle.std.specs.Cmp.Lexicographic.{pointwise, pointwise_decides}
 use Rattle.std.proofs.lemmas.Bool.{and_parts}
 use Rattle.std.specs.Ordering.{int_eq}
 use Rattle.std.specs.Int.{int_rem_euclid}
@@ -26,16 +24,15 @@ use Rattle.quotient.specs.Check.{meets}
 use Rattle.quotient.specs.Order.{in_order}
 use Rattle.quotient.proofs.CheckLemma.{meets_is}
 use Rattle.quotient.proofs.OrderLemma.{in_order_is}
-use Rattle.motions.specs.declared.layer.LayerMotion.{LayerMotion}
 use Rattle.motions.specs.PlaneMatrices.{Matrix2, Pair}
 use Rattle.motions.specs.PlaneSizes.{IsMatrix2Within, IsPairWithin}
-use Rattle.motions.specs.Layers.{HasHalfPart, IsOdd, IsPlanarSmall, PlanarMotion, planar_of, same_planar}
-use Rattle.motions.specs.Laws.LayerLaws.{planar_followed_by_laws, same_planar-is}
+use Rattle.motions.specs.Layers.{HasHalfPart, IsOdd, IsPlanarSmall, PlanarMotion, planar_of}
+use Rattle.motions.specs.Laws.LayerLaws.{planar_followed_by_laws}
 use Rattle.layer_types.specs.declared.layer_type.LayerType.{LayerType}
 use Rattle.layer_types.specs.Lattices.{IsReduced, edge, keeps_lattice, layer_kind}
 use Rattle.layer_types.specs.Laws.ShiftLaws.{keeps_is, shifts_lem}
 use Rattle.layer_types.specs.Rows.{Row, layer_row}
-use Rattle.layer_types.specs.LayerTypes.{AreGenerators, HaveOneBlock, IsLayerType, layer_form}
+use Rattle.layer_types.specs.LayerTypes.{HaveOneBlock, IsLayerType, layer_form}
 use Rattle.layer_types.proofs.KindTests.{apart_lem, layer_form_laws, layer_form_tests, layer_tests, layer_tests_laws, same_block}
 
 -- ---- each operation
@@ -148,13 +145,13 @@ apart (m ∷ ms) e =
 abbrev rounds : ℕ
 rounds = 6
 
-abbrev meets_row : Row → List PlanarMotion → Bool
+abbrev meets_row : Row PlanarMotion → List PlanarMotion → Bool
 meets_row r ms =
     meets (layer_kind r.centred) (layer_tests r.centred) rounds r.generators ms
     && (in_order (layer_kind r.centred) (layer_form_tests r.centred) ms
     && (list_all (is_type_operation r.centred) ms && are_apart ms))
 
-abbrev is_row : Row → ℕ → LayerType → Bool
+abbrev is_row : Row PlanarMotion → ℕ → LayerType → Bool
 is_row r n t =
     nat_eq t.number n
     && (bytes_eq t.symbol.now r.symbol
@@ -192,11 +189,3 @@ layer_type n t e =
       apart = apart ms separate;
       count = leb→le (length t.ops.now) 24 (passes (leb (length t.ops.now) 24) count);
     }
-
--- ---- the generators of a row
-
-abbrev pub are_generators : ℕ → Bor (List LayerMotion) → Bool
-are_generators n list = pointwise same_planar (map planar_of list.now) (layer_row n).generators
-
-pub row_generators : (n : ℕ) (list : Bor (List LayerMotion)) → are_generators n list ≡ true → AreGenerators n list
-row_generators n list e = (pointwise_decides same_planar-is (map planar_of list.now) (layer_row n).generators).0 e

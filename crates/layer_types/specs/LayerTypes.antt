@@ -1,10 +1,8 @@
 -- What the layer type of a number is.
 use Rattle.std.specs.Prelude.{◌≡◌, ℕ, ℤ, ◌≤◌, Bool, List, [], ◌∷◌, All, AllPairs, length, map}
-use Rattle.std.specs.Borrow.{Bor}
 use Rattle.quotient.specs.Kind.{Keeps}
 use Rattle.quotient.specs.Closure.{IsClosure}
 use Rattle.quotient.specs.Order.{Form, IsInOrder}
-use Rattle.motions.specs.declared.layer.LayerMotion.{LayerMotion}
 use Rattle.motions.specs.Layers.{HasHalfPart, IsPlanarSmall, PlanarMotion, block_matrix, planar_of}
 use Rattle.motions.specs.PlaneSizes.{IsMatrix2Within}
 use Rattle.layer_types.specs.declared.layer_type.LayerType.{LayerType}
@@ -42,7 +40,3 @@ pub record IsLayerType (n : ℕ) (t : LayerType) : Type 0 where
   pub keeps : All (Keeps (layer_kind (layer_row n).centred)) (map planar_of t.ops.now)
   pub apart : AllPairs (λ l m. ¬ HaveOneBlock l m) (map planar_of t.ops.now)
   pub count : length t.ops.now ≤ 24
-
--- the motions are the generators of the row of n
-abbrev pub AreGenerators : ℕ → Bor (List LayerMotion) → Type 0
-AreGenerators n list = map planar_of list.now ≡ (layer_row n).generators

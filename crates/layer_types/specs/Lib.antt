@@ -1,4 +1,3 @@
-pub mod Generators
 pub mod Laws
 pub mod Lattices
 pub mod LayerTypes

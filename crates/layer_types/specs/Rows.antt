@@ -1,106 +1,115 @@
--- The table that defines the layer types: the symbol, whether the lattice is centred, and the generators.
+-- The table that defines the layer types: the symbol, whether the lattice is centred, and the generators as coordinate triplets.
 -- Numbers and symbols are taken after International Tables, Volume E; generators and origins are this project's choice.
-use Rattle.std.specs.Prelude.{ℕ, ◌-◌, codes, Bool, true, false, List, [], ◌∷◌, slice_index_or}
+use Prim.Native.String.{String}
+use Rattle.std.specs.Prelude.{ℕ, ◌-◌, codes, Bool, true, false, List, [], ◌∷◌, map, slice_index_or}
 use Rattle.motions.specs.Layers.{PlanarMotion}
-use Rattle.layer_types.specs.Generators.{fourfold_z, glide_x_b, glide_x_b_at_quarter, glide_y_a, glide_y_a_at_quarter, glide_z_a, glide_z_b, glide_z_n, inversion, inversion_fourfold_z, mirror_antidiagonal, mirror_diagonal, mirror_x, mirror_y, mirror_z, screw_x, screw_x_at_quarter, sixfold_z, threefold_z, twofold_antidiagonal, twofold_diagonal, twofold_x, twofold_x_at_quarter, twofold_y, twofold_z, twofold_z_at_quarter}
+use Rattle.motions.specs.WrittenMotions.{planar_written}
 
-pub record Row : Type 0 where
+-- a row, with generators of this kind
+pub record Row (A : Type 0) : Type 0 where
   pub symbol : List ℕ
   pub centred : Bool
-  pub generators : List PlanarMotion
+  pub generators : List A
 
-abbrev pub primitive : List ℕ → List PlanarMotion → Row
-primitive symbol generators = record { symbol = symbol; centred = false; generators = generators }
+abbrev row : Bool → String → List String → Row (List ℕ)
+row centred symbol triplets = record { symbol = codes symbol; centred = centred; generators = map codes triplets }
 
-abbrev pub centred : List ℕ → List PlanarMotion → Row
-centred symbol generators = record { symbol = symbol; centred = true; generators = generators }
+abbrev pub primitive : String → List String → Row (List ℕ)
+primitive = row false
+
+abbrev centred : String → List String → Row (List ℕ)
+centred = row true
 
 -- in the order of the numbers, from 1
-unfoldable pub layer_rows : List Row
+unfoldable pub layer_rows : List (Row (List ℕ))
 layer_rows =
-    primitive (codes "p1") [] ∷  -- 1
-    primitive (codes "p-1") (inversion ∷ []) ∷  -- 2: -x,-y,-z
-    primitive (codes "p112") (twofold_z ∷ []) ∷  -- 3: -x,-y,z
-    primitive (codes "p11m") (mirror_z ∷ []) ∷  -- 4: x,y,-z
-    primitive (codes "p11a") (glide_z_a ∷ []) ∷  -- 5: x+1/2,y,-z
-    primitive (codes "p112/m") (twofold_z ∷ inversion ∷ []) ∷  -- 6: -x,-y,z; -x,-y,-z
-    primitive (codes "p112/a") (twofold_z_at_quarter ∷ inversion ∷ []) ∷  -- 7: -x+1/2,-y,z; -x,-y,-z
-    primitive (codes "p211") (twofold_x ∷ []) ∷  -- 8: x,-y,-z
-    primitive (codes "p2_111") (screw_x ∷ []) ∷  -- 9: x+1/2,-y,-z
-    centred (codes "c211") (twofold_x ∷ []) ∷  -- 10: x,-y,-z
-    primitive (codes "pm11") (mirror_x ∷ []) ∷  -- 11: -x,y,z
-    primitive (codes "pb11") (glide_x_b ∷ []) ∷  -- 12: -x,y+1/2,z
-    centred (codes "cm11") (mirror_x ∷ []) ∷  -- 13: -x,y,z
-    primitive (codes "p2/m11") (twofold_x ∷ inversion ∷ []) ∷  -- 14: x,-y,-z; -x,-y,-z
-    primitive (codes "p2_1/m11") (screw_x ∷ inversion ∷ []) ∷  -- 15: x+1/2,-y,-z; -x,-y,-z
-    primitive (codes "p2/b11") (twofold_x_at_quarter ∷ inversion ∷ []) ∷  -- 16: x,-y+1/2,-z; -x,-y,-z
-    primitive (codes "p2_1/b11") (screw_x_at_quarter ∷ inversion ∷ []) ∷  -- 17: x+1/2,-y+1/2,-z; -x,-y,-z
-    centred (codes "c2/m11") (twofold_x ∷ inversion ∷ []) ∷  -- 18: x,-y,-z; -x,-y,-z
-    primitive (codes "p222") (twofold_z ∷ twofold_x ∷ []) ∷  -- 19: -x,-y,z; x,-y,-z
-    primitive (codes "p2_122") (screw_x ∷ twofold_y ∷ []) ∷  -- 20: x+1/2,-y,-z; -x,y,-z
-    primitive (codes "p2_12_12") (twofold_z ∷ screw_x_at_quarter ∷ []) ∷  -- 21: -x,-y,z; x+1/2,-y+1/2,-z
-    centred (codes "c222") (twofold_z ∷ twofold_x ∷ []) ∷  -- 22: -x,-y,z; x,-y,-z
-    primitive (codes "pmm2") (twofold_z ∷ mirror_x ∷ []) ∷  -- 23: -x,-y,z; -x,y,z
-    primitive (codes "pma2") (twofold_z ∷ glide_y_a ∷ []) ∷  -- 24: -x,-y,z; x+1/2,-y,z
-    primitive (codes "pba2") (twofold_z ∷ glide_y_a_at_quarter ∷ []) ∷  -- 25: -x,-y,z; x+1/2,-y+1/2,z
-    centred (codes "cmm2") (twofold_z ∷ mirror_x ∷ []) ∷  -- 26: -x,-y,z; -x,y,z
-    primitive (codes "pm2m") (mirror_x ∷ mirror_z ∷ []) ∷  -- 27: -x,y,z; x,y,-z
-    primitive (codes "pm2_1b") (mirror_x ∷ glide_z_b ∷ []) ∷  -- 28: -x,y,z; x,y+1/2,-z
-    primitive (codes "pb2_1m") (glide_x_b ∷ mirror_z ∷ []) ∷  -- 29: -x,y+1/2,z; x,y,-z
-    primitive (codes "pb2b") (glide_x_b ∷ glide_z_b ∷ []) ∷  -- 30: -x,y+1/2,z; x,y+1/2,-z
-    primitive (codes "pm2a") (mirror_x ∷ glide_z_a ∷ []) ∷  -- 31: -x,y,z; x+1/2,y,-z
-    primitive (codes "pm2_1n") (mirror_x ∷ glide_z_n ∷ []) ∷  -- 32: -x,y,z; x+1/2,y+1/2,-z
-    primitive (codes "pb2_1a") (glide_x_b ∷ glide_z_a ∷ []) ∷  -- 33: -x,y+1/2,z; x+1/2,y,-z
-    primitive (codes "pb2n") (glide_x_b ∷ glide_z_n ∷ []) ∷  -- 34: -x,y+1/2,z; x+1/2,y+1/2,-z
-    centred (codes "cm2m") (mirror_x ∷ mirror_z ∷ []) ∷  -- 35: -x,y,z; x,y,-z
-    centred (codes "cm2e") (mirror_x ∷ glide_z_a ∷ []) ∷  -- 36: -x,y,z; x+1/2,y,-z
-    primitive (codes "pmmm") (mirror_x ∷ mirror_y ∷ mirror_z ∷ []) ∷  -- 37: -x,y,z; x,-y,z; x,y,-z
-    primitive (codes "pmaa") (mirror_x ∷ glide_y_a ∷ glide_z_a ∷ []) ∷  -- 38: -x,y,z; x+1/2,-y,z; x+1/2,y,-z
-    primitive (codes "pban") (glide_x_b ∷ glide_y_a ∷ glide_z_n ∷ []) ∷  -- 39: -x,y+1/2,z; x+1/2,-y,z; x+1/2,y+1/2,-z
-    primitive (codes "pmam") (mirror_x ∷ glide_y_a ∷ mirror_z ∷ []) ∷  -- 40: -x,y,z; x+1/2,-y,z; x,y,-z
-    primitive (codes "pmma") (mirror_x ∷ mirror_y ∷ glide_z_a ∷ []) ∷  -- 41: -x,y,z; x,-y,z; x+1/2,y,-z
-    primitive (codes "pman") (mirror_x ∷ glide_y_a ∷ glide_z_n ∷ []) ∷  -- 42: -x,y,z; x+1/2,-y,z; x+1/2,y+1/2,-z
-    primitive (codes "pbaa") (glide_x_b ∷ glide_y_a ∷ glide_z_a ∷ []) ∷  -- 43: -x,y+1/2,z; x+1/2,-y,z; x+1/2,y,-z
-    primitive (codes "pbam") (glide_x_b ∷ glide_y_a ∷ mirror_z ∷ []) ∷  -- 44: -x,y+1/2,z; x+1/2,-y,z; x,y,-z
-    primitive (codes "pbma") (glide_x_b ∷ mirror_y ∷ glide_z_a ∷ []) ∷  -- 45: -x,y+1/2,z; x,-y,z; x+1/2,y,-z
-    primitive (codes "pmmn") (mirror_x ∷ mirror_y ∷ glide_z_n ∷ []) ∷  -- 46: -x,y,z; x,-y,z; x+1/2,y+1/2,-z
-    centred (codes "cmmm") (mirror_x ∷ mirror_y ∷ mirror_z ∷ []) ∷  -- 47: -x,y,z; x,-y,z; x,y,-z
-    centred (codes "cmme") (mirror_x ∷ mirror_y ∷ glide_z_a ∷ []) ∷  -- 48: -x,y,z; x,-y,z; x+1/2,y,-z
-    primitive (codes "p4") (fourfold_z ∷ []) ∷  -- 49: -y,x,z
-    primitive (codes "p-4") (inversion_fourfold_z ∷ []) ∷  -- 50: y,-x,-z
-    primitive (codes "p4/m") (fourfold_z ∷ mirror_z ∷ []) ∷  -- 51: -y,x,z; x,y,-z
-    primitive (codes "p4/n") (fourfold_z ∷ glide_z_n ∷ []) ∷  -- 52: -y,x,z; x+1/2,y+1/2,-z
-    primitive (codes "p422") (fourfold_z ∷ twofold_x ∷ []) ∷  -- 53: -y,x,z; x,-y,-z
-    primitive (codes "p42_12") (fourfold_z ∷ screw_x_at_quarter ∷ []) ∷  -- 54: -y,x,z; x+1/2,-y+1/2,-z
-    primitive (codes "p4mm") (fourfold_z ∷ mirror_x ∷ []) ∷  -- 55: -y,x,z; -x,y,z
-    primitive (codes "p4bm") (fourfold_z ∷ glide_x_b_at_quarter ∷ []) ∷  -- 56: -y,x,z; -x+1/2,y+1/2,z
-    primitive (codes "p-42m") (inversion_fourfold_z ∷ twofold_x ∷ []) ∷  -- 57: y,-x,-z; x,-y,-z
-    primitive (codes "p-42_1m") (inversion_fourfold_z ∷ screw_x_at_quarter ∷ []) ∷  -- 58: y,-x,-z; x+1/2,-y+1/2,-z
-    primitive (codes "p-4m2") (inversion_fourfold_z ∷ mirror_x ∷ []) ∷  -- 59: y,-x,-z; -x,y,z
-    primitive (codes "p-4b2") (inversion_fourfold_z ∷ glide_x_b_at_quarter ∷ []) ∷  -- 60: y,-x,-z; -x+1/2,y+1/2,z
-    primitive (codes "p4/mmm") (fourfold_z ∷ mirror_x ∷ mirror_z ∷ []) ∷  -- 61: -y,x,z; -x,y,z; x,y,-z
-    primitive (codes "p4/nbm") (fourfold_z ∷ glide_x_b_at_quarter ∷ glide_z_n ∷ []) ∷  -- 62: -y,x,z; -x+1/2,y+1/2,z; x+1/2,y+1/2,-z
-    primitive (codes "p4/mbm") (fourfold_z ∷ glide_x_b_at_quarter ∷ mirror_z ∷ []) ∷  -- 63: -y,x,z; -x+1/2,y+1/2,z; x,y,-z
-    primitive (codes "p4/nmm") (fourfold_z ∷ mirror_x ∷ glide_z_n ∷ []) ∷  -- 64: -y,x,z; -x,y,z; x+1/2,y+1/2,-z
-    primitive (codes "p3") (threefold_z ∷ []) ∷  -- 65: -y,x-y,z
-    primitive (codes "p-3") (threefold_z ∷ inversion ∷ []) ∷  -- 66: -y,x-y,z; -x,-y,-z
-    primitive (codes "p312") (threefold_z ∷ twofold_antidiagonal ∷ []) ∷  -- 67: -y,x-y,z; -y,-x,-z
-    primitive (codes "p321") (threefold_z ∷ twofold_diagonal ∷ []) ∷  -- 68: -y,x-y,z; y,x,-z
-    primitive (codes "p3m1") (threefold_z ∷ mirror_antidiagonal ∷ []) ∷  -- 69: -y,x-y,z; -y,-x,z
-    primitive (codes "p31m") (threefold_z ∷ mirror_diagonal ∷ []) ∷  -- 70: -y,x-y,z; y,x,z
-    primitive (codes "p-31m") (threefold_z ∷ twofold_antidiagonal ∷ inversion ∷ []) ∷  -- 71: -y,x-y,z; -y,-x,-z; -x,-y,-z
-    primitive (codes "p-3m1") (threefold_z ∷ twofold_diagonal ∷ inversion ∷ []) ∷  -- 72: -y,x-y,z; y,x,-z; -x,-y,-z
-    primitive (codes "p6") (sixfold_z ∷ []) ∷  -- 73: x-y,x,z
-    primitive (codes "p-6") (threefold_z ∷ mirror_z ∷ []) ∷  -- 74: -y,x-y,z; x,y,-z
-    primitive (codes "p6/m") (sixfold_z ∷ mirror_z ∷ []) ∷  -- 75: x-y,x,z; x,y,-z
-    primitive (codes "p622") (sixfold_z ∷ twofold_diagonal ∷ []) ∷  -- 76: x-y,x,z; y,x,-z
-    primitive (codes "p6mm") (sixfold_z ∷ mirror_antidiagonal ∷ []) ∷  -- 77: x-y,x,z; -y,-x,z
-    primitive (codes "p-6m2") (threefold_z ∷ mirror_z ∷ mirror_antidiagonal ∷ []) ∷  -- 78: -y,x-y,z; x,y,-z; -y,-x,z
-    primitive (codes "p-62m") (threefold_z ∷ mirror_z ∷ mirror_diagonal ∷ []) ∷  -- 79: -y,x-y,z; x,y,-z; y,x,z
-    primitive (codes "p6/mmm") (sixfold_z ∷ twofold_diagonal ∷ mirror_z ∷ []) ∷  -- 80: x-y,x,z; y,x,-z; x,y,-z
+    primitive "p1" [] ∷  -- 1
+    primitive "p-1" ("-x,-y,-z" ∷ []) ∷  -- 2
+    primitive "p112" ("-x,-y,z" ∷ []) ∷  -- 3
+    primitive "p11m" ("x,y,-z" ∷ []) ∷  -- 4
+    primitive "p11a" ("x+1/2,y,-z" ∷ []) ∷  -- 5
+    primitive "p112/m" ("-x,-y,z" ∷ "-x,-y,-z" ∷ []) ∷  -- 6
+    primitive "p112/a" ("-x+1/2,-y,z" ∷ "-x,-y,-z" ∷ []) ∷  -- 7
+    primitive "p211" ("x,-y,-z" ∷ []) ∷  -- 8
+    primitive "p2_111" ("x+1/2,-y,-z" ∷ []) ∷  -- 9
+    centred "c211" ("x,-y,-z" ∷ []) ∷  -- 10
+    primitive "pm11" ("-x,y,z" ∷ []) ∷  -- 11
+    primitive "pb11" ("-x,y+1/2,z" ∷ []) ∷  -- 12
+    centred "cm11" ("-x,y,z" ∷ []) ∷  -- 13
+    primitive "p2/m11" ("x,-y,-z" ∷ "-x,-y,-z" ∷ []) ∷  -- 14
+    primitive "p2_1/m11" ("x+1/2,-y,-z" ∷ "-x,-y,-z" ∷ []) ∷  -- 15
+    primitive "p2/b11" ("x,-y+1/2,-z" ∷ "-x,-y,-z" ∷ []) ∷  -- 16
+    primitive "p2_1/b11" ("x+1/2,-y+1/2,-z" ∷ "-x,-y,-z" ∷ []) ∷  -- 17
+    centred "c2/m11" ("x,-y,-z" ∷ "-x,-y,-z" ∷ []) ∷  -- 18
+    primitive "p222" ("-x,-y,z" ∷ "x,-y,-z" ∷ []) ∷  -- 19
+    primitive "p2_122" ("x+1/2,-y,-z" ∷ "-x,y,-z" ∷ []) ∷  -- 20
+    primitive "p2_12_12" ("-x,-y,z" ∷ "x+1/2,-y+1/2,-z" ∷ []) ∷  -- 21
+    centred "c222" ("-x,-y,z" ∷ "x,-y,-z" ∷ []) ∷  -- 22
+    primitive "pmm2" ("-x,-y,z" ∷ "-x,y,z" ∷ []) ∷  -- 23
+    primitive "pma2" ("-x,-y,z" ∷ "x+1/2,-y,z" ∷ []) ∷  -- 24
+    primitive "pba2" ("-x,-y,z" ∷ "x+1/2,-y+1/2,z" ∷ []) ∷  -- 25
+    centred "cmm2" ("-x,-y,z" ∷ "-x,y,z" ∷ []) ∷  -- 26
+    primitive "pm2m" ("-x,y,z" ∷ "x,y,-z" ∷ []) ∷  -- 27
+    primitive "pm2_1b" ("-x,y,z" ∷ "x,y+1/2,-z" ∷ []) ∷  -- 28
+    primitive "pb2_1m" ("-x,y+1/2,z" ∷ "x,y,-z" ∷ []) ∷  -- 29
+    primitive "pb2b" ("-x,y+1/2,z" ∷ "x,y+1/2,-z" ∷ []) ∷  -- 30
+    primitive "pm2a" ("-x,y,z" ∷ "x+1/2,y,-z" ∷ []) ∷  -- 31
+    primitive "pm2_1n" ("-x,y,z" ∷ "x+1/2,y+1/2,-z" ∷ []) ∷  -- 32
+    primitive "pb2_1a" ("-x,y+1/2,z" ∷ "x+1/2,y,-z" ∷ []) ∷  -- 33
+    primitive "pb2n" ("-x,y+1/2,z" ∷ "x+1/2,y+1/2,-z" ∷ []) ∷  -- 34
+    centred "cm2m" ("-x,y,z" ∷ "x,y,-z" ∷ []) ∷  -- 35
+    centred "cm2e" ("-x,y,z" ∷ "x+1/2,y,-z" ∷ []) ∷  -- 36
+    primitive "pmmm" ("-x,y,z" ∷ "x,-y,z" ∷ "x,y,-z" ∷ []) ∷  -- 37
+    primitive "pmaa" ("-x,y,z" ∷ "x+1/2,-y,z" ∷ "x+1/2,y,-z" ∷ []) ∷  -- 38
+    primitive "pban" ("-x,y+1/2,z" ∷ "x+1/2,-y,z" ∷ "x+1/2,y+1/2,-z" ∷ []) ∷  -- 39
+    primitive "pmam" ("-x,y,z" ∷ "x+1/2,-y,z" ∷ "x,y,-z" ∷ []) ∷  -- 40
+    primitive "pmma" ("-x,y,z" ∷ "x,-y,z" ∷ "x+1/2,y,-z" ∷ []) ∷  -- 41
+    primitive "pman" ("-x,y,z" ∷ "x+1/2,-y,z" ∷ "x+1/2,y+1/2,-z" ∷ []) ∷  -- 42
+    primitive "pbaa" ("-x,y+1/2,z" ∷ "x+1/2,-y,z" ∷ "x+1/2,y,-z" ∷ []) ∷  -- 43
+    primitive "pbam" ("-x,y+1/2,z" ∷ "x+1/2,-y,z" ∷ "x,y,-z" ∷ []) ∷  -- 44
+    primitive "pbma" ("-x,y+1/2,z" ∷ "x,-y,z" ∷ "x+1/2,y,-z" ∷ []) ∷  -- 45
+    primitive "pmmn" ("-x,y,z" ∷ "x,-y,z" ∷ "x+1/2,y+1/2,-z" ∷ []) ∷  -- 46
+    centred "cmmm" ("-x,y,z" ∷ "x,-y,z" ∷ "x,y,-z" ∷ []) ∷  -- 47
+    centred "cmme" ("-x,y,z" ∷ "x,-y,z" ∷ "x+1/2,y,-z" ∷ []) ∷  -- 48
+    primitive "p4" ("-y,x,z" ∷ []) ∷  -- 49
+    primitive "p-4" ("y,-x,-z" ∷ []) ∷  -- 50
+    primitive "p4/m" ("-y,x,z" ∷ "x,y,-z" ∷ []) ∷  -- 51
+    primitive "p4/n" ("-y,x,z" ∷ "x+1/2,y+1/2,-z" ∷ []) ∷  -- 52
+    primitive "p422" ("-y,x,z" ∷ "x,-y,-z" ∷ []) ∷  -- 53
+    primitive "p42_12" ("-y,x,z" ∷ "x+1/2,-y+1/2,-z" ∷ []) ∷  -- 54
+    primitive "p4mm" ("-y,x,z" ∷ "-x,y,z" ∷ []) ∷  -- 55
+    primitive "p4bm" ("-y,x,z" ∷ "-x+1/2,y+1/2,z" ∷ []) ∷  -- 56
+    primitive "p-42m" ("y,-x,-z" ∷ "x,-y,-z" ∷ []) ∷  -- 57
+    primitive "p-42_1m" ("y,-x,-z" ∷ "x+1/2,-y+1/2,-z" ∷ []) ∷  -- 58
+    primitive "p-4m2" ("y,-x,-z" ∷ "-x,y,z" ∷ []) ∷  -- 59
+    primitive "p-4b2" ("y,-x,-z" ∷ "-x+1/2,y+1/2,z" ∷ []) ∷  -- 60
+    primitive "p4/mmm" ("-y,x,z" ∷ "-x,y,z" ∷ "x,y,-z" ∷ []) ∷  -- 61
+    primitive "p4/nbm" ("-y,x,z" ∷ "-x+1/2,y+1/2,z" ∷ "x+1/2,y+1/2,-z" ∷ []) ∷  -- 62
+    primitive "p4/mbm" ("-y,x,z" ∷ "-x+1/2,y+1/2,z" ∷ "x,y,-z" ∷ []) ∷  -- 63
+    primitive "p4/nmm" ("-y,x,z" ∷ "-x,y,z" ∷ "x+1/2,y+1/2,-z" ∷ []) ∷  -- 64
+    primitive "p3" ("-y,x-y,z" ∷ []) ∷  -- 65
+    primitive "p-3" ("-y,x-y,z" ∷ "-x,-y,-z" ∷ []) ∷  -- 66
+    primitive "p312" ("-y,x-y,z" ∷ "-y,-x,-z" ∷ []) ∷  -- 67
+    primitive "p321" ("-y,x-y,z" ∷ "y,x,-z" ∷ []) ∷  -- 68
+    primitive "p3m1" ("-y,x-y,z" ∷ "-y,-x,z" ∷ []) ∷  -- 69
+    primitive "p31m" ("-y,x-y,z" ∷ "y,x,z" ∷ []) ∷  -- 70
+    primitive "p-31m" ("-y,x-y,z" ∷ "-y,-x,-z" ∷ "-x,-y,-z" ∷ []) ∷  -- 71
+    primitive "p-3m1" ("-y,x-y,z" ∷ "y,x,-z" ∷ "-x,-y,-z" ∷ []) ∷  -- 72
+    primitive "p6" ("x-y,x,z" ∷ []) ∷  -- 73
+    primitive "p-6" ("-y,x-y,z" ∷ "x,y,-z" ∷ []) ∷  -- 74
+    primitive "p6/m" ("x-y,x,z" ∷ "x,y,-z" ∷ []) ∷  -- 75
+    primitive "p622" ("x-y,x,z" ∷ "y,x,-z" ∷ []) ∷  -- 76
+    primitive "p6mm" ("x-y,x,z" ∷ "-y,-x,z" ∷ []) ∷  -- 77
+    primitive "p-6m2" ("-y,x-y,z" ∷ "x,y,-z" ∷ "-y,-x,z" ∷ []) ∷  -- 78
+    primitive "p-62m" ("-y,x-y,z" ∷ "x,y,-z" ∷ "y,x,z" ∷ []) ∷  -- 79
+    primitive "p6/mmm" ("x-y,x,z" ∷ "y,x,-z" ∷ "x,y,-z" ∷ []) ∷  -- 80
     []
 
+-- with the motions that the triplets write
+abbrev pub with_motions : Row (List ℕ) → Row PlanarMotion
+with_motions r = record { symbol = r.symbol; centred = r.centred; generators = map planar_written r.generators }
+
 -- the row of a number
-unfoldable pub layer_row : ℕ → Row
+unfoldable pub layer_row : ℕ → Row PlanarMotion
 unfolding layer_rows
-layer_row n = slice_index_or layer_rows (n - 1) (primitive [] [])
+layer_row n = with_motions (slice_index_or layer_rows (n - 1) (primitive "" []))

@@ -1,12 +1,11 @@
 // The 80 layer types, each with its operations, and the shifts that they are taken modulo.
 //
 // Promises to the crates above: `layer` gives the type of a number from 1 to 80, and its operations with the lattice
-// are exactly the closure of the generators in the defining table, each once and in order; `generators` gives these
-// generators; `LayerShifts` meets the laws of `Quotient`, over the same lattices. That a row is the type of that
-// number in International Tables, Volume E, is not claimed.
+// are exactly the closure of the generators in the defining table, each once and in order; `LayerShifts` meets the
+// laws of `Quotient`, over the same lattices. That a row is the type of that number in International Tables, Volume E,
+// is not claimed.
 #![tactic(auto)]
 
-mod generator_table;
 mod hexagonal;
 mod layer_type;
 mod oblique;
@@ -19,6 +18,5 @@ mod square;
 mod tests;
 mod type_table;
 
-pub use generator_table::generators;
 pub use layer_type::{LayerType, layer};
 pub use shifts::LayerShifts;

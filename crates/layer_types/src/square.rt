@@ -1,7 +1,7 @@
 // The layer types of the square system, 49 to 64.
 //
 // Numbers and symbols are taken after International Tables, Volume E. The generators, and with them the origins, are
-// this project's choice (`generator_table.rt`). The operations are what the generators and the lattice make, in order.
+// this project's choice (`specs/Rows.antt`). The operations are what the generators and the lattice make, in order.
 use crate::layer_type::LayerType;
 use crate::operation::op;
 use crate::shifts::HALF_EDGE;

@@ -1,5 +1,5 @@
 // What no clause says: the symbols, and worked cases by hand.
-use super::{LayerShifts, generators, layer};
+use super::{LayerShifts, layer};
 use fractions::UNIT;
 use motions::{LayerMotion, Sign};
 use quotient::{Motion, Quotient, check_group, distinct, find};
@@ -57,8 +57,6 @@ fn the_symbols_stand_in_the_order_of_the_numbers(rt: HostRuntime) {
 fn there_is_no_type_outside_1_to_80(rt: HostRuntime) {
     assert!(rt; layer(0).is_none());
     assert!(rt; layer(81).is_none());
-    assert!(rt; generators(0).is_none());
-    assert!(rt; generators(81).is_none());
 }
 
 #[test]
@@ -73,17 +71,6 @@ fn the_operations_of_p112_a(rt: HostRuntime) {
         assert!(rt; *second == GLIDE);
         assert!(rt; *third == HALF_TURN);
         assert!(rt; *fourth == INVERSION);
-    }
-}
-
-#[test]
-fn the_generators_of_p112_a(rt: HostRuntime) {
-    let found = generators(7);
-    assert!(rt; found.is_some());
-    if let Some(list) = found {
-        assert!(rt; list.len() == 2);
-        assert!(rt; list[0] == HALF_TURN);
-        assert!(rt; list[1] == INVERSION);
     }
 }
 

@@ -1,5 +1,5 @@
 -- Frieze motions as operations along a line, and the frieze types.
-use Rattle.std.specs.Prelude.{◌≡◌, ℕ, ℤ, pos, ◌^◌, List, [], ◌∷◌, map}
+use Rattle.std.specs.Prelude.{ℕ, ℤ, pos, ◌^◌, List, [], ◌∷◌, map}
 use Rattle.integers.specs.Size.{IsWithin}
 use Rattle.fractions.specs.Parts.{reduced_parts}
 use Rattle.motions.specs.declared.frieze.FriezeMotion.{FriezeMotion}
@@ -42,7 +42,3 @@ frieze_type_of t = record { number = t.number; symbol = t.symbol.now; ops = map 
 -- the frieze type of the number n
 abbrev pub IsFriezeType : ℕ → FriezeType → Type 0
 IsFriezeType n t = IsLineType frieze_line (frieze_row n) n (frieze_type_of t)
-
--- the generators of the frieze type of the number n
-abbrev pub AreFriezeGenerators : ℕ → List FriezeMotion → Type 0
-AreFriezeGenerators n gs = map frieze_of gs ≡ (frieze_row n).generators

@@ -1,5 +1,5 @@
 -- Rod motions as operations along a line, and the rod types.
-use Rattle.std.specs.Prelude.{◌≡◌, ℕ, ℤ, pos, List, [], ◌∷◌, map}
+use Rattle.std.specs.Prelude.{ℕ, ℤ, pos, List, [], ◌∷◌, map}
 use Rattle.fractions.specs.Parts.{reduced_parts}
 use Rattle.motions.specs.declared.rod.RodMotion.{RodMotion}
 use Rattle.motions.specs.declared.motion.Sign.TheVariants.{Plus}
@@ -44,7 +44,3 @@ rod_type_of t = record { number = t.number; symbol = t.symbol.now; ops = map rod
 -- the rod type of the number n
 abbrev pub IsRodType : ℕ → RodType → Type 0
 IsRodType n t = IsLineType rod_line (rod_row n) n (rod_type_of t)
-
--- the generators of the rod type of the number n
-abbrev pub AreRodGenerators : ℕ → List RodMotion → Type 0
-AreRodGenerators n gs = map rod_of gs ≡ (rod_row n).generators

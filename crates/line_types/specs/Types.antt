@@ -1,5 +1,6 @@
 -- What the types of a kind of operations along a line are.
-use Rattle.std.specs.Prelude.{◌≡◌, ℕ, ◌≤◌, pos, ◌≤ℤ◌, ◌<ℤ◌, List, length, All, AllPairs}
+use Prim.Native.String.{String}
+use Rattle.std.specs.Prelude.{◌≡◌, ℕ, ◌≤◌, pos, ◌≤ℤ◌, ◌<ℤ◌, codes, List, length, map, All, AllPairs}
 use Rattle.integers.specs.Size.{IsWithin}
 use Rattle.fractions.specs.declared.part.TheConstants.{UNIT}
 use Rattle.quotient.specs.Closure.{IsClosure}
@@ -11,6 +12,14 @@ use Rattle.line_types.specs.Lines.{Line, modulo_lattice}
 pub record Row (A : Type 0) : Type 0 where
   pub symbol : List ℕ
   pub generators : List A
+
+-- as it is written
+abbrev pub row : String → List String → Row (List ℕ)
+row symbol generators = record { symbol = codes symbol; generators = map codes generators }
+
+-- with the motions that the texts write
+abbrev pub with_motions : {A : Type 0} → (List ℕ → A) → Row (List ℕ) → Row A
+with_motions written r = record { symbol = r.symbol; generators = map written r.generators }
 
 -- a type, as the code has it: its number, its symbol and its operations
 pub record LineType (A : Type 0) : Type 0 where

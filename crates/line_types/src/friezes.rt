@@ -2,7 +2,7 @@
 // choice.
 ghost use Rattle.std.specs.Prelude.{◌≡◌, ◌<◌, ◌↔◌, ◌⊎◌, IfSome, IsNone};
 ghost use Rattle.quotient.specs.Table.{IsTable};
-ghost use Rattle.line_types.specs.Friezes.{AreFriezeGenerators, IsFriezeType};
+ghost use Rattle.line_types.specs.Friezes.{IsFriezeType};
 
 use crate::motion::frieze_motion;
 use fractions::UNIT;
@@ -30,52 +30,11 @@ pub fn frieze(n: u8) -> Option<&'static FriezeType>
     Some(&types()[n as usize - 1])
 }
 
-/// The operations that generate the frieze type of the number n with its lattice. None comes exactly where n is not
-/// from 1 to 7.
-pub fn frieze_generators(n: u8) -> Option<&'static [FriezeMotion]>
-    ensures none { IsNone result ↔ ((n ≡ 0) ⊎ (7 < n)) }
-    ensures exact { IfSome result (λ gs. AreFriezeGenerators n gs.now) }
-{
-    if n == 0 || n > 7 {
-        return None;
-    }
-    Some(generators()[n as usize - 1])
-}
-
 fn types() -> &'static [FriezeType]
     ensures { IsTable IsFriezeType 7 result.now }
 {
     &TYPES
 }
-
-fn generators() -> &'static [&'static [FriezeMotion]]
-    ensures { IsTable (λ n gs. AreFriezeGenerators n gs.now) 7 result.now }
-{
-    &GENERATORS
-}
-
-static GENERATORS: [&[FriezeMotion]; 7] = [
-    // 1 p1: none
-    &[],
-    // 2 p211: -x,-y
-    &[frieze_motion!(Minus, Minus, 0)],
-    // 3 p1m1: -x,y
-    &[frieze_motion!(Minus, Plus, 0)],
-    // 4 p11m: x,-y
-    &[frieze_motion!(Plus, Minus, 0)],
-    // 5 p11g: x+1/2,-y
-    &[frieze_motion!(Plus, Minus, UNIT / 2)],
-    // 6 p2mm: -x,-y; x,-y
-    &[
-        frieze_motion!(Minus, Minus, 0),
-        frieze_motion!(Plus, Minus, 0),
-    ],
-    // 7 p2mg: -x,-y; x+1/2,-y
-    &[
-        frieze_motion!(Minus, Minus, 0),
-        frieze_motion!(Plus, Minus, UNIT / 2),
-    ],
-];
 
 static TYPES: [FriezeType; 7] = [
     FriezeType {

@@ -1,12 +1,12 @@
-// The hexagonal rod types of the crystal classes 622, 6mm, -6m2 and 6/mmm. Number and symbol are after International
-// Tables, Volume E. Above each type stand the generators that define it, which are this project's choice, as its origin
-// is.
+// The hexagonal rod types of the crystal classes 622, 6mm, -6m2 and 6/mmm.
+//
+// Numbers and symbols are taken after International Tables, Volume E. The generators, and with them the origins, are
+// this project's choice (`specs/RodRows.antt`).
 use crate::motion::rod_motion;
 use crate::rods::RodType;
 use fractions::UNIT;
 use motions::{RodMotion, Sign};
 
-// x-y,x,z; y,x,-z
 pub(crate) const TYPE_62: RodType = RodType {
     number: 62,
     symbol: "p622",
@@ -26,7 +26,6 @@ pub(crate) const TYPE_62: RodType = RodType {
     ],
 };
 
-// x-y,x,z+1/6; y,x,-z
 pub(crate) const TYPE_63: RodType = RodType {
     number: 63,
     symbol: "p6_122",
@@ -46,7 +45,6 @@ pub(crate) const TYPE_63: RodType = RodType {
     ],
 };
 
-// x-y,x,z+1/3; y,x,-z
 pub(crate) const TYPE_64: RodType = RodType {
     number: 64,
     symbol: "p6_222",
@@ -66,7 +64,6 @@ pub(crate) const TYPE_64: RodType = RodType {
     ],
 };
 
-// x-y,x,z+1/2; y,x,-z
 pub(crate) const TYPE_65: RodType = RodType {
     number: 65,
     symbol: "p6_322",
@@ -86,7 +83,6 @@ pub(crate) const TYPE_65: RodType = RodType {
     ],
 };
 
-// x-y,x,z+2/3; y,x,-z
 pub(crate) const TYPE_66: RodType = RodType {
     number: 66,
     symbol: "p6_422",
@@ -106,7 +102,6 @@ pub(crate) const TYPE_66: RodType = RodType {
     ],
 };
 
-// x-y,x,z+5/6; y,x,-z
 pub(crate) const TYPE_67: RodType = RodType {
     number: 67,
     symbol: "p6_522",
@@ -126,7 +121,6 @@ pub(crate) const TYPE_67: RodType = RodType {
     ],
 };
 
-// x-y,x,z; -y,-x,z
 pub(crate) const TYPE_68: RodType = RodType {
     number: 68,
     symbol: "p6mm",
@@ -146,7 +140,6 @@ pub(crate) const TYPE_68: RodType = RodType {
     ],
 };
 
-// x-y,x,z; -y,-x,z+1/2
 pub(crate) const TYPE_69: RodType = RodType {
     number: 69,
     symbol: "p6cc",
@@ -166,7 +159,6 @@ pub(crate) const TYPE_69: RodType = RodType {
     ],
 };
 
-// x-y,x,z+1/2; -y,-x,z
 pub(crate) const TYPE_70: RodType = RodType {
     number: 70,
     symbol: "p6_3mc",
@@ -186,7 +178,6 @@ pub(crate) const TYPE_70: RodType = RodType {
     ],
 };
 
-// -y,x-y,z; x,y,-z; -y,-x,z
 pub(crate) const TYPE_71: RodType = RodType {
     number: 71,
     symbol: "p-6m2",
@@ -206,7 +197,6 @@ pub(crate) const TYPE_71: RodType = RodType {
     ],
 };
 
-// -y,x-y,z; x,y,-z; -y,-x,z+1/2
 pub(crate) const TYPE_72: RodType = RodType {
     number: 72,
     symbol: "p-6c2",
@@ -226,7 +216,6 @@ pub(crate) const TYPE_72: RodType = RodType {
     ],
 };
 
-// x-y,x,z; -y,-x,z; x,y,-z
 pub(crate) const TYPE_73: RodType = RodType {
     number: 73,
     symbol: "p6/mmm",
@@ -258,7 +247,6 @@ pub(crate) const TYPE_73: RodType = RodType {
     ],
 };
 
-// x-y,x,z; -y,-x,z+1/2; x,y,-z
 pub(crate) const TYPE_74: RodType = RodType {
     number: 74,
     symbol: "p6/mcc",
@@ -290,7 +278,6 @@ pub(crate) const TYPE_74: RodType = RodType {
     ],
 };
 
-// x-y,x,z+1/2; -y,-x,z; x,y,-z
 pub(crate) const TYPE_75: RodType = RodType {
     number: 75,
     symbol: "p6_3/mmc",

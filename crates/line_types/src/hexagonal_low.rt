@@ -1,11 +1,12 @@
-// The hexagonal rod types of the crystal classes 6, -6 and 6/m. Number and symbol are after International Tables,
-// Volume E. Above each type stand the generators that define it, which are this project's choice, as its origin is.
+// The hexagonal rod types of the crystal classes 6, -6 and 6/m.
+//
+// Numbers and symbols are taken after International Tables, Volume E. The generators, and with them the origins, are
+// this project's choice (`specs/RodRows.antt`).
 use crate::motion::rod_motion;
 use crate::rods::RodType;
 use fractions::UNIT;
 use motions::{RodMotion, Sign};
 
-// x-y,x,z
 pub(crate) const TYPE_53: RodType = RodType {
     number: 53,
     symbol: "p6",
@@ -19,7 +20,6 @@ pub(crate) const TYPE_53: RodType = RodType {
     ],
 };
 
-// x-y,x,z+1/6
 pub(crate) const TYPE_54: RodType = RodType {
     number: 54,
     symbol: "p6_1",
@@ -33,7 +33,6 @@ pub(crate) const TYPE_54: RodType = RodType {
     ],
 };
 
-// x-y,x,z+1/3
 pub(crate) const TYPE_55: RodType = RodType {
     number: 55,
     symbol: "p6_2",
@@ -47,7 +46,6 @@ pub(crate) const TYPE_55: RodType = RodType {
     ],
 };
 
-// x-y,x,z+1/2
 pub(crate) const TYPE_56: RodType = RodType {
     number: 56,
     symbol: "p6_3",
@@ -61,7 +59,6 @@ pub(crate) const TYPE_56: RodType = RodType {
     ],
 };
 
-// x-y,x,z+2/3
 pub(crate) const TYPE_57: RodType = RodType {
     number: 57,
     symbol: "p6_4",
@@ -75,7 +72,6 @@ pub(crate) const TYPE_57: RodType = RodType {
     ],
 };
 
-// x-y,x,z+5/6
 pub(crate) const TYPE_58: RodType = RodType {
     number: 58,
     symbol: "p6_5",
@@ -89,7 +85,6 @@ pub(crate) const TYPE_58: RodType = RodType {
     ],
 };
 
-// -y,x-y,z; x,y,-z
 pub(crate) const TYPE_59: RodType = RodType {
     number: 59,
     symbol: "p-6",
@@ -103,7 +98,6 @@ pub(crate) const TYPE_59: RodType = RodType {
     ],
 };
 
-// x-y,x,z; x,y,-z
 pub(crate) const TYPE_60: RodType = RodType {
     number: 60,
     symbol: "p6/m",
@@ -123,7 +117,6 @@ pub(crate) const TYPE_60: RodType = RodType {
     ],
 };
 
-// x-y,x,z+1/2; x,y,-z
 pub(crate) const TYPE_61: RodType = RodType {
     number: 61,
     symbol: "p6_3/m",

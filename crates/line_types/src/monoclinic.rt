@@ -1,18 +1,18 @@
-// The triclinic and the monoclinic rod types. Number and symbol are after International Tables, Volume E.
-// Above each type stand the generators that define it, which are this project's choice, as its origin is.
+// The triclinic and the monoclinic rod types.
+//
+// Numbers and symbols are taken after International Tables, Volume E. The generators, and with them the origins, are
+// this project's choice (`specs/RodRows.antt`).
 use crate::motion::rod_motion;
 use crate::rods::RodType;
 use fractions::UNIT;
 use motions::{RodMotion, Sign};
 
-// no generators
 pub(crate) const TYPE_1: RodType = RodType {
     number: 1,
     symbol: "p1",
     ops: &[rod_motion!([1, 0], [0, 1], Plus, 0)],
 };
 
-// -x,-y,-z
 pub(crate) const TYPE_2: RodType = RodType {
     number: 2,
     symbol: "p-1",
@@ -22,7 +22,6 @@ pub(crate) const TYPE_2: RodType = RodType {
     ],
 };
 
-// x,-y,-z
 pub(crate) const TYPE_3: RodType = RodType {
     number: 3,
     symbol: "p211",
@@ -32,7 +31,6 @@ pub(crate) const TYPE_3: RodType = RodType {
     ],
 };
 
-// -x,y,z
 pub(crate) const TYPE_4: RodType = RodType {
     number: 4,
     symbol: "pm11",
@@ -42,7 +40,6 @@ pub(crate) const TYPE_4: RodType = RodType {
     ],
 };
 
-// -x,y,z+1/2
 pub(crate) const TYPE_5: RodType = RodType {
     number: 5,
     symbol: "pc11",
@@ -52,7 +49,6 @@ pub(crate) const TYPE_5: RodType = RodType {
     ],
 };
 
-// x,-y,-z; -x,-y,-z
 pub(crate) const TYPE_6: RodType = RodType {
     number: 6,
     symbol: "p2/m11",
@@ -64,7 +60,6 @@ pub(crate) const TYPE_6: RodType = RodType {
     ],
 };
 
-// x,-y,-z+1/2; -x,-y,-z
 pub(crate) const TYPE_7: RodType = RodType {
     number: 7,
     symbol: "p2/c11",
@@ -76,7 +71,6 @@ pub(crate) const TYPE_7: RodType = RodType {
     ],
 };
 
-// -x,-y,z
 pub(crate) const TYPE_8: RodType = RodType {
     number: 8,
     symbol: "p112",
@@ -86,7 +80,6 @@ pub(crate) const TYPE_8: RodType = RodType {
     ],
 };
 
-// -x,-y,z+1/2
 pub(crate) const TYPE_9: RodType = RodType {
     number: 9,
     symbol: "p112_1",
@@ -96,7 +89,6 @@ pub(crate) const TYPE_9: RodType = RodType {
     ],
 };
 
-// x,y,-z
 pub(crate) const TYPE_10: RodType = RodType {
     number: 10,
     symbol: "p11m",
@@ -106,7 +98,6 @@ pub(crate) const TYPE_10: RodType = RodType {
     ],
 };
 
-// -x,-y,z; x,y,-z
 pub(crate) const TYPE_11: RodType = RodType {
     number: 11,
     symbol: "p112/m",
@@ -118,7 +109,6 @@ pub(crate) const TYPE_11: RodType = RodType {
     ],
 };
 
-// -x,-y,z+1/2; x,y,-z
 pub(crate) const TYPE_12: RodType = RodType {
     number: 12,
     symbol: "p112_1/m",

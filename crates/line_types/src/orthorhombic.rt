@@ -1,11 +1,12 @@
-// The orthorhombic rod types. Number and symbol are after International Tables, Volume E.
-// Above each type stand the generators that define it, which are this project's choice, as its origin is.
+// The orthorhombic rod types.
+//
+// Numbers and symbols are taken after International Tables, Volume E. The generators, and with them the origins, are
+// this project's choice (`specs/RodRows.antt`).
 use crate::motion::rod_motion;
 use crate::rods::RodType;
 use fractions::UNIT;
 use motions::{RodMotion, Sign};
 
-// -x,-y,z; x,-y,-z
 pub(crate) const TYPE_13: RodType = RodType {
     number: 13,
     symbol: "p222",
@@ -17,7 +18,6 @@ pub(crate) const TYPE_13: RodType = RodType {
     ],
 };
 
-// -x,-y,z+1/2; x,-y,-z
 pub(crate) const TYPE_14: RodType = RodType {
     number: 14,
     symbol: "p222_1",
@@ -29,7 +29,6 @@ pub(crate) const TYPE_14: RodType = RodType {
     ],
 };
 
-// -x,-y,z; -x,y,z
 pub(crate) const TYPE_15: RodType = RodType {
     number: 15,
     symbol: "pmm2",
@@ -41,7 +40,6 @@ pub(crate) const TYPE_15: RodType = RodType {
     ],
 };
 
-// -x,-y,z; -x,y,z+1/2
 pub(crate) const TYPE_16: RodType = RodType {
     number: 16,
     symbol: "pcc2",
@@ -53,7 +51,6 @@ pub(crate) const TYPE_16: RodType = RodType {
     ],
 };
 
-// -x,-y,z+1/2; -x,y,z
 pub(crate) const TYPE_17: RodType = RodType {
     number: 17,
     symbol: "pmc2_1",
@@ -65,7 +62,6 @@ pub(crate) const TYPE_17: RodType = RodType {
     ],
 };
 
-// x,-y,z; x,y,-z
 pub(crate) const TYPE_18: RodType = RodType {
     number: 18,
     symbol: "p2mm",
@@ -77,7 +73,6 @@ pub(crate) const TYPE_18: RodType = RodType {
     ],
 };
 
-// x,-y,z+1/2; x,y,-z
 pub(crate) const TYPE_19: RodType = RodType {
     number: 19,
     symbol: "p2cm",
@@ -89,7 +84,6 @@ pub(crate) const TYPE_19: RodType = RodType {
     ],
 };
 
-// -x,y,z; x,-y,z; x,y,-z
 pub(crate) const TYPE_20: RodType = RodType {
     number: 20,
     symbol: "pmmm",
@@ -105,7 +99,6 @@ pub(crate) const TYPE_20: RodType = RodType {
     ],
 };
 
-// -x,y,z+1/2; x,-y,z+1/2; x,y,-z
 pub(crate) const TYPE_21: RodType = RodType {
     number: 21,
     symbol: "pccm",
@@ -121,7 +114,6 @@ pub(crate) const TYPE_21: RodType = RodType {
     ],
 };
 
-// -x,y,z; x,-y,z+1/2; x,y,-z
 pub(crate) const TYPE_22: RodType = RodType {
     number: 22,
     symbol: "pmcm",

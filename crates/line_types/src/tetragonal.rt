@@ -1,11 +1,12 @@
-// The tetragonal rod types. Number and symbol are after International Tables, Volume E.
-// Above each type stand the generators that define it, which are this project's choice, as its origin is.
+// The tetragonal rod types.
+//
+// Numbers and symbols are taken after International Tables, Volume E. The generators, and with them the origins, are
+// this project's choice (`specs/RodRows.antt`).
 use crate::motion::rod_motion;
 use crate::rods::RodType;
 use fractions::UNIT;
 use motions::{RodMotion, Sign};
 
-// -y,x,z
 pub(crate) const TYPE_23: RodType = RodType {
     number: 23,
     symbol: "p4",
@@ -17,7 +18,6 @@ pub(crate) const TYPE_23: RodType = RodType {
     ],
 };
 
-// -y,x,z+1/4
 pub(crate) const TYPE_24: RodType = RodType {
     number: 24,
     symbol: "p4_1",
@@ -29,7 +29,6 @@ pub(crate) const TYPE_24: RodType = RodType {
     ],
 };
 
-// -y,x,z+1/2
 pub(crate) const TYPE_25: RodType = RodType {
     number: 25,
     symbol: "p4_2",
@@ -41,7 +40,6 @@ pub(crate) const TYPE_25: RodType = RodType {
     ],
 };
 
-// -y,x,z+3/4
 pub(crate) const TYPE_26: RodType = RodType {
     number: 26,
     symbol: "p4_3",
@@ -53,7 +51,6 @@ pub(crate) const TYPE_26: RodType = RodType {
     ],
 };
 
-// y,-x,-z
 pub(crate) const TYPE_27: RodType = RodType {
     number: 27,
     symbol: "p-4",
@@ -65,7 +62,6 @@ pub(crate) const TYPE_27: RodType = RodType {
     ],
 };
 
-// -y,x,z; x,y,-z
 pub(crate) const TYPE_28: RodType = RodType {
     number: 28,
     symbol: "p4/m",
@@ -81,7 +77,6 @@ pub(crate) const TYPE_28: RodType = RodType {
     ],
 };
 
-// -y,x,z+1/2; x,y,-z
 pub(crate) const TYPE_29: RodType = RodType {
     number: 29,
     symbol: "p4_2/m",
@@ -97,7 +92,6 @@ pub(crate) const TYPE_29: RodType = RodType {
     ],
 };
 
-// -y,x,z; x,-y,-z
 pub(crate) const TYPE_30: RodType = RodType {
     number: 30,
     symbol: "p422",
@@ -113,7 +107,6 @@ pub(crate) const TYPE_30: RodType = RodType {
     ],
 };
 
-// -y,x,z+1/4; x,-y,-z
 pub(crate) const TYPE_31: RodType = RodType {
     number: 31,
     symbol: "p4_122",
@@ -129,7 +122,6 @@ pub(crate) const TYPE_31: RodType = RodType {
     ],
 };
 
-// -y,x,z+1/2; x,-y,-z
 pub(crate) const TYPE_32: RodType = RodType {
     number: 32,
     symbol: "p4_222",
@@ -145,7 +137,6 @@ pub(crate) const TYPE_32: RodType = RodType {
     ],
 };
 
-// -y,x,z+3/4; x,-y,-z
 pub(crate) const TYPE_33: RodType = RodType {
     number: 33,
     symbol: "p4_322",
@@ -161,7 +152,6 @@ pub(crate) const TYPE_33: RodType = RodType {
     ],
 };
 
-// -y,x,z; -x,y,z
 pub(crate) const TYPE_34: RodType = RodType {
     number: 34,
     symbol: "p4mm",
@@ -177,7 +167,6 @@ pub(crate) const TYPE_34: RodType = RodType {
     ],
 };
 
-// -y,x,z+1/2; -x,y,z+1/2
 pub(crate) const TYPE_35: RodType = RodType {
     number: 35,
     symbol: "p4_2cm",
@@ -193,7 +182,6 @@ pub(crate) const TYPE_35: RodType = RodType {
     ],
 };
 
-// -y,x,z; -x,y,z+1/2
 pub(crate) const TYPE_36: RodType = RodType {
     number: 36,
     symbol: "p4cc",
@@ -209,7 +197,6 @@ pub(crate) const TYPE_36: RodType = RodType {
     ],
 };
 
-// y,-x,-z; x,-y,-z
 pub(crate) const TYPE_37: RodType = RodType {
     number: 37,
     symbol: "p-42m",
@@ -225,7 +212,6 @@ pub(crate) const TYPE_37: RodType = RodType {
     ],
 };
 
-// y,-x,-z; x,-y,-z+1/2
 pub(crate) const TYPE_38: RodType = RodType {
     number: 38,
     symbol: "p-42c",
@@ -241,7 +227,6 @@ pub(crate) const TYPE_38: RodType = RodType {
     ],
 };
 
-// -y,x,z; -x,y,z; x,y,-z
 pub(crate) const TYPE_39: RodType = RodType {
     number: 39,
     symbol: "p4/mmm",
@@ -265,7 +250,6 @@ pub(crate) const TYPE_39: RodType = RodType {
     ],
 };
 
-// -y,x,z; -x,y,z+1/2; x,y,-z
 pub(crate) const TYPE_40: RodType = RodType {
     number: 40,
     symbol: "p4/mcc",
@@ -289,7 +273,6 @@ pub(crate) const TYPE_40: RodType = RodType {
     ],
 };
 
-// -y,x,z+1/2; -x,y,z; x,y,-z
 pub(crate) const TYPE_41: RodType = RodType {
     number: 41,
     symbol: "p4_2/mmc",

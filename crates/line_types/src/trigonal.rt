@@ -1,11 +1,12 @@
-// The trigonal rod types. Number and symbol are after International Tables, Volume E.
-// Above each type stand the generators that define it, which are this project's choice, as its origin is.
+// The trigonal rod types.
+//
+// Numbers and symbols are taken after International Tables, Volume E. The generators, and with them the origins, are
+// this project's choice (`specs/RodRows.antt`).
 use crate::motion::rod_motion;
 use crate::rods::RodType;
 use fractions::UNIT;
 use motions::{RodMotion, Sign};
 
-// -y,x-y,z
 pub(crate) const TYPE_42: RodType = RodType {
     number: 42,
     symbol: "p3",
@@ -16,7 +17,6 @@ pub(crate) const TYPE_42: RodType = RodType {
     ],
 };
 
-// -y,x-y,z+1/3
 pub(crate) const TYPE_43: RodType = RodType {
     number: 43,
     symbol: "p3_1",
@@ -27,7 +27,6 @@ pub(crate) const TYPE_43: RodType = RodType {
     ],
 };
 
-// -y,x-y,z+2/3
 pub(crate) const TYPE_44: RodType = RodType {
     number: 44,
     symbol: "p3_2",
@@ -38,7 +37,6 @@ pub(crate) const TYPE_44: RodType = RodType {
     ],
 };
 
-// -y,x-y,z; -x,-y,-z
 pub(crate) const TYPE_45: RodType = RodType {
     number: 45,
     symbol: "p-3",
@@ -52,7 +50,6 @@ pub(crate) const TYPE_45: RodType = RodType {
     ],
 };
 
-// -y,x-y,z; -y,-x,-z
 pub(crate) const TYPE_46: RodType = RodType {
     number: 46,
     symbol: "p312",
@@ -66,7 +63,6 @@ pub(crate) const TYPE_46: RodType = RodType {
     ],
 };
 
-// -y,x-y,z+1/3; -y,-x,-z
 pub(crate) const TYPE_47: RodType = RodType {
     number: 47,
     symbol: "p3_112",
@@ -80,7 +76,6 @@ pub(crate) const TYPE_47: RodType = RodType {
     ],
 };
 
-// -y,x-y,z+2/3; -y,-x,-z
 pub(crate) const TYPE_48: RodType = RodType {
     number: 48,
     symbol: "p3_212",
@@ -94,7 +89,6 @@ pub(crate) const TYPE_48: RodType = RodType {
     ],
 };
 
-// -y,x-y,z; -y,-x,z
 pub(crate) const TYPE_49: RodType = RodType {
     number: 49,
     symbol: "p3m1",
@@ -108,7 +102,6 @@ pub(crate) const TYPE_49: RodType = RodType {
     ],
 };
 
-// -y,x-y,z; -y,-x,z+1/2
 pub(crate) const TYPE_50: RodType = RodType {
     number: 50,
     symbol: "p3c1",
@@ -122,7 +115,6 @@ pub(crate) const TYPE_50: RodType = RodType {
     ],
 };
 
-// -y,x-y,z; -x,-y,-z; y,x,z
 pub(crate) const TYPE_51: RodType = RodType {
     number: 51,
     symbol: "p-31m",
@@ -142,7 +134,6 @@ pub(crate) const TYPE_51: RodType = RodType {
     ],
 };
 
-// -y,x-y,z; -x,-y,-z; y,x,z+1/2
 pub(crate) const TYPE_52: RodType = RodType {
     number: 52,
     symbol: "p-31c",

@@ -15,3 +15,4 @@ pub mod Rationals
 pub mod RodMotions
 pub mod Signs
 pub mod Views
+pub mod WrittenMotions

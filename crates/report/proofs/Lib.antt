@@ -14,3 +14,4 @@ pub mod SeenLists
 pub mod SmallSizes
 pub mod StepNumbers
 pub mod TextLines
+pub mod WrittenGenerators

@@ -17,4 +17,5 @@ pub mod TypeNumbers
 pub mod TypeTexts
 pub mod TypeVectors
 pub mod Values
+pub mod WrittenGenerators
 pub mod WrittenView

@@ -1,5 +1,5 @@
-// What a report says. A call does nothing: its contract is the law.
-ghost use Rattle.std.specs.Prelude.{◌↔◌, List};
+// What a report says, and what the tables of types write. A call does nothing: its contract is the law.
+ghost use Rattle.std.specs.Prelude.{◌↔◌, List, All};
 ghost use Rattle.fractions.specs.declared.part.Part.{Part};
 ghost use Rattle.symmetry.specs.Vectors.{Vector};
 ghost use Rattle.symmetry.specs.Planes.{IsCoprime};
@@ -9,6 +9,9 @@ ghost use Rattle.symmetry.specs.Listings.{AreAlike};
 ghost use Rattle.motions.specs.Views.{parts};
 ghost use Rattle.closure.specs.declared.group.Group.{Group};
 ghost use Rattle.closure.specs.Groups.{IsGroupOf};
+ghost use Rattle.layer_types.specs.Rows.{layer_rows};
+ghost use Rattle.line_types.specs.FriezeRows.{frieze_rows};
+ghost use Rattle.line_types.specs.RodRows.{rod_rows};
 ghost use Rattle.penetration.specs.declared.direction.Direction.{Direction};
 ghost use Rattle.penetration.specs.declared.frame.RodBasis.{RodBasis};
 ghost use Rattle.penetration.specs.declared.frame.RodFrame.{RodFrame};
@@ -20,6 +23,7 @@ ghost use Rattle.report.specs.RodReports.{IsRodReport};
 ghost use Rattle.report.specs.RodReportView.{rod_report_of};
 ghost use Rattle.report.specs.Reports.{IsReport, Report};
 ghost use Rattle.report.specs.Consequences.{ReportSays};
+ghost use Rattle.report.specs.WrittenGenerators.{IsFriezeGenerator, IsLayerGenerator, IsRodGenerator};
 
 /// Every height is in one class of a report, and what the report gives as the operations at a height are, once each modulo
 /// the translations of the plane, exactly those that map the plane to itself.
@@ -40,4 +44,12 @@ pub fn rod_says()
     ensures { (g : Listing) (group : Group) (direction : Direction) (basis : RodBasis) (frame : RodFrame) (point : List Part)
         (rod : Rod) → IsGroupOf g group → IsRodFrameOf group direction basis frame → IsRodOf group frame point rod →
         IsRodReport g (direction_of direction) (parts basis.a) (parts basis.b) (parts point) (rod_report_of rod) }
+{}
+
+/// Each generator that a table of types writes is a triplet of the grammar of group texts, or a pair for a frieze type, and
+/// its value is the motion that the table takes it for.
+pub fn generators_are_triplets()
+    ensures layers { All (λ row. All IsLayerGenerator row.generators) layer_rows }
+    ensures rods { All (λ row. All IsRodGenerator row.generators) rod_rows }
+    ensures friezes { All (λ row. All IsFriezeGenerator row.generators) frieze_rows }
 {}

@@ -4,12 +4,11 @@
 // Promises to the crates above: `at_text`, `slab_text`, `images_text`, `survey_text`, `rod_text`, `type_text` and `frame_line`
 // write exactly these texts; `Report::make` gives the report of a group in a frame, `Report::text` writes its text, and
 // `Report::json` its JSON. `report_says` is what a report says of every height, and `rod_says` what a rod says of its line.
+// `generators_are_triplets` is that the tables of types name their generators by texts of the grammar.
 #![tactic(auto)]
 
 mod at;
 mod frame;
-#[cfg(test)]
-mod generator_tests;
 mod images;
 mod json;
 mod kind;
@@ -40,7 +39,7 @@ pub use at::{NoMemory, at_text};
 pub use frame::frame_line;
 pub use images::images_text;
 pub use kind::Kind;
-pub use laws::{alike_reports, report_says, rod_says};
+pub use laws::{alike_reports, generators_are_triplets, report_says, rod_says};
 pub use report::Report;
 pub use rods::rod_text;
 pub use section::{HeightSection, Section};

@@ -11,7 +11,7 @@ use Rattle.motions.specs.PlaneMatrices.{Matrix2, adjugate2, determinant2, image2
 use Rattle.motions.specs.Layers.{PlanarMotion, planar_followed_by, planar_identity, same_planar}
 use Rattle.motions.specs.Laws.LayerLaws.{same_planar-is}
 use Rattle.layer_types.specs.Lattices.{layer_kind}
-use Rattle.layer_types.specs.Rows.{Row, layer_row, layer_rows, primitive}
+use Rattle.layer_types.specs.Rows.{Row, layer_row, layer_rows, primitive, with_motions}
 
 -- the inverse of a motion whose determinant is 1 or -1
 abbrev inverse_matrix : Matrix2 → Matrix2
@@ -25,18 +25,18 @@ undoing m =
 abbrev is_undone : PlanarMotion → Bool
 is_undone m = same_planar (planar_followed_by m (undoing m)) planar_identity && same_planar (planar_followed_by (undoing m) m) planar_identity
 
-abbrev all_undone : Row → Bool
+abbrev all_undone : Row PlanarMotion → Bool
 all_undone r = list_all is_undone r.generators
 
-every_row : list_all all_undone layer_rows ≡ true
+every_row : list_all (λ row. all_undone (with_motions row)) layer_rows ≡ true
 unfolding layer_rows
 every_row = refl
 
 row_undone : (n : ℕ) → all_undone (layer_row n) ≡ true
 unfolding layer_row
 row_undone n = elim (cases_lt (n - 1) (length layer_rows)) [
-  | inl h ↦ AllPass-from_list_all all_undone layer_rows every_row (n - 1) (primitive [] []) h
-  | inr h ↦ ap all_undone (get_or_past layer_rows (n - 1) (primitive [] []) h)
+  | inl h ↦ AllPass-from_list_all (λ row. all_undone (with_motions row)) layer_rows every_row (n - 1) (primitive "" []) h
+  | inr h ↦ ap (λ row. all_undone (with_motions row)) (get_or_past layer_rows (n - 1) (primitive "" []) h)
 ]
 
 pub generator_undone : (n : ℕ) (g : PlanarMotion) → Contains (layer_row n).generators g → (h : PlanarMotion) × IsInverse (layer_kind (layer_row n).centred) g h
