@@ -5,8 +5,8 @@ ghost use Rattle.fractions.specs.LowestTerms.{lowest_terms, IsLowestForm, IsNoLa
 
 /// A number has one fraction in lowest terms with a denominator of at least 1.
 pub fn one_lowest_form()
-    ensures { (q r : Fraction) → IsFraction q → IsFraction r → IsInLowestTerms q → IsInLowestTerms r →
-        SameFraction q r → q ≡ r }
+    ensures { (q r : Fraction) → IsFraction q → IsFraction r → IsInLowestTerms q →
+        IsInLowestTerms r → SameFraction q r → q ≡ r }
 {}
 
 /// Division by the greatest common divisor gives that fraction.
@@ -19,5 +19,6 @@ pub fn lowest_form_by_divisor()
 pub fn lowest_terms_of_one_number()
     ensures same { (num den num' den' : ℤ) → ¬ (den ≡ pos 0) → ¬ (den' ≡ pos 0) →
         num *ℤ den' ≡ num' *ℤ den → lowest_terms num den ≡ lowest_terms num' den' }
-    ensures only { (q : Fraction) (num den : ℤ) → ¬ (den ≡ pos 0) → IsLowestForm q num den → q ≡ lowest_terms num den }
+    ensures only { (q : Fraction) (num den : ℤ) → ¬ (den ≡ pos 0) → IsLowestForm q num den →
+        q ≡ lowest_terms num den }
 {}

@@ -73,7 +73,8 @@ impl Quotient for LayerShifts {
 
 /// Whether the motion is a translation: whether its matrix is the unit matrix, and its sign is plus.
 fn is_translation(m: &LayerMotion) -> bool
-    ensures { IsTrue result ↔ (((planar_of m.now).matrix ≡ unit2) × ((planar_of m.now).side ≡ Plus)) }
+    ensures { IsTrue result
+        ↔ (((planar_of m.now).matrix ≡ unit2) × ((planar_of m.now).side ≡ Plus)) }
 {
     let linear_part = LayerMotion {
         a: m.a,

@@ -21,7 +21,8 @@ fn up_by(m: &Motion3, plane: &Miller, tau: &[Part; 3]) -> Option<[Part; 3]>
     requires tau { IsVectorWithin largest_entry (parts tau.now) }
     ensures is { MatchOption result (¬ KeepsOrientation (row_of plane.now) (motion_of m.now))
         (λ up. KeepsOrientation (row_of plane.now) (motion_of m.now)
-        × (parts up ≡ multiple (sign_at (row_of plane.now) (motion_of m.now)) (image (motion_of m.now).matrix (parts tau.now)))) }
+        × (parts up ≡ multiple (sign_at (row_of plane.now) (motion_of m.now))
+        (image (motion_of m.now).matrix (parts tau.now)))) }
     ensures small { IfSome result (λ up. IsVectorWithin largest_turned (parts up)) }
 {
     let turned = image(m, tau);
@@ -52,7 +53,8 @@ fn is_same(v: &[Part; 3], w: &[Part; 3]) -> bool
 fn other_up(ops: &[Motion3], plane: &Miller, tau: &[Part; 3]) -> [Part; 3]
     requires operations { All IsSmall (map motion_of ops.now) }
     requires tau { IsVectorWithin largest_entry (parts tau.now) }
-    ensures is { IsOtherUp (row_of plane.now) (parts tau.now) (map motion_of ops.now) (parts result) }
+    ensures is { IsOtherUp (row_of plane.now) (parts tau.now) (map motion_of ops.now)
+        (parts result) }
     ensures small { IsVectorWithin largest_turned (parts result) }
 {
     for m in ops {

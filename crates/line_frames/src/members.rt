@@ -77,8 +77,10 @@ fn member_with(group: &Group, plane: &Miller, t: i64, d: i64) -> Option<[Part; 3
     requires t { IsWithin (unsigned_abs UNIT * unsigned_abs INDEX) t }
     requires d { IsWithin (unsigned_abs UNIT) d }
     ensures { MatchOption result
-        ((v : Vector) → IsAt (group_listing group.now) (row_of plane.now) d v → ¬ coordinate (row_of plane.now) v ≡ t)
-        (λ v. IsAt (group_listing group.now) (row_of plane.now) d (parts v) × (coordinate (row_of plane.now) (parts v) ≡ t)) }
+        ((v : Vector) → IsAt (group_listing group.now) (row_of plane.now) d v →
+        ¬ coordinate (row_of plane.now) v ≡ t)
+        (λ v. IsAt (group_listing group.now) (row_of plane.now) d (parts v)
+        × (coordinate (row_of plane.now) (parts v) ≡ t)) }
 {
     let v = point_at(plane, t, d)?;
     if group.has(v) { Some(v) } else { None }
@@ -106,7 +108,8 @@ fn member_at(group: &Group, plane: &Miller, a: &[Part; 3], d: i64) -> Option<[Pa
 pub(crate) fn first_above(group: &Group, plane: &Miller, a: &[Part; 3]) -> [Part; 3]
     requires line { plane.now.l ≡ pos 0 }
     requires a { IsForwardAlong (group_listing group.now) (row_of plane.now) (parts a.now) }
-    ensures { IsFirstAbove (group_listing group.now) (row_of plane.now) (parts a.now) (parts result) }
+    ensures { IsFirstAbove (group_listing group.now) (row_of plane.now) (parts a.now)
+        (parts result) }
 {
     for d in 1..UNIT {
         if let Some(tau) = member_at(group, plane, a, d) {

@@ -12,7 +12,8 @@ use triplets::Pair;
 
 /// A line for each operation.
 pub(crate) fn write_operations(text: &mut String, ops: &[Motion2]) -> Result<(), NoMemory>
-    ensures { OnOk result (string_bytes text.new ≡ string_bytes text.old ++ flat_map operation_line (map plane_of ops.now)) }
+    ensures { OnOk result (string_bytes text.new
+        ≡ string_bytes text.old ++ flat_map operation_line (map plane_of ops.now)) }
 {
     for m in ops {
         write_operation(text, m)?;
@@ -21,7 +22,8 @@ pub(crate) fn write_operations(text: &mut String, ops: &[Motion2]) -> Result<(),
 }
 
 fn write_operation(text: &mut String, m: &Motion2) -> Result<(), NoMemory>
-    ensures { OnOk result (string_bytes text.new ≡ string_bytes text.old ++ operation_line (plane_of m.now)) }
+    ensures { OnOk result (string_bytes text.new
+        ≡ string_bytes text.old ++ operation_line (plane_of m.now)) }
 {
     let pair = Pair(m);
     write!(text, "op {pair}\n")
@@ -39,7 +41,8 @@ pub(crate) fn write_vector(text: &mut String, name: &str, v: &[Part; 2]) -> Resu
 /// The line of a vector that is counted in cell edges.
 pub(crate) fn write_edges(text: &mut String, name: &str, v: &[Ratio; 2]) -> Result<(), NoMemory>
     ensures { OnOk result (string_bytes text.new
-        ≡ string_bytes text.old ++ name.now ++ fractions_text (two_fractions_of v.now) ++ codes "\n") }
+        ≡ string_bytes text.old ++ name.now ++ fractions_text (two_fractions_of v.now)
+        ++ codes "\n") }
 {
     let vector = InEdges::of(v);
     write!(text, "{name}{vector}\n")

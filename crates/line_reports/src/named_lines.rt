@@ -22,7 +22,8 @@ pub(crate) fn write_section(
     behind: &str,
 ) -> Result<(), NoMemory>
     ensures { OnOk result (string_bytes text.new ≡ string_bytes text.old
-        ++ section_lines (line_scan_of scan.now) (edges_of origin) behind.now (line_section_of section.now)) }
+        ++ section_lines (line_scan_of scan.now) (edges_of origin) behind.now
+        (line_section_of section.now)) }
 {
     write_type(text, scan, &section.found, origin, behind)?;
     write_operations(text, &section.ops)
@@ -38,7 +39,8 @@ fn write_type(
 ) -> Result<(), NoMemory>
     ensures { OnOk result (string_bytes text.new ≡ string_bytes text.old
         ++ (number_line found.now.number (frieze_row found.now.number).symbol
-        ++ basis_line (parts2 scan.now.a) (two_fractions_of scan.now.c) ++ origin_line (edges_of origin) behind.now)) }
+        ++ basis_line (parts2 scan.now.a) (two_fractions_of scan.now.c)
+        ++ origin_line (edges_of origin) behind.now)) }
 {
     write_number(text, found.number, symbol(found))?;
     write_basis(text, InParts::of(&scan.a), InEdges::of(&scan.c))?;
@@ -47,21 +49,24 @@ fn write_type(
 
 #[tactic(auto, unfolding(crate::specs::LineTexts::number_line))]
 fn write_number(text: &mut String, number: u8, symbol: &str) -> Result<(), NoMemory>
-    ensures { OnOk result (string_bytes text.new ≡ string_bytes text.old ++ number_line number symbol.now) }
+    ensures { OnOk result (string_bytes text.new
+        ≡ string_bytes text.old ++ number_line number symbol.now) }
 {
     write!(text, "type {number} {symbol}\n")
 }
 
 #[tactic(auto, unfolding(crate::specs::LineTexts::basis_line))]
 fn write_basis(text: &mut String, along: InParts, across: InEdges) -> Result<(), NoMemory>
-    ensures { OnOk result (string_bytes text.new ≡ string_bytes text.old ++ basis_line (parts_of along) (edges_of across)) }
+    ensures { OnOk result (string_bytes text.new
+        ≡ string_bytes text.old ++ basis_line (parts_of along) (edges_of across)) }
 {
     write!(text, "basis {along} {across}\n")
 }
 
 #[tactic(auto, unfolding(crate::specs::LineTexts::origin_line))]
 fn write_origin(text: &mut String, origin: InEdges, behind: &str) -> Result<(), NoMemory>
-    ensures { OnOk result (string_bytes text.new ≡ string_bytes text.old ++ origin_line (edges_of origin) behind.now) }
+    ensures { OnOk result (string_bytes text.new
+        ≡ string_bytes text.old ++ origin_line (edges_of origin) behind.now) }
 {
     write!(text, "origin {origin}{behind}\n")
 }

@@ -40,7 +40,8 @@ pub fn lines_text(alloc: Global, scan: &LineScan) -> Result<Vec<u8>, NoMemory>
 
 // The lines of the indices, the period and the vectors.
 fn write_frame(text: &mut String, scan: &LineScan) -> Result<(), NoMemory>
-    ensures { OnOk result (string_bytes text.new ≡ string_bytes text.old ++ frame_text (line_scan_of scan.now)) }
+    ensures { OnOk result (string_bytes text.new
+        ≡ string_bytes text.old ++ frame_text (line_scan_of scan.now)) }
 {
     write_indices(text, scan)?;
     write_period(text, scan.period)?;
@@ -52,7 +53,8 @@ fn write_frame(text: &mut String, scan: &LineScan) -> Result<(), NoMemory>
 
 fn write_indices(text: &mut String, scan: &LineScan) -> Result<(), NoMemory>
     ensures { OnOk result (string_bytes text.new
-        ≡ string_bytes text.old ++ (codes "line" ++ indices_text (line_scan_of scan.now).row ++ codes "\n")) }
+        ≡ string_bytes text.old
+        ++ (codes "line" ++ indices_text (line_scan_of scan.now).row ++ codes "\n")) }
 {
     let indices = Indices::of(scan);
     write!(text, "line{indices}\n")
@@ -68,7 +70,8 @@ fn write_period(text: &mut String, period: Part) -> Result<(), NoMemory>
 // The block of the general lines.
 fn write_general(text: &mut String, scan: &LineScan) -> Result<(), NoMemory>
     requires { IsSmallLineScan scan.now }
-    ensures { OnOk result (string_bytes text.new ≡ string_bytes text.old ++ general_text (line_scan_of scan.now)) }
+    ensures { OnOk result (string_bytes text.new
+        ≡ string_bytes text.old ++ general_text (line_scan_of scan.now)) }
 {
     text.push_str("general\n")?;
     let origin = origin_along(&scan.a, &scan.general.found);
@@ -80,7 +83,8 @@ fn write_heights(text: &mut String, scan: &LineScan, heights: &[LineHeight]) -> 
     requires scan { IsSmallLineScan scan.now }
     requires heights { All (λ h. IsSmallLineHeight (fraction_of h.s)) heights.now }
     ensures { OnOk result (string_bytes text.new
-        ≡ string_bytes text.old ++ flat_map (height_text (line_scan_of scan.now)) (map line_height_of heights.now)) }
+        ≡ string_bytes text.old
+        ++ flat_map (height_text (line_scan_of scan.now)) (map line_height_of heights.now)) }
 {
     for height in heights {
         write_height(text, scan, height)?;
@@ -92,7 +96,8 @@ fn write_height(text: &mut String, scan: &LineScan, height: &LineHeight) -> Resu
     requires scan { IsSmallLineScan scan.now }
     requires height { IsSmallLineHeight (fraction_of height.now.s) }
     ensures { OnOk result (string_bytes text.new
-        ≡ string_bytes text.old ++ height_text (line_scan_of scan.now) (line_height_of height.now)) }
+        ≡ string_bytes text.old
+        ++ height_text (line_scan_of scan.now) (line_height_of height.now)) }
 {
     let s = height.s;
     write!(text, "height {s}\n")?;

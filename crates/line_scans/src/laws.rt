@@ -16,13 +16,15 @@ ghost use Rattle.line_scans.specs.Lines.{FixesEveryLine, InLineStabiliser, IsOnL
 pub fn line_as_plane()
     ensures points { (r : Pair) (s : Height) (p : Point) →
         IsOn (in_space r) s p ↔ IsOnLine r s (record { at = first_two p.at; over = p.over }) }
-    ensures motions { (r : Pair) (s : Height) (m : PlaneMotion) → KeepsPlane (in_space r) s (plane_block m) ↔ KeepsLine r s m }
+    ensures motions { (r : Pair) (s : Height) (m : PlaneMotion) →
+        KeepsPlane (in_space r) s (plane_block m) ↔ KeepsLine r s m }
 {}
 
 /// In a plane group a motion of the plane is a member, and maps a line, or every line, to itself, exactly where it does so
 /// as a motion of space; and a height is special for lines exactly where it is so for planes.
 pub fn line_stabilisers_as_plane_stabilisers()
-    ensures members { (g : Listing) (m : PlaneMotion) → IsFlatGroup g → IsMember g (plane_block m) ↔ IsPlaneMember g m }
+    ensures members { (g : Listing) (m : PlaneMotion) → IsFlatGroup g →
+        IsMember g (plane_block m) ↔ IsPlaneMember g m }
     ensures each { (g : Listing) (r : Pair) (s : Height) (m : PlaneMotion) → IsFlatGroup g →
         InStabiliser g (in_space r) s (plane_block m) ↔ InLineStabiliser g r s m }
     ensures every { (g : Listing) (r : Pair) (m : PlaneMotion) → IsFlatGroup g →

@@ -38,7 +38,8 @@ pub fn lines(alloc: Global, group: &Group, plane: Miller) -> Result<LineScan, No
     requires group { IsFlatGroup (group_listing group.now) }
     requires line { plane.l ≡ pos 0 }
     ensures is { (g : Listing) → IsGroupOf g group.now →
-        IfOk result (λ scan. IsLineScan g (record { x = plane.h; y = plane.k }) (line_scan_of scan)) }
+        IfOk result (λ scan.
+        IsLineScan g (record { x = plane.h; y = plane.k }) (line_scan_of scan)) }
     ensures small { IfOk result IsSmallLineScan }
 {
     let frame = line_frame(group, plane);
@@ -49,9 +50,11 @@ pub fn lines(alloc: Global, group: &Group, plane: Miller) -> Result<LineScan, No
 fn lines_in(alloc: Global, group: &Group, frame: &Frame) -> Result<LineScan, NoMemory>
     requires group { IsFlatGroup (group_listing group.now) }
     requires line { frame.now.plane.l ≡ pos 0 }
-    requires frame { (g : Listing) → IsGroupOf g group.now → IsLineFrameOf g frame.now.plane frame.now }
+    requires frame { (g : Listing) → IsGroupOf g group.now →
+        IsLineFrameOf g frame.now.plane frame.now }
     ensures is { (g : Listing) → IsGroupOf g group.now →
-        IfOk result (λ scan. IsLineScan g (first_two (row_of frame.now.plane)) (line_scan_of scan)) }
+        IfOk result (λ scan.
+        IsLineScan g (first_two (row_of frame.now.plane)) (line_scan_of scan)) }
     ensures small { IfOk result IsSmallLineScan }
 {
     let scan = Scan::make(alloc, group, frame)?;
@@ -89,9 +92,11 @@ fn line_heights(
 ) -> Result<Vec<LineHeight>, NoMemory>
     requires steps { All (λ h. (k : ℤ) × IsStep frame.now.period.0 h.level k) special.now }
     requires motions { All (λ h. (k : ℤ) → IsStep frame.now.period.0 h.level k →
-        AreLineMotions (row_of frame.now.plane) (basis_of_frame frame.now) k (map motion_of h.ops.items)) special.now }
+        AreLineMotions (row_of frame.now.plane) (basis_of_frame frame.now) k
+        (map motion_of h.ops.items)) special.now }
     ensures { IfOk result (λ heights.
-        AllZip (IsLineHeightOf (row_of frame.now.plane) (basis_of_frame frame.now) frame.now.period.0) special.now heights.items) }
+        AllZip (IsLineHeightOf (row_of frame.now.plane)
+        (basis_of_frame frame.now) frame.now.period.0) special.now heights.items) }
 {
     let mut heights = Vec::new(alloc);
     for height in special {
@@ -104,8 +109,10 @@ fn line_heights(
 fn line_height(alloc: Global, frame: &Frame, height: &Height) -> Result<LineHeight, NoMemory>
     requires step { (k : ℤ) × IsStep frame.now.period.0 height.now.level k }
     requires motions { (k : ℤ) → IsStep frame.now.period.0 height.now.level k →
-        AreLineMotions (row_of frame.now.plane) (basis_of_frame frame.now) k (map motion_of height.now.ops.items) }
-    ensures { IfOk result (IsLineHeightOf (row_of frame.now.plane) (basis_of_frame frame.now) frame.now.period.0 height.now) }
+        AreLineMotions (row_of frame.now.plane) (basis_of_frame frame.now) k
+        (map motion_of height.now.ops.items) }
+    ensures { IfOk result (IsLineHeightOf (row_of frame.now.plane)
+        (basis_of_frame frame.now) frame.now.period.0 height.now) }
 {
     let point = Viewpoint::at(frame, height);
     Ok(LineHeight {

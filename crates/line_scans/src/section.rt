@@ -23,8 +23,10 @@ pub(crate) fn line_section(
     point: &Viewpoint,
     ops: &[Motion3],
 ) -> Result<LineSection, NoMemory>
-    requires { AreLineMotions (row_of point.now.frame.plane) (basis_of_frame point.now.frame) point.now.step (map motion_of ops.now) }
-    ensures { IfOk result (IsSectionOf (row_of point.now.frame.plane) (basis_of_frame point.now.frame) point.now.step (map motion_of ops.now)) }
+    requires { AreLineMotions (row_of point.now.frame.plane)
+        (basis_of_frame point.now.frame) point.now.step (map motion_of ops.now) }
+    ensures { IfOk result (IsSectionOf (row_of point.now.frame.plane)
+        (basis_of_frame point.now.frame) point.now.step (map motion_of ops.now)) }
 {
     let section = line_ops(alloc, point, ops)?;
     Ok(LineSection {
@@ -36,9 +38,11 @@ pub(crate) fn line_section(
 /// What each motion does along the line.
 fn line_ops(alloc: Global, point: &Viewpoint, ops: &[Motion3]) -> Result<Vec<LineOp>, NoMemory>
     requires small { All IsSmall (map motion_of ops.now) }
-    requires lines { All (HasLineOp (row_of point.now.frame.plane) (basis_of_frame point.now.frame) point.now.step) (map motion_of ops.now) }
+    requires lines { All (HasLineOp (row_of point.now.frame.plane)
+        (basis_of_frame point.now.frame) point.now.step) (map motion_of ops.now) }
     ensures { IfOk result (λ list.
-        AllZip (IsLineOp (row_of point.now.frame.plane) (basis_of_frame point.now.frame) point.now.step) (map motion_of ops.now) list.items) }
+        AllZip (IsLineOp (row_of point.now.frame.plane)
+        (basis_of_frame point.now.frame) point.now.step) (map motion_of ops.now) list.items) }
 {
     let mut section = Vec::new(alloc);
     for m in ops {
@@ -50,7 +54,8 @@ fn line_ops(alloc: Global, point: &Viewpoint, ops: &[Motion3]) -> Result<Vec<Lin
 /// The flat motions as motions of the plane.
 fn pairs(alloc: Global, ops: &[Motion3]) -> Result<Vec<Motion2>, NoMemory>
     requires { All IsFlat (map motion_of ops.now) }
-    ensures { IfOk result (λ pairs. map motion_of ops.now ≡ map plane_block (map plane_of pairs.items)) }
+    ensures { IfOk result (λ pairs.
+        map motion_of ops.now ≡ map plane_block (map plane_of pairs.items)) }
 {
     let mut pairs = Vec::new(alloc);
     for m in ops {

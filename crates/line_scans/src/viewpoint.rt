@@ -51,8 +51,10 @@ impl Viewpoint {
     /// What the motion does along the line.
     pub fn line_op(&self, m: &Motion3) -> LineOp
         requires motion { IsSmall (motion_of m.now) }
-        requires line { HasLineOp (row_of self.now.frame.plane) (basis_of_frame self.now.frame) self.now.step (motion_of m.now) }
-        ensures { IsLineOp (row_of self.now.frame.plane) (basis_of_frame self.now.frame) self.now.step (motion_of m.now) result }
+        requires line { HasLineOp (row_of self.now.frame.plane)
+            (basis_of_frame self.now.frame) self.now.step (motion_of m.now) }
+        ensures { IsLineOp (row_of self.now.frame.plane)
+            (basis_of_frame self.now.frame) self.now.step (motion_of m.now) result }
     {
         let Some(e) = side(m, &self.frame.plane) else {
             unreachable!()
@@ -69,7 +71,8 @@ impl Viewpoint {
     /// How far the motion moves the point, times [`EDGE`].
     fn drift(&self, m: &Motion3) -> [Part; 3]
         requires { IsSmall (motion_of m.now) }
-        ensures is { parts result ≡ drift (motion_of m.now) (parts self.now.frame.tau) self.now.step }
+        ensures is { parts result
+            ≡ drift (motion_of m.now) (parts self.now.frame.tau) self.now.step }
         ensures small { IsVectorWithin (2 ^ 52) (parts result) }
     {
         let turned = image(m, &self.frame.tau);

@@ -15,7 +15,8 @@ pub(crate) fn inverse_matrix(matrix: &[[i64; 3]; 3]) -> Option<[[i64; 3]; 3]>
     requires { IsMatrixWithin 500 (matrix_of matrix.now) }
     ensures inverse { MatchOption result
         ((m : Matrix) → ¬ (product m (matrix_of matrix.now) ≡ unit_matrix))
-        (λ w. (product (matrix_of matrix.now) (matrix_of w) ≡ unit_matrix) × (product (matrix_of w) (matrix_of matrix.now) ≡ unit_matrix)) }
+        (λ w. (product (matrix_of matrix.now) (matrix_of w) ≡ unit_matrix)
+        × (product (matrix_of w) (matrix_of matrix.now) ≡ unit_matrix)) }
     ensures small { IfSome result (λ w. IsMatrixWithin largest_cofactor (matrix_of w)) }
 {
     match determinant(matrix) {
@@ -64,7 +65,8 @@ fn opposite_cofactors(matrix: &[[i64; 3]; 3]) -> [[i64; 3]; 3]
 
 /// The matrix with these columns.
 fn from_columns(a: &[i64; 3], b: &[i64; 3], c: &[i64; 3]) -> [[i64; 3]; 3]
-    ensures { matrix_of result ≡ from_columns (vector_of a.now) (vector_of b.now) (vector_of c.now) }
+    ensures { matrix_of result
+        ≡ from_columns (vector_of a.now) (vector_of b.now) (vector_of c.now) }
 {
     [[a[0], b[0], c[0]], [a[1], b[1], c[1]], [a[2], b[2], c[2]]]
 }

@@ -124,5 +124,6 @@ impl Motion for LayerMotion {
 
 /// The product of two block forms is the block form of the product. A call does nothing: its contract is the law.
 pub fn product_of_block_forms()
-    ensures { (m n : PlanarMotion) (b c : MotionOfSpace) → IsBlockForm m b → IsBlockForm n c → IsBlockForm (planar_followed_by m n) (followed_by b c) }
+    ensures { (m n : PlanarMotion) (b c : MotionOfSpace) → IsBlockForm m b → IsBlockForm n c →
+        IsBlockForm (planar_followed_by m n) (followed_by b c) }
 {}

@@ -43,7 +43,8 @@ impl Miller {
     /// exactly where all are 0, else `NotCoprime(g)` exactly where their greatest common divisor g is above 1.
     pub fn make(h: i64, k: i64, l: i64) -> Result<Miller, PlaneFault>
         ensures ok { IfOk result (λ plane. row_of plane ≡ record { x = h; y = k; z = l }) }
-        ensures faults { (fault : PlaneFault) → (result ≡ Err fault) ↔ IsPlaneFault (record { x = h; y = k; z = l }) fault }
+        ensures faults { (fault : PlaneFault) →
+            (result ≡ Err fault) ↔ IsPlaneFault (record { x = h; y = k; z = l }) fault }
     {
         if !are_in_range(h, k, l) {
             return Err(PlaneFault::OutOfRange);

@@ -72,7 +72,8 @@ pub(crate) fn inverse2(matrix: &[[i64; 2]; 2]) -> Option<[[i64; 2]; 2]>
     requires { IsMatrix2Within 500 (matrix2_of matrix.now) }
     ensures inverse { MatchOption result
         ((m : Matrix2) → ¬ (product2 m (matrix2_of matrix.now) ≡ unit2))
-        (λ w. (product2 (matrix2_of matrix.now) (matrix2_of w) ≡ unit2) × (product2 (matrix2_of w) (matrix2_of matrix.now) ≡ unit2)) }
+        (λ w. (product2 (matrix2_of matrix.now) (matrix2_of w) ≡ unit2)
+        × (product2 (matrix2_of w) (matrix2_of matrix.now) ≡ unit2)) }
     ensures small { IfSome result (λ w. IsMatrix2Within 500 (matrix2_of w)) }
 {
     match determinant2(matrix) {

@@ -25,9 +25,12 @@ pub fn row_image(m: &Motion3, plane: &Miller) -> [i64; 3]
 pub fn side(m: &Motion3, plane: &Miller) -> Option<Sign>
     requires { IsSmall (motion_of m.now) }
     ensures sign { (e : Sign) →
-        (result ≡ Some e) ↔ (row_times (row_of plane.now) (motion_of m.now).matrix ≡ multiple (sign_value e) (row_of plane.now)) }
+        (result ≡ Some e)
+        ↔ (row_times (row_of plane.now) (motion_of m.now).matrix
+        ≡ multiple (sign_value e) (row_of plane.now)) }
     ensures keeps { IsSome result ↔ KeepsOrientation (row_of plane.now) (motion_of m.now) }
-    ensures value { IfSome result (λ e. sign_value e ≡ sign_at (row_of plane.now) (motion_of m.now)) }
+    ensures value { IfSome result (λ e.
+        sign_value e ≡ sign_at (row_of plane.now) (motion_of m.now)) }
 {
     let row = plane.row();
     let image = row_image(m, plane);

@@ -21,7 +21,8 @@ impl Motion3 {
         requires motion { IsSmall (motion_of self.now) }
         requires vector { IsVectorWithin (2 ^ 40) (parts v.now) }
         ensures is { parts result ≡ image (motion_of self.now).matrix (parts v.now) }
-        ensures within { (n : ℕ) → IsVectorWithin n (parts v.now) → IsVectorWithin (1500 * n) (parts result) }
+        ensures within { (n : ℕ) → IsVectorWithin n (parts v.now) →
+            IsVectorWithin (1500 * n) (parts result) }
     {
         matrix_by_vector(&self.w, v)
     }

@@ -21,7 +21,8 @@ pub(crate) fn height_motions(
     frame: &Frame,
 ) -> Result<Vec<HeightMotion>, AllocError>
     ensures motions { IfOk result (λ motions.
-        AreHeightMotions (group_listing group.now) (row_of frame.now.plane) frame.now.period.0 (map height_motion_of motions.items)) }
+        AreHeightMotions (group_listing group.now) (row_of frame.now.plane) frame.now.period.0
+        (map height_motion_of motions.items)) }
     ensures group { IfOk result (λ _. IsGroup (group_listing group.now)) }
     ensures few { IfOk result (λ motions. vec_len motions ≤ MAX_OPERATIONS) }
 {
@@ -48,7 +49,8 @@ fn height_motion(m: &Motion3, frame: &Frame) -> Option<HeightMotion>
 
 /// Whether the motion is one of the list.
 fn lists_motion(motions: &[HeightMotion], motion: &HeightMotion) -> bool
-    ensures { IsTrue result ↔ Any (λ h. height_motion_of motion.now ≡ h) (map height_motion_of motions.now) }
+    ensures { IsTrue result
+        ↔ Any (λ h. height_motion_of motion.now ≡ h) (map height_motion_of motions.now) }
 {
     for other in motions {
         if is_same(motion, other) {

@@ -22,9 +22,11 @@ pub(crate) fn orbit_numbers(
     frame: &Frame,
 ) -> Result<Vec<u32>, AllocError>
     requires few { length heights.now < 2 ^ 32 }
-    requires classes { AreClasses (AreJoinedAt motions.now frame.now.period.0 heights.now) (length heights.now) }
+    requires classes { AreClasses (AreJoinedAt motions.now frame.now.period.0 heights.now)
+        (length heights.now) }
     ensures { IfOk result (λ numbers. (classes : ℕ)
-        × AreNumbered (AreJoinedAt motions.now frame.now.period.0 heights.now) (length heights.now) numbers.items classes) }
+        × AreNumbered (AreJoinedAt motions.now frame.now.period.0 heights.now)
+        (length heights.now) numbers.items classes) }
 {
     let mut numbers = Vec::new(alloc);
     let mut orbits = 0;
@@ -52,9 +54,12 @@ fn earlier_number(
 ) -> Option<u32>
     requires { length numbers.now ≤ length heights.now }
     ensures { MatchOption result
-        ((i : ℕ) → i < length numbers.now → ¬ AreJoined (map height_motion_of motions.now) frame.now.period.0 (level_at heights.now i) height.now.level)
+        ((i : ℕ) → i < length numbers.now →
+        ¬ AreJoined (map height_motion_of motions.now) frame.now.period.0
+        (level_at heights.now i) height.now.level)
         (λ number. (i : ℕ) × (i < length numbers.now) × (slice_index numbers.now i ≡ number)
-        × AreJoined (map height_motion_of motions.now) frame.now.period.0 (level_at heights.now i) height.now.level) }
+        × AreJoined (map height_motion_of motions.now) frame.now.period.0
+        (level_at heights.now i) height.now.level) }
 {
     for (i, number) in numbers.iter().enumerate() {
         if are_joined(&heights[i], height, motions, frame) {
@@ -66,7 +71,9 @@ fn earlier_number(
 
 /// Whether one of the motions takes the one height to the other, but for a whole number of periods.
 fn are_joined(height: &Height, image: &Height, motions: &[HeightMotion], frame: &Frame) -> bool
-    ensures { IsTrue result ↔ AreJoined (map height_motion_of motions.now) frame.now.period.0 height.now.level image.now.level }
+    ensures { IsTrue result
+        ↔ AreJoined (map height_motion_of motions.now) frame.now.period.0 height.now.level
+        image.now.level }
 {
     for motion in motions {
         if takes(motion, height, image, frame) {
@@ -78,7 +85,9 @@ fn are_joined(height: &Height, image: &Height, motions: &[HeightMotion], frame: 
 
 /// Whether the motion takes the one height to the other, but for a whole number of periods.
 fn takes(motion: &HeightMotion, height: &Height, image: &Height, frame: &Frame) -> bool
-    ensures { IsTrue result ↔ TakesLevel frame.now.period.0 height.now.level image.now.level (height_motion_of motion.now) }
+    ensures { IsTrue result
+        ↔ TakesLevel frame.now.period.0 height.now.level image.now.level
+        (height_motion_of motion.now) }
 {
     let turned = signed(motion.sign, height);
     is_multiple(turned + 2 * motion.shift - image.level, 2 * frame.period.0)

@@ -34,7 +34,8 @@ pub struct Orbits {
 pub fn height_orbits(alloc: Global, scan: &Scan, group: &Group) -> Result<Orbits, NoMemory>
     requires { HasFrame (group_listing group.now) scan.now.frame }
     ensures numbers { (g : Listing) → IsGroupOf g group.now → IfOk result (λ orbits.
-        AreOrbitNumbers g (row_of scan.now.frame.plane) (heights_of_specials scan.now.special.items) orbits.of.items) }
+        AreOrbitNumbers g (row_of scan.now.frame.plane)
+        (heights_of_specials scan.now.special.items) orbits.of.items) }
     ensures planes { let r = row_of scan.now.frame.plane in
         (g : Listing) → IsGroupOf g group.now →
         IfOk result (λ orbits. IsPlaneCount g r (dot r (parts scan.now.frame.tau)) orbits.planes) }

@@ -28,8 +28,10 @@ pub fn orientations(
 ) -> Result<Vec<[i64; 3]>, OrbitFault>
     ensures rows { (g : Listing) → IsGroupOf g group.now →
         IfOk result (λ rows. AreOrientations g (row_of plane) (map vector_of rows.items)) }
-    ensures narrow { (g : Listing) → IsGroupOf g group.now → IfOk result (λ _. ¬ IsWide g (row_of plane)) }
-    ensures refused { (g : Listing) → IsGroupOf g group.now → IfErr result (IsOrbitFault g (row_of plane)) }
+    ensures narrow { (g : Listing) → IsGroupOf g group.now →
+        IfOk result (λ _. ¬ IsWide g (row_of plane)) }
+    ensures refused { (g : Listing) → IsGroupOf g group.now →
+        IfErr result (IsOrbitFault g (row_of plane)) }
 {
     let mut rows = Vec::new(alloc);
     for m in group.ops() {
@@ -47,8 +49,8 @@ pub fn orientations(
 /// Two listings have the same orientations where the operations of the one are those of the other, each at its first
 /// appearance modulo the lattice.
 pub fn orientations_of_first_operations()
-    ensures { (g : Listing) (h : Listing) (r : Vector) (rows : List Vector) → AreFirst (SameModulo g) g.ops h.ops →
-        AreOrientations g r rows ↔ AreOrientations h r rows }
+    ensures { (g : Listing) (h : Listing) (r : Vector) (rows : List Vector) →
+        AreFirst (SameModulo g) g.ops h.ops → AreOrientations g r rows ↔ AreOrientations h r rows }
 {}
 
 /// Whether no index of the row passes [`WIDE`] in size.

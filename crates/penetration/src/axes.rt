@@ -61,8 +61,11 @@ pub fn axis(group: &Group, direction: &Direction) -> [Part; 3]
 
 /// Whether a and b are a rod frame of the group and the direction, where the third vector is the axis.
 pub fn is_rod_frame(group: &Group, direction: &Direction, dual: &DualBasis) -> bool
-    requires { IsAxis (group_listing group.now) (direction_of direction.now) (basis_of dual.now.basis).tau }
-    ensures { IsTrue result ↔ IsRodFrame (group_listing group.now) (direction_of direction.now) (basis_of dual.now.basis) }
+    requires { IsAxis (group_listing group.now) (direction_of direction.now)
+        (basis_of dual.now.basis).tau }
+    ensures { IsTrue result
+        ↔ IsRodFrame (group_listing group.now) (direction_of direction.now)
+        (basis_of dual.now.basis) }
 {
     if !has_vectors(group, dual) {
         return false;

@@ -72,7 +72,8 @@ impl RodFrame {
         ensures ok { IfOk result (IsRodFrameOf group.now direction basis) }
         ensures made { IfOk result (IsRodMadeFor group.now) }
         ensures faults { (fault : FrameFault) → (result ≡ Err fault)
-            ↔ IsRodFrameFault (group_listing group.now) (direction_of direction) (parts basis.a) (parts basis.b) fault }
+            ↔ IsRodFrameFault (group_listing group.now) (direction_of direction) (parts basis.a)
+            (parts basis.b) fault }
     {
         let axis = axis(group, &direction);
         let RodBasis { a, b } = basis;

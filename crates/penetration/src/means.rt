@@ -25,7 +25,9 @@ use plane_lattice::{DualBasis, image};
 fn turned_coefficient(m: &Motion3, dual: &DualBasis, v: &[Part; 3]) -> i128
     requires motion { IsSmall (motion_of m.now) }
     requires vector { IsVectorWithin largest_entry (parts v.now) }
-    ensures is { result ≡ (coefficient (basis_of dual.now.basis) (image (motion_of m.now).matrix (parts v.now))).num }
+    ensures is { result
+        ≡ (coefficient (basis_of dual.now.basis)
+        (image (motion_of m.now).matrix (parts v.now))).num }
     ensures small { IsWithin largest_scaled result }
 {
     let [_, _, z] = dual.scaled(&image(m, v));
@@ -36,7 +38,9 @@ fn turned_coefficient(m: &Motion3, dual: &DualBasis, v: &[Part; 3]) -> i128
 fn signed_coefficient(m: &Motion3, direction: &Direction, dual: &DualBasis, v: &[Part; 3]) -> i128
     requires motion { IsSmall (motion_of m.now) }
     requires vector { IsVectorWithin largest_entry (parts v.now) }
-    ensures is { result ≡ signed_coefficient (direction_of direction.now) (basis_of dual.now.basis) (motion_of m.now) (parts v.now) }
+    ensures is { result
+        ≡ signed_coefficient (direction_of direction.now) (basis_of dual.now.basis)
+        (motion_of m.now) (parts v.now) }
     ensures small { IsWithin largest_scaled result }
 {
     match sign_along(m, direction) {
@@ -51,7 +55,9 @@ fn rod_total(ops: &[Motion3], direction: &Direction, dual: &DualBasis, v: &[Part
     requires operations { All IsSmall (map motion_of ops.now) }
     requires few { length ops.now ≤ 192 }
     requires vector { IsVectorWithin largest_entry (parts v.now) }
-    ensures is { result ≡ total_along (direction_of direction.now) (basis_of dual.now.basis) (rod_ops (direction_of direction.now) (map motion_of ops.now)) (parts v.now) }
+    ensures is { result
+        ≡ total_along (direction_of direction.now) (basis_of dual.now.basis)
+        (rod_ops (direction_of direction.now) (map motion_of ops.now)) (parts v.now) }
     ensures small { IsWithin (192 * largest_scaled) result }
 {
     let mut total = 0;
@@ -106,7 +112,8 @@ fn level_entry(den: i128, total: i128, v: Part, axis: Part) -> Ratio
     requires total { IsWithin (192 * largest_scaled) total }
     requires v { IsWithin largest_entry v.0 }
     requires axis { IsWithin largest_entry axis.0 }
-    ensures { SameFraction (fraction_of result) (record { num = den *ℤ v.0 +ℤ negsuc 0 *ℤ (total *ℤ axis.0); den = UNIT *ℤ den }) }
+    ensures { SameFraction (fraction_of result)
+        (record { num = den *ℤ v.0 +ℤ negsuc 0 *ℤ (total *ℤ axis.0); den = UNIT *ℤ den }) }
 {
     let num = wide_multiple(den, v) - wide_multiple(total, axis);
     ratio_of(num, UNIT as i128 * den)
@@ -132,7 +139,8 @@ fn levelled(ops: &[Motion3], direction: &Direction, dual: &DualBasis, v: &[Part;
     requires some { 1 ≤ length (rod_ops (direction_of direction.now) (map motion_of ops.now)) }
     requires volume { pos 1 ≤ℤ volume (basis_of dual.now.basis) }
     requires vector { IsVectorWithin largest_entry (parts v.now) }
-    ensures { IsPointOf (levelled (direction_of direction.now) (basis_of dual.now.basis) (rod_ops (direction_of direction.now) (map motion_of ops.now)) (parts v.now)) result }
+    ensures { IsPointOf (levelled (direction_of direction.now) (basis_of dual.now.basis)
+        (rod_ops (direction_of direction.now) (map motion_of ops.now)) (parts v.now)) result }
 {
     let den = denominator(count_rods(ops, direction), dual.volume);
     let total = rod_total(ops, direction, dual, v);
@@ -150,8 +158,11 @@ pub(crate) fn across(ops: &[Motion3], direction: &Direction, dual: &DualBasis) -
     requires few { length ops.now ≤ 192 }
     requires some { 1 ≤ length (rod_ops (direction_of direction.now) (map motion_of ops.now)) }
     requires volume { pos 1 ≤ℤ volume (basis_of dual.now.basis) }
-    ensures { ArePointsOf (levelled (direction_of direction.now) (basis_of dual.now.basis) (rod_ops (direction_of direction.now) (map motion_of ops.now)) (basis_of dual.now.basis).a)
-        (levelled (direction_of direction.now) (basis_of dual.now.basis) (rod_ops (direction_of direction.now) (map motion_of ops.now)) (basis_of dual.now.basis).b) result }
+    ensures { ArePointsOf (levelled (direction_of direction.now) (basis_of dual.now.basis)
+        (rod_ops (direction_of direction.now) (map motion_of ops.now)) (basis_of dual.now.basis).a)
+        (levelled (direction_of direction.now) (basis_of dual.now.basis)
+        (rod_ops (direction_of direction.now) (map motion_of ops.now)) (basis_of dual.now.basis).b)
+        result }
 {
     [
         levelled(ops, direction, dual, &dual.basis.a),

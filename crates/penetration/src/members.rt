@@ -33,8 +33,10 @@ fn member(group: &Group, frame: &RodFrame, m: &Motion3, point: &[Part; 3]) -> Op
     requires motion { IsSmallWithin (unsigned_abs MAX_ENTRY) (motion_of m.now) }
     requires member { IsMember (group_listing group.now) (motion_of m.now) }
     requires point { IsVectorWithin largest_entry (parts point.now) }
-    ensures choice { IsChoice (SameModulo (group_listing group.now)) (IsNear (basis_of_rod frame.now) (parts point.now))
-        (InLineStabiliser (group_listing group.now) (direction_of frame.now.direction) (counted (parts point.now)))
+    ensures choice { IsChoice (SameModulo (group_listing group.now))
+        (IsNear (basis_of_rod frame.now) (parts point.now))
+        (InLineStabiliser (group_listing group.now) (direction_of frame.now.direction)
+        (counted (parts point.now)))
         (motion_of m.now) (option_map motion_of result) }
     ensures small { IfSome result (λ n. IsNearSmall (motion_of n)) }
 {
@@ -50,9 +52,11 @@ pub(crate) fn near_members(
 ) -> Result<Vec<Motion3>, NoMemory>
     requires made { IsRodMadeFor group.now frame.now }
     requires point { IsVectorWithin largest_entry (parts point.now) }
-    ensures list { IfOk result (λ ms. IsListOf (SameModulo (group_listing group.now)) (group_listing group.now).ops
+    ensures list { IfOk result (λ ms.
+        IsListOf (SameModulo (group_listing group.now)) (group_listing group.now).ops
         (IsNear (basis_of_rod frame.now) (parts point.now))
-        (InLineStabiliser (group_listing group.now) (direction_of frame.now.direction) (counted (parts point.now))) (map motion_of ms.items)) }
+        (InLineStabiliser (group_listing group.now) (direction_of frame.now.direction)
+        (counted (parts point.now))) (map motion_of ms.items)) }
     ensures small { IfOk result (λ ms. All (λ m. IsNearSmall (motion_of m)) ms.items) }
 {
     members_among(alloc, group, frame, group.ops(), point)
@@ -70,8 +74,11 @@ fn members_among(
     requires point { IsVectorWithin largest_entry (parts point.now) }
     requires small { All (IsSmallWithin (unsigned_abs MAX_ENTRY)) (map motion_of ops.now) }
     requires members { All (IsMember (group_listing group.now)) (map motion_of ops.now) }
-    ensures chosen { IfOk result (λ ms. AreChosen (SameModulo (group_listing group.now)) (IsNear (basis_of_rod frame.now) (parts point.now))
-        (InLineStabiliser (group_listing group.now) (direction_of frame.now.direction) (counted (parts point.now)))
+    ensures chosen { IfOk result (λ ms.
+        AreChosen (SameModulo (group_listing group.now))
+        (IsNear (basis_of_rod frame.now) (parts point.now))
+        (InLineStabiliser (group_listing group.now) (direction_of frame.now.direction)
+        (counted (parts point.now)))
         (map motion_of ops.now) (map motion_of ms.items)) }
     ensures small { IfOk result (λ ms. All (λ m. IsNearSmall (motion_of m)) ms.items) }
 {

@@ -73,10 +73,12 @@ pub(crate) fn near_member(frame: &RodFrame, m: &Motion3, point: &[Part; 3]) -> O
     requires motion { IsSmallWithin (unsigned_abs MAX_ENTRY) (motion_of m.now) }
     requires reduced { IsVectorWithin (unsigned_abs UNIT) (motion_of m.now).shift }
     requires point { IsVectorWithin largest_entry (parts point.now) }
-    ensures choice { (g : Listing) → IsGroup g → IsRodFrame g (direction_of frame.now.direction) (basis_of_rod frame.now) →
+    ensures choice { (g : Listing) → IsGroup g →
+        IsRodFrame g (direction_of frame.now.direction) (basis_of_rod frame.now) →
         IsMember g (motion_of m.now) →
         IsChoice (SameModulo g) (IsNear (basis_of_rod frame.now) (parts point.now))
-        (InLineStabiliser g (direction_of frame.now.direction) (counted (parts point.now))) (motion_of m.now) (option_map motion_of result) }
+        (InLineStabiliser g (direction_of frame.now.direction) (counted (parts point.now)))
+        (motion_of m.now) (option_map motion_of result) }
     ensures small { IfSome result (λ n. IsNearSmall (motion_of n)) }
 {
     if !keeps_direction(m, &frame.direction) {

@@ -31,11 +31,16 @@ pub(crate) fn sections(
 ) -> Result<Vec<RodMotion>, NoMemory>
     requires made { IsRodMadeFor group.now frame.now }
     requires point { IsVectorWithin largest_entry (parts point.now) }
-    requires in_stabiliser { All (λ m. InLineStabiliser (group_listing group.now) (direction_of frame.now.direction) (counted (parts point.now)) (motion_of m)) members.now }
-    requires near { All (λ m. IsNear (basis_of_rod frame.now) (parts point.now) (motion_of m)) members.now }
+    requires in_stabiliser { All (λ m.
+        InLineStabiliser (group_listing group.now) (direction_of frame.now.direction)
+        (counted (parts point.now)) (motion_of m)) members.now }
+    requires near { All (λ m. IsNear (basis_of_rod frame.now) (parts point.now) (motion_of m))
+        members.now }
     requires small { All (λ m. IsNearSmall (motion_of m)) members.now }
-    ensures acts { IfOk result (λ section. (rods : List Motion) → AreRodOperations (group_listing group.now) (direction_of frame.now.direction) rods →
-        AreSections (direction_of frame.now.direction) (basis_of_rod frame.now) rods (counted (parts point.now)) (map motion_of members.now) (map rod_of section.items)) }
+    ensures acts { IfOk result (λ section. (rods : List Motion) →
+        AreRodOperations (group_listing group.now) (direction_of frame.now.direction) rods →
+        AreSections (direction_of frame.now.direction) (basis_of_rod frame.now) rods
+        (counted (parts point.now)) (map motion_of members.now) (map rod_of section.items)) }
     ensures small { IfOk result (λ section. All IsSmallRod section.items) }
 {
     let mut section = Vec::new(alloc);

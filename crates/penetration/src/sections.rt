@@ -49,13 +49,18 @@ impl RodFrame {
         requires member { IsMember (group_listing group.now) (motion_of m.now) }
         requires point { IsVectorWithin largest_entry (parts point) }
         ensures exact { MatchOption result
-            (¬ KeepsLine (direction_of self.now.direction) (counted (parts point)) (motion_of m.now))
-            (λ _. KeepsLine (direction_of self.now.direction) (counted (parts point)) (motion_of m.now)) }
+            (¬ KeepsLine (direction_of self.now.direction) (counted (parts point))
+            (motion_of m.now))
+            (λ _. KeepsLine (direction_of self.now.direction) (counted (parts point))
+            (motion_of m.now)) }
         ensures acts { IfSome result (λ n. (rods : List Motion) →
             AreRodOperations (group_listing group.now) (direction_of self.now.direction) rods →
-            ActsAs (direction_of self.now.direction) (basis_of_rod self.now) rods (counted (parts point)) (motion_of m.now) (rational_rod (rod_of n))) }
+            ActsAs (direction_of self.now.direction) (basis_of_rod self.now) rods
+            (counted (parts point)) (motion_of m.now) (rational_rod (rod_of n))) }
         ensures matrix { IfSome result (λ n. IsMatrix2Within 500 (matrix2_of n.a)) }
-        ensures along { IfSome result (λ n. multiple n.t (parts self.now.axis) ≡ multiple UNIT (drift (motion_of m.now) (parts point))) }
+        ensures along { IfSome result (λ n.
+            multiple n.t (parts self.now.axis)
+            ≡ multiple UNIT (drift (motion_of m.now) (parts point))) }
     {
         let e = sign_along(m, &self.direction)?;
         let dual = self.dual();
@@ -74,7 +79,8 @@ impl RodFrame {
 fn parts_along(dual: &DualBasis, v: &[Part; 3]) -> Option<i64>
     requires vector { IsVectorWithin (2 ^ 46) (parts v.now) }
     requires volume { pos 1 ≤ℤ volume (basis_of dual.now.basis) }
-    ensures { MatchOption result (¬ IsAlongAxis (basis_of dual.now.basis) (multiple UNIT (parts v.now)))
+    ensures { MatchOption result
+        (¬ IsAlongAxis (basis_of dual.now.basis) (multiple UNIT (parts v.now)))
         (λ t. multiple t (basis_of dual.now.basis).tau ≡ multiple UNIT (parts v.now)) }
 {
     match axis_coordinate(dual, &in_parts(v)) {
@@ -107,9 +113,11 @@ fn unit_times(part: Part) -> Part
 fn coordinates_across(dual: &DualBasis, v: &[Part; 3]) -> Option<[i64; 2]>
     requires vector { IsVectorWithin (2 ^ 52) (parts v.now) }
     requires volume { pos 1 ≤ℤ volume (basis_of dual.now.basis) }
-    requires near { (c : Vector) → combination (basis_of dual.now.basis) c ≡ parts v.now → IsVectorWithin 500 c }
+    requires near { (c : Vector) → combination (basis_of dual.now.basis) c ≡ parts v.now →
+        IsVectorWithin 500 c }
     ensures is { MatchOption result (¬ IsCombination (basis_of dual.now.basis) (parts v.now))
-        (λ p. (z : ℤ) × (combination (basis_of dual.now.basis) (record { x = (pair_of p).x; y = (pair_of p).y; z = z }) ≡ parts v.now)) }
+        (λ p. (z : ℤ) × (combination (basis_of dual.now.basis)
+        (record { x = (pair_of p).x; y = (pair_of p).y; z = z }) ≡ parts v.now)) }
     ensures small { IfSome result (λ p. IsPairWithin 500 (pair_of p)) }
 {
     match dual.coordinates(v) {

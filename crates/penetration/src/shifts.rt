@@ -38,7 +38,8 @@ impl Quotient for RodFrame {
         requires { IsVectorWithin (2 ^ 23) (motion_of m.now).shift }
         ensures value { motion_of result ≡ motion_of (rod_home_of (basis_of_rod self.now) m.now) }
         ensures at_home { IsAtRodHome (basis_of_rod self.now) (motion_of result) }
-        ensures differs { DiffersAlong (basis_of_rod self.now) (motion_of m.now) (motion_of result) }
+        ensures differs { DiffersAlong (basis_of_rod self.now) (motion_of m.now)
+            (motion_of result) }
         ensures small { IsVectorWithin (2 ^ 62) (motion_of result).shift }
     {
         let dual = self.dual();

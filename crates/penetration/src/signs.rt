@@ -50,7 +50,8 @@ fn is_same(v: &[Part; 3], w: &[Part; 3]) -> bool
 pub(crate) fn sign_along(m: &Motion3, direction: &Direction) -> Option<Sign>
     requires { IsSmall (motion_of m.now) }
     ensures { MatchOption result (¬ KeepsDirection (direction_of direction.now) (motion_of m.now))
-        (λ e. image (motion_of m.now).matrix (direction_of direction.now) ≡ multiple (sign_value e) (direction_of direction.now)) }
+        (λ e. image (motion_of m.now).matrix (direction_of direction.now)
+        ≡ multiple (sign_value e) (direction_of direction.now)) }
 {
     let along = vector(direction);
     let turned = image(m, &along);

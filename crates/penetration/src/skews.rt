@@ -19,7 +19,8 @@ use plane_lattice::{DualBasis, turns_far};
 fn skews(m: &Motion3, direction: &Direction, dual: &DualBasis) -> bool
     requires motion { IsSmall (motion_of m.now) }
     requires volume { pos 1 ≤ℤ volume (basis_of dual.now.basis) }
-    ensures { IsTrue result ↔ SkewsRod (direction_of direction.now) (basis_of dual.now.basis) (motion_of m.now) }
+    ensures { IsTrue result
+        ↔ SkewsRod (direction_of direction.now) (basis_of dual.now.basis) (motion_of m.now) }
 {
     if !keeps_direction(m, direction) {
         return false;
@@ -32,7 +33,8 @@ fn is_skewed(ops: &[Motion3], direction: &Direction, dual: &DualBasis) -> bool
     requires operations { All IsSmall (map motion_of ops.now) }
     requires volume { pos 1 ≤ℤ volume (basis_of dual.now.basis) }
     ensures { IsTrue result
-        ↔ ((m : Motion) × Contains (map motion_of ops.now) m × SkewsRod (direction_of direction.now) (basis_of dual.now.basis) m) }
+        ↔ ((m : Motion) × Contains (map motion_of ops.now) m
+        × SkewsRod (direction_of direction.now) (basis_of dual.now.basis) m) }
 {
     for m in ops {
         if skews(m, direction, dual) {
@@ -45,7 +47,9 @@ fn is_skewed(ops: &[Motion3], direction: &Direction, dual: &DualBasis) -> bool
 /// Whether a rod frame of the group is skewed.
 pub fn is_rod_skewed(group: &Group, direction: &Direction, dual: &DualBasis) -> bool
     requires { pos 1 ≤ℤ volume (basis_of dual.now.basis) }
-    ensures { IsTrue result ↔ IsRodSkewed (group_listing group.now) (direction_of direction.now) (basis_of dual.now.basis) }
+    ensures { IsTrue result
+        ↔ IsRodSkewed (group_listing group.now) (direction_of direction.now)
+        (basis_of dual.now.basis) }
 {
     is_skewed(group.ops(), direction, dual)
 }

@@ -15,13 +15,14 @@ pub fn flat_group()
 
 /// They generate a plane group: each listing of what they generate lists one, and so does the Group made of it.
 pub fn flat_group_of_generators()
-    ensures listing { (generators g : Listing) → IsFlatListing generators → IsDerivedListing generators g →
-        IsFlatGroup g }
+    ensures listing { (generators g : Listing) → IsFlatListing generators →
+        IsDerivedListing generators g → IsFlatGroup g }
     ensures group { (generators g : Listing) (group : Group) → IsFlatListing generators →
         IsDerivedListing generators g → IsGroupOf g group → IsFlatGroup (group_listing group) }
 {}
 
 /// The Group of a plane group lists flat operations, and the residues of its lattice lie in the plane.
 pub fn listing_of_flat_group()
-    ensures { (group : Group) → IsFlatGroup (group_listing group) → IsFlatListing (group_listing group) }
+    ensures { (group : Group) →
+        IsFlatGroup (group_listing group) → IsFlatListing (group_listing group) }
 {}

@@ -88,8 +88,10 @@ pub(crate) fn whole_part(scaled: &[i128; 3], d: i128) -> [i128; 3]
 pub fn without(v: &[Part; 3], basis: &Basis, c: &[i128; 3]) -> [Part; 3]
     requires vector { IsVectorWithin (2 ^ 40) (parts v.now) }
     requires coefficients { IsVectorWithin largest_scaled (vector_of c.now) }
-    requires rest { IsVectorWithin (2 ^ 62) (minus (parts v.now) (combination (basis_of basis.now) (vector_of c.now))) }
-    ensures { parts result ≡ minus (parts v.now) (combination (basis_of basis.now) (vector_of c.now)) }
+    requires rest { IsVectorWithin (2 ^ 62)
+        (minus (parts v.now) (combination (basis_of basis.now) (vector_of c.now))) }
+    ensures { parts result
+        ≡ minus (parts v.now) (combination (basis_of basis.now) (vector_of c.now)) }
 {
     [
         difference(v[0], combined(c, basis.a[0], basis.b[0], basis.tau[0])),
@@ -104,7 +106,8 @@ fn combined(c: &[i128; 3], a: Part, b: Part, tau: Part) -> i128
     requires a { IsWithin largest_entry a.0 }
     requires b { IsWithin largest_entry b.0 }
     requires tau { IsWithin largest_entry tau.0 }
-    ensures is { result ≡ (vector_of c.now).x *ℤ a.0 +ℤ (vector_of c.now).y *ℤ b.0 +ℤ (vector_of c.now).z *ℤ tau.0 }
+    ensures is { result
+        ≡ (vector_of c.now).x *ℤ a.0 +ℤ (vector_of c.now).y *ℤ b.0 +ℤ (vector_of c.now).z *ℤ tau.0 }
     ensures small { IsWithin largest_combined result }
 {
     wide_multiple(c[0], a) + wide_multiple(c[1], b) + wide_multiple(c[2], tau)

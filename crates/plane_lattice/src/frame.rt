@@ -73,8 +73,10 @@ impl Frame {
     /// Each entry of the vector is at most 2^52 in size, and each of the three numbers fits an `i64`.
     pub fn coords(&self, v: [Part; 3]) -> [i64; 3]
         requires vector { IsVectorWithin (2 ^ 52) (parts v) }
-        requires fits { (c : Vector) → combination (basis_of_frame self.now) c ≡ multiple UNIT (parts v) → FitsWord c }
-        ensures { combination (basis_of_frame self.now) (vector_of result) ≡ multiple UNIT (parts v) }
+        requires fits { (c : Vector) →
+            combination (basis_of_frame self.now) c ≡ multiple UNIT (parts v) → FitsWord c }
+        ensures { combination (basis_of_frame self.now) (vector_of result)
+            ≡ multiple UNIT (parts v) }
     {
         let dual = self.dual();
         let [x, y, z] = dual.scaled(&v);

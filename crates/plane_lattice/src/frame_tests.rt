@@ -56,7 +56,8 @@ pub(crate) fn holds_edges(dual: &DualBasis) -> bool
 pub(crate) fn holds_all(dual: &DualBasis, vectors: &[[Part; 3]]) -> bool
     requires volume { pos 1 ≤ℤ volume (basis_of dual.now.basis) }
     requires vectors { All (λ v. IsVectorWithin (2 ^ 52) (parts v)) vectors.now }
-    ensures { IsTrue result ↔ All (λ v. IsCombination (basis_of dual.now.basis) (parts v)) vectors.now }
+    ensures { IsTrue result
+        ↔ All (λ v. IsCombination (basis_of dual.now.basis) (parts v)) vectors.now }
 {
     for v in vectors {
         if !is_combination(dual, v) {

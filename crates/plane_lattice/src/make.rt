@@ -31,7 +31,8 @@ impl Frame {
     /// product of a and b is no positive multiple of (hkl). Else [`Skewed`](FrameFault::Skewed) comes exactly where an
     /// operation that keeps the orientation has a matrix entry above 500 in size, written in the basis.
     pub fn make(group: &Group, plane: Miller, basis: Basis) -> Result<Frame, FrameFault>
-        ensures made { (g : Listing) → IsGroupOf g group.now → IfOk result (IsFrameOf g plane basis) }
+        ensures made { (g : Listing) → IsGroupOf g group.now →
+            IfOk result (IsFrameOf g plane basis) }
         ensures refused { (g : Listing) → IsGroupOf g group.now → (fault : FrameFault)
             → (result ≡ Err fault) ↔ IsFrameFault g (row_of plane) (basis_of basis) fault }
     {
@@ -58,7 +59,8 @@ impl Frame {
 
 /// Whether the basis is a frame of the group and the orientation.
 fn is_frame(group: &Group, plane: &Miller, dual: &DualBasis) -> bool
-    ensures { IsTrue result ↔ IsFrame (group_listing group.now) (row_of plane.now) (basis_of dual.now.basis) }
+    ensures { IsTrue result
+        ↔ IsFrame (group_listing group.now) (row_of plane.now) (basis_of dual.now.basis) }
 {
     if !has_vectors(group, dual) {
         return false;
@@ -83,7 +85,8 @@ pub fn has_vectors(group: &Group, dual: &DualBasis) -> bool
 pub fn spans_lattice(group: &Group, dual: &DualBasis) -> bool
     requires { pos 1 ≤ℤ volume (basis_of dual.now.basis) }
     ensures { IsTrue result
-        ↔ ((v : Vector) → IsInLattice (group_listing group.now) v → IsCombination (basis_of dual.now.basis) v) }
+        ↔ ((v : Vector) → IsInLattice (group_listing group.now) v →
+        IsCombination (basis_of dual.now.basis) v) }
 {
     if !holds_edges(dual) {
         return false;
@@ -94,7 +97,8 @@ pub fn spans_lattice(group: &Group, dual: &DualBasis) -> bool
 /// Whether an operation that keeps the orientation has a matrix entry above 500 in size, written in the basis.
 fn is_skewed_frame(group: &Group, plane: &Miller, dual: &DualBasis) -> bool
     requires { pos 1 ≤ℤ volume (basis_of dual.now.basis) }
-    ensures { IsTrue result ↔ IsSkewed (group_listing group.now) (row_of plane.now) (basis_of dual.now.basis) }
+    ensures { IsTrue result
+        ↔ IsSkewed (group_listing group.now) (row_of plane.now) (basis_of dual.now.basis) }
 {
     is_skewed(group.ops(), plane, dual)
 }

@@ -21,7 +21,8 @@ pub(crate) fn mean(ops: &[Motion3], plane: &Miller, tau: &[Part; 3]) -> [Ratio; 
     requires few { length ops.now ≤ 192 }
     requires some { 0 < length (scanning_ops (row_of plane.now) (map motion_of ops.now)) }
     requires tau { IsVectorWithin largest_entry (parts tau.now) }
-    ensures { IsPointOf (mean_of (row_of plane.now) (parts tau.now) (scanning_ops (row_of plane.now) (map motion_of ops.now))) result }
+    ensures { IsPointOf (mean_of (row_of plane.now) (parts tau.now)
+        (scanning_ops (row_of plane.now) (map motion_of ops.now))) result }
 {
     let total = total_up(ops, plane, tau);
     let count = count_scanning(ops, plane);
@@ -50,7 +51,9 @@ fn total_up(ops: &[Motion3], plane: &Miller, tau: &[Part; 3]) -> [Part; 3]
     requires operations { All IsSmall (map motion_of ops.now) }
     requires few { length ops.now ≤ 192 }
     requires tau { IsVectorWithin largest_entry (parts tau.now) }
-    ensures is { parts result ≡ total_up (row_of plane.now) (parts tau.now) (scanning_ops (row_of plane.now) (map motion_of ops.now)) }
+    ensures is { parts result
+        ≡ total_up (row_of plane.now) (parts tau.now)
+        (scanning_ops (row_of plane.now) (map motion_of ops.now)) }
     ensures small { IsVectorWithin largest_total (parts result) }
 {
     let mut total = [Part(0), Part(0), Part(0)];
@@ -66,7 +69,8 @@ fn with_operation(total: &[Part; 3], m: &Motion3, plane: &Miller, tau: &[Part; 3
     requires motion { IsSmall (motion_of m.now) }
     requires tau { IsVectorWithin largest_entry (parts tau.now) }
     ensures { parts result ≡ (if keeps_orientation (row_of plane.now) (motion_of m.now)
-        then plus (parts total.now) (multiple (sign_at (row_of plane.now) (motion_of m.now)) (image (motion_of m.now).matrix (parts tau.now)))
+        then plus (parts total.now) (multiple (sign_at (row_of plane.now) (motion_of m.now))
+        (image (motion_of m.now).matrix (parts tau.now)))
         else parts total.now) }
 {
     match side(m, plane) {

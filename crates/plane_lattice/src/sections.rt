@@ -50,12 +50,19 @@ impl Frame {
         requires from { pos 0 ≤ℤ steps }
         requires below { steps <ℤ (pos 2 *ℤ UNIT) }
         ensures exact { MatchOption result
-            (¬ KeepsPlane (row_of self.now.plane) (height_in_steps (dot (row_of self.now.plane) (parts self.now.tau)) steps) (motion_of m.now))
-            (λ _. KeepsPlane (row_of self.now.plane) (height_in_steps (dot (row_of self.now.plane) (parts self.now.tau)) steps) (motion_of m.now)) }
-        ensures seen { IfSome result (λ n. (ms : List Motion) → AreScanning (group_listing group.now) (row_of self.now.plane) ms →
-            IsSeenAs (basis_of_frame self.now) (mean_of (row_of self.now.plane) (parts self.now.tau) ms)
+            (¬ KeepsPlane (row_of self.now.plane)
+            (height_in_steps (dot (row_of self.now.plane) (parts self.now.tau)) steps)
+            (motion_of m.now))
+            (λ _. KeepsPlane (row_of self.now.plane)
+            (height_in_steps (dot (row_of self.now.plane) (parts self.now.tau)) steps)
+            (motion_of m.now)) }
+        ensures seen { IfSome result (λ n. (ms : List Motion) →
+            AreScanning (group_listing group.now) (row_of self.now.plane) ms →
+            IsSeenAs (basis_of_frame self.now) (mean_of (row_of self.now.plane)
+            (parts self.now.tau) ms)
             (point_at (dot (row_of self.now.plane) (parts self.now.tau))
-            (height_in_steps (dot (row_of self.now.plane) (parts self.now.tau)) steps) (in_cell (parts self.now.tau)))
+            (height_in_steps (dot (row_of self.now.plane) (parts self.now.tau)) steps)
+            (in_cell (parts self.now.tau)))
             (motion_of m.now) (rational_of (planar_of n))) }
         ensures small { IfSome result (λ n. IsPlanarSmall (planar_of n)) }
         ensures near { IfSome result (λ n. IsPairWithin largest_drift (planar_of n).shift) }
@@ -77,7 +84,8 @@ impl Frame {
 fn coordinates_in_plane(dual: &DualBasis, v: &[Part; 3]) -> Option<[i64; 2]>
     requires vector { IsVectorWithin (2 ^ 52) (parts v.now) }
     requires volume { pos 1 ≤ℤ volume (basis_of dual.now.basis) }
-    requires near { (c : Pair) → combination (basis_of dual.now.basis) (flat c) ≡ parts v.now → IsPairWithin (2 ^ 40) c }
+    requires near { (c : Pair) → combination (basis_of dual.now.basis) (flat c) ≡ parts v.now →
+        IsPairWithin (2 ^ 40) c }
     ensures { MatchOption result (¬ IsPlaneCombination (basis_of dual.now.basis) (parts v.now))
         (λ c. combination (basis_of dual.now.basis) (flat (pair_of c)) ≡ parts v.now) }
 {

@@ -20,7 +20,8 @@ pub(crate) fn is_skewed(ops: &[Motion3], plane: &Miller, dual: &DualBasis) -> bo
     requires operations { All IsSmall (map motion_of ops.now) }
     requires volume { pos 1 ≤ℤ volume (basis_of dual.now.basis) }
     ensures { IsTrue result
-        ↔ ((m : Motion) × Contains (map motion_of ops.now) m × Skews (row_of plane.now) (basis_of dual.now.basis) m) }
+        ↔ ((m : Motion) × Contains (map motion_of ops.now) m
+        × Skews (row_of plane.now) (basis_of dual.now.basis) m) }
 {
     for m in ops {
         if skews(m, plane, dual) {
@@ -44,9 +45,12 @@ pub fn turns_far(m: &Motion3, dual: &DualBasis) -> bool
     requires motion { IsSmall (motion_of m.now) }
     requires volume { pos 1 ≤ℤ volume (basis_of dual.now.basis) }
     ensures { IsTrue result
-        ↔ (IsFar (basis_of dual.now.basis) (image (motion_of m.now).matrix (basis_of dual.now.basis).a)
-        ⊎ (IsFar (basis_of dual.now.basis) (image (motion_of m.now).matrix (basis_of dual.now.basis).b)
-        ⊎ IsFar (basis_of dual.now.basis) (image (motion_of m.now).matrix (basis_of dual.now.basis).tau))) }
+        ↔ (IsFar (basis_of dual.now.basis) (image (motion_of m.now).matrix
+        (basis_of dual.now.basis).a)
+        ⊎ (IsFar (basis_of dual.now.basis) (image (motion_of m.now).matrix
+        (basis_of dual.now.basis).b)
+        ⊎ IsFar (basis_of dual.now.basis) (image (motion_of m.now).matrix
+        (basis_of dual.now.basis).tau))) }
 {
     is_far(dual, m, &dual.basis.a)
         || is_far(dual, m, &dual.basis.b)
@@ -58,7 +62,8 @@ fn is_far(dual: &DualBasis, m: &Motion3, v: &[Part; 3]) -> bool
     requires motion { IsSmall (motion_of m.now) }
     requires vector { IsVectorWithin largest_entry (parts v.now) }
     requires volume { pos 1 ≤ℤ volume (basis_of dual.now.basis) }
-    ensures { IsTrue result ↔ IsFar (basis_of dual.now.basis) (image (motion_of m.now).matrix (parts v.now)) }
+    ensures { IsTrue result
+        ↔ IsFar (basis_of dual.now.basis) (image (motion_of m.now).matrix (parts v.now)) }
 {
     match dual.coordinates(&image(m, v)) {
         Some(c) => !are_within(&c),

@@ -38,11 +38,14 @@ impl Quotient for Frame {
     /// from 0 to below 1 along a and b.
     fn home(&self, m: &Motion3) -> Motion3
         requires { IsVectorWithin (2 ^ 20) (motion_of m.now).shift }
-        ensures value { motion_of result ≡ motion_of (home_of_motion (basis_of_frame self.now) m.now) }
+        ensures value { motion_of result
+            ≡ motion_of (home_of_motion (basis_of_frame self.now) m.now) }
         ensures at_home { IsAtHome (basis_of_frame self.now) (motion_of result) }
         ensures matrix { (motion_of result).matrix ≡ (motion_of m.now).matrix }
-        ensures differs { IsPlaneCombination (basis_of_frame self.now) (minus (motion_of m.now).shift (motion_of result).shift) }
-        ensures level { dot (row_of self.now.plane) (motion_of result).shift ≡ dot (row_of self.now.plane) (motion_of m.now).shift }
+        ensures differs { IsPlaneCombination (basis_of_frame self.now)
+            (minus (motion_of m.now).shift (motion_of result).shift) }
+        ensures level { dot (row_of self.now.plane) (motion_of result).shift
+            ≡ dot (row_of self.now.plane) (motion_of m.now).shift }
         ensures small { IsVectorWithin largest_home (motion_of result).shift }
     {
         let dual = self.dual();
@@ -72,8 +75,10 @@ fn keeps_plane(dual: &DualBasis, m: &Motion3) -> bool
     requires motion { IsSmall (motion_of m.now) }
     requires volume { pos 1 ≤ℤ volume (basis_of dual.now.basis) }
     ensures { IsTrue result
-        ↔ (IsPlaneCombination (basis_of dual.now.basis) (image (motion_of m.now).matrix (basis_of dual.now.basis).a)
-        × IsPlaneCombination (basis_of dual.now.basis) (image (motion_of m.now).matrix (basis_of dual.now.basis).b)) }
+        ↔ (IsPlaneCombination (basis_of dual.now.basis)
+        (image (motion_of m.now).matrix (basis_of dual.now.basis).a)
+        × IsPlaneCombination (basis_of dual.now.basis)
+        (image (motion_of m.now).matrix (basis_of dual.now.basis).b)) }
 {
     dual.is_in_plane(&image(m, &dual.basis.a)) && dual.is_in_plane(&image(m, &dual.basis.b))
 }

@@ -50,7 +50,8 @@ impl Motion2 {
 impl PartialEq for Motion2 {
     ghost eq = { λ m n. same_planar (in_layer (plane_of m)) (in_layer (plane_of n)) };
 
-    ghost laws = { partial_equiv_from_equiv (on_equiv (λ m. in_layer (plane_of m)) same_planar_laws) };
+    ghost laws = { partial_equiv_from_equiv
+        (on_equiv (λ m. in_layer (plane_of m)) same_planar_laws) };
 
     fn eq(&self, other: &Self) -> bool {
         self.in_layer() == other.in_layer()

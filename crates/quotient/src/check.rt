@@ -70,7 +70,8 @@ fn known_homes<'a, Q: Quotient>(q: &Q, list: &'a [Q::M]) -> Option<&'a [Q::M]>
 fn check_listed<Q: Quotient>(q: &Q, list: &[Q::M], homes: Option<&[Q::M]>) -> Result<(), GroupFault>
     requires reach { Q.REACH ≡ pos (2 ^ 52) }
     requires small { All Q.M.IsSmall (map Q.M.meaning list.now) }
-    requires homes { IfSome homes (λ known. AreHomes Q.M.meaning (Q.home_of q.now) list.now known.now) }
+    requires homes { IfSome homes (λ known.
+        AreHomes Q.M.meaning (Q.home_of q.now) list.now known.now) }
     ensures accepted { IsOk result
         ↔ IsGroup (modulo Q.M.Motion.own (Q.IsShift q.now)) (map Q.M.meaning list.now) }
     ensures refused { (fault : GroupFault) → (result ≡ Err fault)
@@ -115,7 +116,8 @@ fn first_open_pair<Q: Quotient>(
 ) -> Option<(usize, usize)>
     requires reach { Q.REACH ≡ pos (2 ^ 52) }
     requires small { All Q.M.IsSmall (map Q.M.meaning list.now) }
-    requires homes { IfSome homes (λ known. AreHomes Q.M.meaning (Q.home_of q.now) list.now known.now) }
+    requires homes { IfSome homes (λ known.
+        AreHomes Q.M.meaning (Q.home_of q.now) list.now known.now) }
     ensures { let K = modulo Q.M.Motion.own (Q.IsShift q.now) in
         MatchOption result
         (IsClosed K (map Q.M.meaning list.now))
@@ -138,7 +140,8 @@ fn first_open_after<Q: Quotient>(
 ) -> Option<usize>
     requires reach { Q.REACH ≡ pos (2 ^ 52) }
     requires small { All Q.M.IsSmall (map Q.M.meaning list.now) }
-    requires homes { IfSome homes (λ known. AreHomes Q.M.meaning (Q.home_of q.now) list.now known.now) }
+    requires homes { IfSome homes (λ known.
+        AreHomes Q.M.meaning (Q.home_of q.now) list.now known.now) }
     requires first { Q.M.IsSmall (Q.M.meaning m.now) }
     ensures { let K = modulo Q.M.Motion.own (Q.IsShift q.now) in
         MatchOption result
@@ -166,7 +169,8 @@ fn has_product<Q: Quotient>(
 ) -> bool
     requires reach { Q.REACH ≡ pos (2 ^ 52) }
     requires small { All Q.M.IsSmall (map Q.M.meaning list.now) }
-    requires homes { IfSome homes (λ known. AreHomes Q.M.meaning (Q.home_of q.now) list.now known.now) }
+    requires homes { IfSome homes (λ known.
+        AreHomes Q.M.meaning (Q.home_of q.now) list.now known.now) }
     requires first { Q.M.IsSmall (Q.M.meaning m.now) }
     requires second { Q.M.IsSmall (Q.M.meaning n.now) }
     ensures { IsTrue result
@@ -203,7 +207,8 @@ fn has_inverse<Q: Quotient>(q: &Q, list: &[Q::M], m: &Q::M) -> bool
     requires small { All Q.M.IsSmall (map Q.M.meaning list.now) }
     requires motion { Q.M.IsSmall (Q.M.meaning m.now) }
     ensures { IsTrue result
-        ↔ HasInverse (modulo Q.M.Motion.own (Q.IsShift q.now)) (map Q.M.meaning list.now) (Q.M.meaning m.now) }
+        ↔ HasInverse (modulo Q.M.Motion.own (Q.IsShift q.now)) (map Q.M.meaning list.now)
+        (Q.M.meaning m.now) }
 {
     for n in list {
         if are_inverse(q, m, n) {
@@ -219,7 +224,8 @@ fn are_inverse<Q: Quotient>(q: &Q, m: &Q::M, n: &Q::M) -> bool
     requires first { Q.M.IsSmall (Q.M.meaning m.now) }
     requires second { Q.M.IsSmall (Q.M.meaning n.now) }
     ensures { IsTrue result
-        ↔ AreInverse (modulo Q.M.Motion.own (Q.IsShift q.now)) (Q.M.meaning m.now) (Q.M.meaning n.now) }
+        ↔ AreInverse (modulo Q.M.Motion.own (Q.IsShift q.now)) (Q.M.meaning m.now)
+        (Q.M.meaning n.now) }
 {
     q.is_shift(&m.then(n)) && q.is_shift(&n.then(m))
 }

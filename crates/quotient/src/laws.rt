@@ -38,8 +38,10 @@ pub fn first_motions<Q: Quotient>(q: &Q, list: &[Q::M], firsts: &[Q::M])
 /// product of two is a member, and each has an inverse on both sides that is one.
 pub fn members_are_a_group<Q: Quotient>(q: &Q, list: &[Q::M])
     requires { IsGroup (modulo Q.M.Motion.own (Q.IsShift q.now)) (map Q.M.meaning list.now) }
-    ensures products { let IsMember = IsListed (modulo Q.M.Motion.own (Q.IsShift q.now)) (map Q.M.meaning list.now) in
+    ensures products { let IsMember = IsListed (modulo Q.M.Motion.own (Q.IsShift q.now))
+        (map Q.M.meaning list.now) in
         (m n : Q.M.Meaning) → IsMember m → IsMember n → IsMember (Q.M.product m n) }
-    ensures inverses { let K = modulo Q.M.Motion.own (Q.IsShift q.now) in let IsMember = IsListed K (map Q.M.meaning list.now) in
+    ensures inverses { let K = modulo Q.M.Motion.own (Q.IsShift q.now) in
+        let IsMember = IsListed K (map Q.M.meaning list.now) in
         (m : Q.M.Meaning) → IsMember m → (n : Q.M.Meaning) × IsMember n × IsInverse K m n }
 {}

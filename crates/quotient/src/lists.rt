@@ -15,9 +15,11 @@ pub fn find<Q: Quotient>(q: &Q, list: &[Q::M], m: &Q::M) -> Option<usize>
     requires list { All (Q.M.MovesWithin (unsigned_abs Q.REACH)) (map Q.M.meaning list.now) }
     requires motion { Q.M.MovesWithin (unsigned_abs Q.REACH) (Q.M.meaning m.now) }
     ensures found { IsSome result
-        ↔ IsListed (modulo Q.M.Motion.own (Q.IsShift q.now)) (map Q.M.meaning list.now) (Q.M.meaning m.now) }
+        ↔ IsListed (modulo Q.M.Motion.own (Q.IsShift q.now)) (map Q.M.meaning list.now)
+        (Q.M.meaning m.now) }
     ensures first { IfSome result
-        (IsFirstSame (modulo Q.M.Motion.own (Q.IsShift q.now)) (map Q.M.meaning list.now) (Q.M.meaning m.now)) }
+        (IsFirstSame (modulo Q.M.Motion.own (Q.IsShift q.now)) (map Q.M.meaning list.now)
+        (Q.M.meaning m.now)) }
 {
     let home = q.home(m);
     for (i, listed) in list.iter().enumerate() {
@@ -32,7 +34,8 @@ pub fn find<Q: Quotient>(q: &Q, list: &[Q::M], m: &Q::M) -> Option<usize>
 pub fn distinct<Q: Quotient>(alloc: Global, q: &Q, list: &[Q::M]) -> Result<Vec<Q::M>, NoMemory>
     requires { All (Q.M.MovesWithin (unsigned_abs Q.REACH)) (map Q.M.meaning list.now) }
     ensures { IfOk result (λ kept. AreFirst
-        (λ m n. IsSame (modulo Q.M.Motion.own (Q.IsShift q.now)) (Q.M.meaning m) (Q.M.meaning n)) list.now kept.items) }
+        (λ m n. IsSame (modulo Q.M.Motion.own (Q.IsShift q.now)) (Q.M.meaning m) (Q.M.meaning n))
+        list.now kept.items) }
 {
     let mut kept = Vec::new(alloc);
     let mut homes = Vec::new(alloc);

@@ -34,7 +34,8 @@ pub trait Motion: Copy + PartialEq {
         requires { IsSmall (meaning self.now) }
         ensures { MatchOption result
             ((b : Meaning) → ¬ (product (meaning self.now) b ≡ one))
-            (λ m. (product (meaning self.now) (meaning m) ≡ one) × (product (meaning m) (meaning self.now) ≡ one)) };
+            (λ m. (product (meaning self.now) (meaning m) ≡ one)
+            × (product (meaning m) (meaning self.now) ≡ one)) };
 
     ghost monoid: { IsMonoid product one };
 
@@ -47,7 +48,8 @@ pub trait Motion: Copy + PartialEq {
 
     ghost small_within: { (a : Meaning) → IsSmall a → MovesWithin (2 ^ 40) a };
 
-    ghost product_within: { (a b : Meaning) → IsSmall a → IsSmall b → MovesWithin (2 ^ 52) (product a b) };
+    ghost product_within: { (a b : Meaning) → IsSmall a → IsSmall b →
+        MovesWithin (2 ^ 52) (product a b) };
 }
 
 /// The shifts that motions are taken modulo: two motions are the same when one is the other followed by a shift.
@@ -78,16 +80,19 @@ pub trait Quotient {
     /// Whether the motion carries shifts into shifts.
     fn keeps(&self, m: &Self::M) -> bool
         requires { Self.M.IsSmall (Self.M.meaning m.now) }
-        ensures { IsTrue result ↔ Keeps (modulo Self.M.Motion.own (IsShift self.now)) (Self.M.meaning m.now) };
+        ensures { IsTrue result
+            ↔ Keeps (modulo Self.M.Motion.own (IsShift self.now)) (Self.M.meaning m.now) };
 
     // what a motion stands for decides whether it is a shift
-    ghost by_meaning: { (q : Self) (a b : Self.M) → Self.M.meaning a ≡ Self.M.meaning b → IsShift q a → IsShift q b };
+    ghost by_meaning: { (q : Self) (a b : Self.M) → Self.M.meaning a ≡ Self.M.meaning b →
+        IsShift q a → IsShift q b };
 
     ghost shifts: { (q : Self) → AreShiftsGroup (modulo Self.M.Motion.own (IsShift q)) };
 
     // home(m) is the same as m
     ghost home_is_same: { (q : Self) (m : Self.M) →
-        IsSame (modulo Self.M.Motion.own (IsShift q)) (Self.M.meaning (home_of q m)) (Self.M.meaning m) };
+        IsSame (modulo Self.M.Motion.own (IsShift q)) (Self.M.meaning (home_of q m))
+        (Self.M.meaning m) };
 
     // m and n are the same exactly if home(m) = home(n)
     ghost homes: { (q : Self) (m n : Self.M) →

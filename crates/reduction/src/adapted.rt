@@ -42,7 +42,8 @@ fn in_plane(m: &BezoutIdentity, u: &[i64; 3], v: &[i64; 3]) -> [i64; 3]
     requires numbers { IsSmallBezout m.now }
     requires u { IsVectorWithin largest_once (vector_of u.now) }
     requires v { IsVectorWithin largest_once (vector_of v.now) }
-    ensures is { vector_of result ≡ combined m.now.q (vector_of u.now) (pos 0 -ℤ m.now.p) (vector_of v.now) }
+    ensures is { vector_of result
+        ≡ combined m.now.q (vector_of u.now) (pos 0 -ℤ m.now.p) (vector_of v.now) }
 {
     let p = -m.p;
     [

@@ -49,7 +49,8 @@ pub(crate) fn value_at(form: &Form, u: &[i64; 3], v: &[i64; 3]) -> i128
 /// The form of a group and an orientation: the sum of (W u).(W v) over the scanning operations.
 pub(crate) fn form_of(group: &Group, plane: &Miller) -> Form
     ensures form { IsForm (form_matrix result) }
-    ensures value { (g : Listing) → IsGroupOf g group.now → IsFormOf g (row_of plane.now) (form_matrix result) }
+    ensures value { (g : Listing) → IsGroupOf g group.now →
+        IsFormOf g (row_of plane.now) (form_matrix result) }
 {
     form_over(group.ops(), plane)
 }
@@ -58,7 +59,8 @@ pub(crate) fn form_of(group: &Group, plane: &Miller) -> Form
 fn form_over(ops: &[Motion3], plane: &Miller) -> Form
     requires operations { All HasSmallEntries (map motion_of ops.now) }
     requires few { length ops.now ≤ 192 }
-    ensures is { IsSumOver (scanning_ops (row_of plane.now) (map motion_of ops.now)) (form_matrix result) }
+    ensures is { IsSumOver (scanning_ops (row_of plane.now) (map motion_of ops.now))
+        (form_matrix result) }
     ensures small { IsMatrixWithin largest_form (form_matrix result) }
 {
     let mut form = Form {
@@ -104,7 +106,8 @@ fn with_column(row: &[i64; 3], m: &Motion3, i: usize) -> [i64; 3]
     requires row { IsVectorWithin largest_form (vector_of row.now) }
     requires matrix { IsMatrixWithin 50 (matrix_of m.now.w) }
     requires column { i < 3 }
-    ensures { vector_of result ≡ plus (vector_of row.now) (row_times (column_of m.now.w i) (matrix_of m.now.w)) }
+    ensures { vector_of result
+        ≡ plus (vector_of row.now) (row_times (column_of m.now.w i) (matrix_of m.now.w)) }
 {
     [
         row[0] + columns(m, i, 0),

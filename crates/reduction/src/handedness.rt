@@ -19,9 +19,12 @@ use motions::Miller;
 pub(crate) fn right_handed(plane: &Miller, basis: &LatticeBasis) -> LatticeBasis
     requires a { IsVectorWithin largest_short (vector_of basis.now.a) }
     requires b { IsVectorWithin largest_short (vector_of basis.now.b) }
-    ensures adapted { (g : Listing) (r : Vector) → IsAdapted g r (vectors_of basis.now) → IsAdapted g r (vectors_of result) }
-    ensures reduced { (g : Matrix) → IsReduced (by_form g) (vectors_of basis.now) → IsReduced (by_form g) (vectors_of result) }
-    ensures oriented { pos 0 ≤ℤ dot (row_of plane.now) (cross (vector_of result.a) (vector_of result.b)) }
+    ensures adapted { (g : Listing) (r : Vector) → IsAdapted g r (vectors_of basis.now) →
+        IsAdapted g r (vectors_of result) }
+    ensures reduced { (g : Matrix) → IsReduced (by_form g) (vectors_of basis.now) →
+        IsReduced (by_form g) (vectors_of result) }
+    ensures oriented { pos 0
+        ≤ℤ dot (row_of plane.now) (cross (vector_of result.a) (vector_of result.b)) }
 {
     if handedness(plane, &basis.a, &basis.b) < 0 {
         LatticeBasis {

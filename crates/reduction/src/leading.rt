@@ -50,7 +50,8 @@ fn is_less_along(v: &[Part; 3], least: &[Part; 3], place: usize) -> bool
 ///
 /// Residues stand in lexicographic order, so it depends on the lattice alone.
 pub(crate) fn least_along(residues: &[[Part; 3]], place: usize) -> [Part; 3]
-    ensures one { (parts result ≡ edge_at place) ⊎ Contains (map parts residues.now) (parts result) }
+    ensures one { (parts result ≡ edge_at place)
+        ⊎ Contains (map parts residues.now) (parts result) }
     ensures positive { pos 0 <ℤ leading_entry place (parts result) }
     ensures most { leading_entry place (parts result) ≤ℤ UNIT }
     ensures least { All (λ r. pos 0 <ℤ leading_entry place (parts r)

@@ -45,7 +45,8 @@ pub enum ReductionFault {
 /// [`Skewed`](ReductionFault::Skewed) does.
 pub fn reduced_frame(group: &Group, plane: Miller) -> Result<Frame, ReductionFault>
     ensures made { (g : Listing) → IsGroupOf g group.now → IfOk result (IsReducedFrameOf g plane) }
-    ensures refused { (g : Listing) → IsGroupOf g group.now → IfErr result (IsReductionFault g (row_of plane)) }
+    ensures refused { (g : Listing) → IsGroupOf g group.now →
+        IfErr result (IsReductionFault g (row_of plane)) }
 {
     let Some(basis) = in_range(&reduced_basis(group, &plane)) else {
         return Err(ReductionFault::OutOfRange);
@@ -59,7 +60,8 @@ pub fn reduced_frame(group: &Group, plane: Miller) -> Result<Frame, ReductionFau
 
 /// Three vectors that are a reduced frame, in range or not.
 fn reduced_basis(group: &Group, plane: &Miller) -> LatticeBasis
-    ensures { (g : Listing) → IsGroupOf g group.now → IsReducedFrame g (row_of plane.now) (vectors_of result) }
+    ensures { (g : Listing) → IsGroupOf g group.now →
+        IsReducedFrame g (row_of plane.now) (vectors_of result) }
 {
     let form = form_of(group, plane);
     let adapted = adapted_basis(group, plane);
@@ -72,7 +74,8 @@ fn reduced_basis(group: &Group, plane: &Miller) -> LatticeBasis
 
 /// The same three vectors. None comes exactly where an entry is above 1000 cell edges in size.
 fn in_range(basis: &LatticeBasis) -> Option<Basis>
-    ensures { MatchOption result (¬ IsInRange (vectors_of basis.now)) (λ v. basis_of v ≡ vectors_of basis.now) }
+    ensures { MatchOption result
+        (¬ IsInRange (vectors_of basis.now)) (λ v. basis_of v ≡ vectors_of basis.now) }
 {
     if !is_in_range(&basis.a) || !is_in_range(&basis.b) || !is_in_range(&basis.tau) {
         return None;

@@ -25,8 +25,10 @@ fn is_backward(v: &[i64; 3]) -> bool
 pub(crate) fn with_forward_first(basis: &LatticeBasis) -> LatticeBasis
     requires a { IsVectorWithin largest_short (vector_of basis.now.a) }
     requires b { IsVectorWithin largest_short (vector_of basis.now.b) }
-    ensures adapted { (g : Listing) (r : Vector) → IsAdapted g r (vectors_of basis.now) → IsAdapted g r (vectors_of result) }
-    ensures reduced { (g : Matrix) → IsReduced (by_form g) (vectors_of basis.now) → IsReduced (by_form g) (vectors_of result) }
+    ensures adapted { (g : Listing) (r : Vector) → IsAdapted g r (vectors_of basis.now) →
+        IsAdapted g r (vectors_of result) }
+    ensures reduced { (g : Matrix) → IsReduced (by_form g) (vectors_of basis.now) →
+        IsReduced (by_form g) (vectors_of result) }
     ensures a { IsVectorWithin largest_short (vector_of result.a) }
     ensures b { IsVectorWithin largest_short (vector_of result.b) }
     ensures forward { ¬ IsBackward (vector_of result.a) }

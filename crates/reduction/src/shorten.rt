@@ -23,7 +23,8 @@ fn shortened(form: &Form, v: &[i64; 3], w: &[i64; 3]) -> Option<[i64; 3]>
     requires form { IsForm (form_matrix form.now) }
     requires v { IsShort (form_matrix form.now) (vector_of v.now) }
     requires w { IsShort (form_matrix form.now) (vector_of w.now) }
-    ensures { MatchOption result (IsUnshortened (form_matrix form.now) (vector_of v.now) (vector_of w.now))
+    ensures { MatchOption result
+        (IsUnshortened (form_matrix form.now) (vector_of v.now) (vector_of w.now))
         (λ u. Shortens (form_matrix form.now) (vector_of v.now) (vector_of w.now) (vector_of u)) }
 {
     match lessened(form, v, w) {
@@ -46,8 +47,10 @@ fn lessened(form: &Form, v: &[i64; 3], w: &[i64; 3]) -> Option<[i64; 3]>
     requires form { IsForm (form_matrix form.now) }
     requires v { IsShort (form_matrix form.now) (vector_of v.now) }
     requires w { IsShort (form_matrix form.now) (vector_of w.now) }
-    ensures { MatchOption result (pos 1 ≤ℤ by_form (form_matrix form.now) (vector_of w.now) (vector_of w.now)
-        → (pos 2 *ℤ by_form (form_matrix form.now) (vector_of v.now) (vector_of w.now)) ≤ℤ by_form (form_matrix form.now) (vector_of w.now) (vector_of w.now))
+    ensures { MatchOption result
+        (pos 1 ≤ℤ by_form (form_matrix form.now) (vector_of w.now) (vector_of w.now)
+        → (pos 2 *ℤ by_form (form_matrix form.now) (vector_of v.now) (vector_of w.now))
+        ≤ℤ by_form (form_matrix form.now) (vector_of w.now) (vector_of w.now))
         (λ u. Shortens (form_matrix form.now) (vector_of v.now) (vector_of w.now) (vector_of u)) }
 {
     let a = value_at(form, w, w);
@@ -84,7 +87,8 @@ fn without(v: &[i64; 3], w: &[i64; 3], k: i128) -> [i64; 3]
     requires v { IsVectorWithin largest_short (vector_of v.now) }
     requires w { IsVectorWithin largest_short (vector_of w.now) }
     requires k { IsWithin (2 ^ 44) k }
-    requires rest { IsVectorWithin largest_short (combined (pos 1) (vector_of v.now) (pos 0 -ℤ k) (vector_of w.now)) }
+    requires rest { IsVectorWithin largest_short
+        (combined (pos 1) (vector_of v.now) (pos 0 -ℤ k) (vector_of w.now)) }
     ensures { vector_of result ≡ combined (pos 1) (vector_of v.now) (pos 0 -ℤ k) (vector_of w.now) }
 {
     [
@@ -110,11 +114,13 @@ fn less(v: i64, k: i128, w: i64) -> i64
 pub(crate) fn with_short_pair(form: &Form, basis: &LatticeBasis) -> LatticeBasis
     requires form { IsForm (form_matrix form.now) }
     requires pair { IsShortPair (form_matrix form.now) (vectors_of basis.now) }
-    ensures adapted { (g : Listing) (r : Vector) → IsAdapted g r (vectors_of basis.now) → IsAdapted g r (vectors_of result) }
+    ensures adapted { (g : Listing) (r : Vector) → IsAdapted g r (vectors_of basis.now) →
+        IsAdapted g r (vectors_of result) }
     ensures pair { IsShortPair (form_matrix form.now) (vectors_of result) }
     ensures tau { result.tau ≡ basis.now.tau }
     ensures first { IsUnshortened (form_matrix form.now) (vector_of result.b) (vector_of result.a) }
-    ensures second { IsUnshortened (form_matrix form.now) (vector_of result.a) (vector_of result.b) }
+    ensures second { IsUnshortened (form_matrix form.now) (vector_of result.a)
+        (vector_of result.b) }
 {
     match shortened(form, &basis.b, &basis.a) {
         Some(b) => with_short_pair(
@@ -143,9 +149,12 @@ pub(crate) fn with_short_pair(form: &Form, basis: &LatticeBasis) -> LatticeBasis
 pub(crate) fn with_shorter_first(form: &Form, basis: &LatticeBasis) -> LatticeBasis
     requires form { IsForm (form_matrix form.now) }
     requires pair { IsShortPair (form_matrix form.now) (vectors_of basis.now) }
-    requires first { IsUnshortened (form_matrix form.now) (vector_of basis.now.b) (vector_of basis.now.a) }
-    requires second { IsUnshortened (form_matrix form.now) (vector_of basis.now.a) (vector_of basis.now.b) }
-    ensures adapted { (g : Listing) (r : Vector) → IsAdapted g r (vectors_of basis.now) → IsAdapted g r (vectors_of result) }
+    requires first { IsUnshortened (form_matrix form.now) (vector_of basis.now.b)
+        (vector_of basis.now.a) }
+    requires second { IsUnshortened (form_matrix form.now) (vector_of basis.now.a)
+        (vector_of basis.now.b) }
+    ensures adapted { (g : Listing) (r : Vector) → IsAdapted g r (vectors_of basis.now) →
+        IsAdapted g r (vectors_of result) }
     ensures pair { IsShortPair (form_matrix form.now) (vectors_of result) }
     ensures tau { result.tau ≡ basis.now.tau }
     ensures first { IsUnshortened (form_matrix form.now) (vector_of result.b) (vector_of result.a) }
@@ -170,10 +179,12 @@ pub(crate) fn with_short_tau(form: &Form, basis: &LatticeBasis) -> LatticeBasis
     requires form { IsForm (form_matrix form.now) }
     requires pair { IsShortPair (form_matrix form.now) (vectors_of basis.now) }
     requires tau { IsShort (form_matrix form.now) (vector_of basis.now.tau) }
-    requires first { IsUnshortened (form_matrix form.now) (vector_of basis.now.b) (vector_of basis.now.a) }
+    requires first { IsUnshortened (form_matrix form.now) (vector_of basis.now.b)
+        (vector_of basis.now.a) }
     requires order { by_form (form_matrix form.now) (vector_of basis.now.a) (vector_of basis.now.a)
         ≤ℤ by_form (form_matrix form.now) (vector_of basis.now.b) (vector_of basis.now.b) }
-    ensures adapted { (g : Listing) (r : Vector) → IsAdapted g r (vectors_of basis.now) → IsAdapted g r (vectors_of result) }
+    ensures adapted { (g : Listing) (r : Vector) → IsAdapted g r (vectors_of basis.now) →
+        IsAdapted g r (vectors_of result) }
     ensures reduced { IsReduced (by_form (form_matrix form.now)) (vectors_of result) }
     ensures a { IsVectorWithin largest_short (vector_of result.a) }
     ensures b { IsVectorWithin largest_short (vector_of result.b) }
@@ -196,15 +207,22 @@ fn with_tau_by(
     requires tau { IsShort (form_matrix form.now) (vector_of basis.now.tau) }
     requires sum { IsShort (form_matrix form.now) (vector_of sum.now) }
     requires difference { IsShort (form_matrix form.now) (vector_of difference.now) }
-    requires sum_is { vector_of sum.now ≡ combined (pos 1) (vector_of basis.now.a) (pos 1) (vector_of basis.now.b) }
-    requires difference_is { vector_of difference.now ≡ combined (pos 1) (vector_of basis.now.a) (negsuc 0) (vector_of basis.now.b) }
-    ensures adapted { (g : Listing) (r : Vector) → IsAdapted g r (vectors_of basis.now) → IsAdapted g r (vectors_of result) }
+    requires sum_is { vector_of sum.now
+        ≡ combined (pos 1) (vector_of basis.now.a) (pos 1) (vector_of basis.now.b) }
+    requires difference_is { vector_of difference.now
+        ≡ combined (pos 1) (vector_of basis.now.a) (negsuc 0) (vector_of basis.now.b) }
+    ensures adapted { (g : Listing) (r : Vector) → IsAdapted g r (vectors_of basis.now) →
+        IsAdapted g r (vectors_of result) }
     ensures a { result.a ≡ basis.now.a }
     ensures b { result.b ≡ basis.now.b }
-    ensures by_a { IsUnshortened (form_matrix form.now) (vector_of result.tau) (vector_of basis.now.a) }
-    ensures by_b { IsUnshortened (form_matrix form.now) (vector_of result.tau) (vector_of basis.now.b) }
-    ensures by_sum { IsUnshortened (form_matrix form.now) (vector_of result.tau) (vector_of sum.now) }
-    ensures by_difference { IsUnshortened (form_matrix form.now) (vector_of result.tau) (vector_of difference.now) }
+    ensures by_a { IsUnshortened (form_matrix form.now) (vector_of result.tau)
+        (vector_of basis.now.a) }
+    ensures by_b { IsUnshortened (form_matrix form.now) (vector_of result.tau)
+        (vector_of basis.now.b) }
+    ensures by_sum { IsUnshortened (form_matrix form.now) (vector_of result.tau)
+        (vector_of sum.now) }
+    ensures by_difference { IsUnshortened (form_matrix form.now) (vector_of result.tau)
+        (vector_of difference.now) }
 {
     match shortened(form, &basis.tau, &basis.a) {
         Some(tau) => with_tau_by(

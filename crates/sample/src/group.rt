@@ -67,8 +67,10 @@ fn listed(alloc: Global, layer_type: &LayerType, j: i64) -> Result<Listed, NoMem
 fn operations(alloc: Global, ops: &[LayerMotion], j: i64) -> Result<Vec<Motion3>, NoMemory>
     requires ops { All (λ m. IsTypeOperation (planar_of m)) ops.now }
     requires shear { IsWithin 2 j }
-    ensures is { IfOk result (λ motions. map motion_of motions.items ≡ map (λ m. sheared j (block_of_layer m)) ops.now) }
-    ensures small { IfOk result (λ motions. All (λ m. IsSmallWithin 50 (motion_of m)) motions.items) }
+    ensures is { IfOk result (λ motions.
+        map motion_of motions.items ≡ map (λ m. sheared j (block_of_layer m)) ops.now) }
+    ensures small { IfOk result (λ motions.
+        All (λ m. IsSmallWithin 50 (motion_of m)) motions.items) }
 {
     let mut motions = Vec::new(alloc);
     for m in ops {
@@ -93,7 +95,8 @@ fn operation(m: &LayerMotion, j: i64) -> Motion3
 /// The centring vectors of a layer type, centred or not.
 fn centrings(alloc: Global, centred: bool) -> Result<Vec<[Part; 3]>, NoMemory>
     ensures is { IfOk result (λ vectors. map parts vectors.items ≡ centrings centred) }
-    ensures small { IfOk result (λ vectors. All (λ v. IsVectorWithin (2 ^ 40) (parts v)) vectors.items) }
+    ensures small { IfOk result (λ vectors.
+        All (λ v. IsVectorWithin (2 ^ 40) (parts v)) vectors.items) }
 {
     let mut vectors = Vec::new(alloc);
     if centred {

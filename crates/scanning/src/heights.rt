@@ -21,7 +21,8 @@ pub(crate) fn special_heights(
     frame: &Frame,
 ) -> Result<Vec<Height>, NoMemory>
     requires { All (IsHomeOf frame.now) homes.now }
-    ensures { IfOk result (λ heights. AreHeights frame.now (map motion_of homes.now) heights.items) }
+    ensures { IfOk result (λ heights.
+        AreHeights frame.now (map motion_of homes.now) heights.items) }
 {
     let levels = special_levels(alloc, homes, frame)?;
     let mut heights = Vec::new(alloc);

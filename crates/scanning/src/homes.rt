@@ -22,7 +22,8 @@ pub(crate) fn homes(alloc: Global, group: &Group, frame: &Frame) -> Result<Vec<M
     requires { HasFrame (group_listing group.now) frame.now }
     ensures group { IsGroup (group_listing group.now) }
     ensures same { IfOk result (λ homes.
-        AreSameMotions (group_listing group.now) (group_listing group.now).ops (map motion_of homes.items)) }
+        AreSameMotions (group_listing group.now) (group_listing group.now).ops
+        (map motion_of homes.items)) }
     ensures home { IfOk result (λ homes.
         All (IsHomeOf frame.now) homes.items) }
 {

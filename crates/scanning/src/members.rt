@@ -30,7 +30,8 @@ pub(crate) fn members(
     requires turned { IfSome turned (IsWithin largest_level) }
     ensures { (g : Listing) → HasFrame g frame.now → All (IsMember g) (map motion_of homes.now) →
         IfOk result (λ members. AreChosen (SameModulo g) (IsAtHome (basis_of_frame frame.now))
-        (InRows g (row_of frame.now.plane) turned) (map motion_of homes.now) (map motion_of members.items)) }
+        (InRows g (row_of frame.now.plane) turned) (map motion_of homes.now)
+        (map motion_of members.items)) }
 {
     let mut members = Vec::new(alloc);
     for m in homes {
@@ -46,7 +47,8 @@ fn member(m: &Motion3, frame: &Frame, turned: Option<i64>) -> Option<Motion3>
     requires home { IsHomeOf frame.now m.now }
     requires turned { IfSome turned (IsWithin largest_level) }
     ensures { (g : Listing) → HasFrame g frame.now → IsMember g (motion_of m.now) →
-        IsChoice (SameModulo g) (IsAtHome (basis_of_frame frame.now)) (InRows g (row_of frame.now.plane) turned)
+        IsChoice (SameModulo g) (IsAtHome (basis_of_frame frame.now))
+        (InRows g (row_of frame.now.plane) turned)
         (motion_of m.now) (option_map motion_of result) }
 {
     let shift = asked_shift(side(m, &frame.plane)?, turned)?;

@@ -24,8 +24,13 @@ pub struct Scan {
     pub frame: Frame,
     pub ghost in_period: { All (IsInPeriod frame.period.0) (heights_of_specials special.items) },
     pub ghost rising: { AllPairs IsLower (heights_of_specials special.items) },
-    pub ghost general_small: { All (IsSmallWithin (unsigned_abs MAX_ENTRY)) (map motion_of general.items) },
-    pub ghost special_small: { All (λ h. All (IsSmallWithin (unsigned_abs MAX_ENTRY)) h.ops) (specials_of special.items) },
-    pub ghost general_rows: { ∥ All (IsGeneralOperation (row_of frame.plane) (basis_of_frame frame)) (map motion_of general.items) ∥₁ },
-    pub ghost special_rows: { ∥ All (λ h. All (IsSpecialOperation (row_of frame.plane) (basis_of_frame frame) h.height) h.ops) (specials_of special.items) ∥₁ },
+    pub ghost general_small: { All (IsSmallWithin (unsigned_abs MAX_ENTRY))
+        (map motion_of general.items) },
+    pub ghost special_small: { All (λ h. All (IsSmallWithin (unsigned_abs MAX_ENTRY)) h.ops)
+        (specials_of special.items) },
+    pub ghost general_rows: { ∥ All (IsGeneralOperation (row_of frame.plane) (basis_of_frame frame))
+        (map motion_of general.items) ∥₁ },
+    pub ghost special_rows: { ∥ All (λ h.
+        All (IsSpecialOperation (row_of frame.plane) (basis_of_frame frame) h.height) h.ops)
+        (specials_of special.items) ∥₁ },
 }

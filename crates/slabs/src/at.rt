@@ -34,7 +34,8 @@ pub fn slab_at(alloc: Global, scan: &Scan, low: Ratio, high: Ratio) -> Result<Ve
     ensures gives { (g : Listing) → IsGroup g →
         HasFrame g scan.now.frame → HasScan g scan.now →
         IfOk result (λ ops. GivesAt g (row_of scan.now.frame.plane) (basis_of_frame scan.now.frame)
-        (scan_of scan.now) (half_sum (fraction_of low) (fraction_of high)) (map motion_of ops.items)) }
+        (scan_of scan.now) (half_sum (fraction_of low) (fraction_of high))
+        (map motion_of ops.items)) }
     ensures list { (g : Listing) → IsGroup g →
         HasFrame g scan.now.frame → HasScan g scan.now →
         IfOk result (λ ops. IsHomeList g (basis_of_frame scan.now.frame)

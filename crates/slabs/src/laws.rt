@@ -12,14 +12,16 @@ ghost use Rattle.slabs.specs.Slabs.{InSlabStabiliser, IsAtMost, IsInSlab, KeepsS
 /// The slab theorem: a motion whose matrix has an inverse of whole entries takes every point of a slab to a point of it
 /// exactly where it takes every point of the plane in the middle to a point of that plane.
 pub fn slab_by_middle()
-    ensures { (r : Vector) (low high : Height) (m : Motion) → IsCoprime r → IsHeight low → IsHeight high →
-        IsAtMost low high → IsInvertible m.matrix → KeepsSlab r low high m ↔ KeepsPlane r (half_sum low high) m }
+    ensures { (r : Vector) (low high : Height) (m : Motion) → IsCoprime r → IsHeight low →
+        IsHeight high → IsAtMost low high → IsInvertible m.matrix →
+        KeepsSlab r low high m ↔ KeepsPlane r (half_sum low high) m }
 {}
 
 /// So the members of a group that map a slab to itself are those that map the plane in its middle to itself.
 pub fn stabiliser_by_middle()
-    ensures { (g : Listing) (r : Vector) (low high : Height) (m : Motion) → IsGroup g → IsCoprime r → IsHeight low →
-        IsHeight high → IsAtMost low high → InSlabStabiliser g r low high m ↔ InStabiliser g r (half_sum low high) m }
+    ensures { (g : Listing) (r : Vector) (low high : Height) (m : Motion) → IsGroup g →
+        IsCoprime r → IsHeight low → IsHeight high → IsAtMost low high →
+        InSlabStabiliser g r low high m ↔ InStabiliser g r (half_sum low high) m }
 {}
 
 /// So a slab and the plane in its middle have the same lists, and the list of a slab lists what maps it to itself

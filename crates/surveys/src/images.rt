@@ -16,7 +16,9 @@ pub(crate) fn images(
     group: &Group,
     plane: &Miller,
 ) -> Result<Vec<[i64; 3]>, AllocError>
-    ensures each { IfOk result (λ rows. ListsSet (AreEquivalent (group_listing group.now) (row_of plane.now)) (map vector_of rows.items)) }
+    ensures each { IfOk result (λ rows.
+        ListsSet (AreEquivalent (group_listing group.now) (row_of plane.now))
+        (map vector_of rows.items)) }
     ensures few { IfOk result (λ rows. vec_len rows ≤ 384) }
 {
     let mut rows = Vec::new(alloc);
@@ -31,7 +33,8 @@ pub(crate) fn images(
 
 /// Appends the row where it is not listed.
 fn add_row(rows: &mut Vec<[i64; 3]>, row: &[i64; 3]) -> Result<(), AllocError>
-    ensures with { OnOk result (IsWith (map vector_of rows.old.items) (vector_of row.now) (map vector_of rows.new.items)) }
+    ensures with { OnOk result (IsWith (map vector_of rows.old.items) (vector_of row.now)
+        (map vector_of rows.new.items)) }
     ensures few { OnOk result (vec_len rows.new ≤ vec_len rows.old + 1) }
 {
     if !lists_row(rows, row) {

@@ -16,7 +16,8 @@ pub(crate) fn plane_at(n: i64, place: u32) -> Option<Miller>
     requires place { pos place <ℤ (side n *ℤ side n *ℤ side n) }
     ensures { MatchOption result
         ((r : Vector) → IsWithinSurvey (unsigned_abs n) r → ¬ (place_of n r ≡ pos place))
-        (λ plane. IsVectorWithin (unsigned_abs n) (row_of plane) × (place_of n (row_of plane) ≡ pos place)) }
+        (λ plane. IsVectorWithin (unsigned_abs n) (row_of plane)
+        × (place_of n (row_of plane) ≡ pos place)) }
 {
     let [h, k, l] = triple_at(n, place);
     Miller::make(h, k, l).ok()

@@ -13,7 +13,8 @@ use motions::{Miller, Motion3, row_image};
 /// Whether no greater orientation with indices at most `largest` in size is equivalent to (hkl), which has such indices.
 pub(crate) fn is_representative(group: &Group, plane: &Miller, largest: u64) -> bool
     requires { IsVectorWithin largest (row_of plane.now) }
-    ensures { IsTrue result ↔ IsRepresentative (group_listing group.now) largest (row_of plane.now) }
+    ensures { IsTrue result
+        ↔ IsRepresentative (group_listing group.now) largest (row_of plane.now) }
 {
     for m in group.ops() {
         if has_greater_image(m, plane, largest) {

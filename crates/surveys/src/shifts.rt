@@ -24,7 +24,8 @@ pub(crate) fn turned_shifts(
     requires from { pos 1 ≤ℤ period.0 }
     requires most { period.0 ≤ℤ UNIT }
     ensures each { IfOk result (λ shifts.
-        ListsSet (IsTurnedShift (row_of plane.now) period.0 (group_listing group.now).ops) shifts.items) }
+        ListsSet (IsTurnedShift (row_of plane.now) period.0 (group_listing group.now).ops)
+        shifts.items) }
     ensures few { IfOk result (λ shifts. vec_len shifts ≤ 192) }
 {
     let mut shifts = Vec::new(alloc);
@@ -52,7 +53,8 @@ fn turned_shift(m: &Motion3, plane: &Miller, period: Part) -> Option<i64>
     requires motion { IsSmall (motion_of m.now) }
     requires from { pos 1 ≤ℤ period.0 }
     requires most { period.0 ≤ℤ UNIT }
-    ensures { let turns = row_times (row_of plane.now) (motion_of m.now).matrix ≡ opposite (row_of plane.now) in
+    ensures { let turns = row_times (row_of plane.now) (motion_of m.now).matrix
+        ≡ opposite (row_of plane.now) in
         MatchOption result (¬ turns) (λ t. turns × (pos 0 ≤ℤ t) × (t <ℤ period.0)
         × ((k : ℤ) × (t ≡ dot (row_of plane.now) (motion_of m.now).shift +ℤ k *ℤ period.0))) }
 {

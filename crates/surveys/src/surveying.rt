@@ -45,7 +45,8 @@ pub fn survey(alloc: Global, group: &Group, n: i64) -> Result<Vec<Surveyed>, NoM
 /// The orientation with its counts.
 fn surveyed(alloc: Global, group: &Group, plane: Miller) -> Result<Surveyed, NoMemory>
     ensures plane { IfOk result (λ surveyed. row_of surveyed.plane ≡ row_of plane) }
-    ensures counts { IfOk result (λ surveyed. HasCounts (group_listing group.now) (surveyed_of surveyed)) }
+    ensures counts { IfOk result (λ surveyed.
+        HasCounts (group_listing group.now) (surveyed_of surveyed)) }
 {
     let images = images(alloc, group, &plane)?.len() as u32;
     // Each of these shifts is twice a special height, and so is the one that is a period more.
