@@ -15,10 +15,10 @@ use Rattle.triplets.specs.TextAnswers.{IsMemory, Lists, IsFaultOf, IsAnswer, IsS
 use Rattle.triplets.proofs.LinePlaces.{one_line_value}
 use Rattle.motions.specs.ListedSizes.{IsListedSmall}
 use Rattle.triplets.proofs.Sizes.{text_small, listed_small}
-use Rattle.triplets.proofs.TextEnds.{make_said}
 use Rattle.triplets.proofs.FirstLines.{not_both}
 use Rattle.triplets.proofs.FirstTexts.{IsTextOutcome, text_given}
 use Rattle.triplets.proofs.FirstShown.{fault_shown, none_shown, shown_fault}
+use Rattle.triplets.proofs.LineByLine.{make_said}
 
 pub are_lines_one : (nt : Notation) → (ls : List (List ℕ)) (a b : Listing) → AreLines nt ls a → AreLines nt ls b → a ≡ b
 are_lines_one nt [] a b h i = h ∙ sym i

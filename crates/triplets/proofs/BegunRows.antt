@@ -17,12 +17,13 @@ use Rattle.triplets.specs.declared.line.LinePlace.TheVariants as places
 use Rattle.triplets.specs.Marks.{mark}
 use Rattle.triplets.specs.TripletReading.{step}
 use Rattle.triplets.specs.Grammar.{blanks_text}
-use Rattle.triplets.specs.Lines.{Centring, centring_text, centring_value, Centrings, one, further, centrings_text, centrings_value, empty, operation, row}
+use Rattle.triplets.specs.Lines.{Centring, centring_text, centring_value, Centrings, one, further, centrings_text, centrings_value, row}
 use Rattle.triplets.specs.LineReading.{in_operation, coordinate_sign, place_step, completed, with_vector, LineState, line_start, at_place, line_step, line_run, line_byte}
 use Rattle.triplets.specs.BegunLines.{AreBegunVectors}
-use Rattle.triplets.proofs.LineBegun.{state_of, placed_by, LineBegun, at_start, at_opening, at_operation, at_vector, at_closed, at_behind, at_comment, prior_text, prior_value, line_text, line_state, closed_text, in_bracket, bracket_more, closed_more, all_of, line_goes}
-use Rattle.triplets.proofs.LineRuns.{centrings_run}
-use Rattle.triplets.proofs.Runs.{going, going_is, run-append, no_run, carries}
+use Rattle.triplets.proofs.LineBegun.{state_of, placed_by, LineBegun, at_start, at_vector, at_closed, at_behind, at_comment, prior_text, prior_value, line_text, line_state, closed_text, in_bracket, bracket_more, closed_more, all_of}
+use Rattle.triplets.proofs.LineSteps.{line_goes}
+use Rattle.triplets.proofs.VectorRuns.{centrings_run}
+use Rattle.triplets.proofs.Runs.{going, going_is, run-append, carries}
 use Rattle.triplets.specs.Runs.{advanced}
 
 -- ---- more bytes, no fewer vectors

@@ -6,7 +6,7 @@ use Rattle.std.proofs.lemmas.Int.{ints}
 use Rattle.triplets.specs.declared.notation.Notation.{Notation}
 use Rattle.triplets.specs.declared.notation.Notation.TheVariants.{Triplets, Pairs}
 use Rattle.triplets.specs.declared.marks.Axis.{Axis}
-use Rattle.triplets.specs.declared.marks.Axis.TheVariants.{X, Y, Z}
+use Rattle.triplets.specs.declared.marks.Axis.TheVariants.{X}
 use Rattle.motions.specs.declared.motion.Sign.{Sign}
 use Rattle.motions.specs.declared.motion.Sign.TheVariants.{Plus, Minus}
 use Rattle.triplets.specs.declared.part.Used.{Used}

@@ -1,5 +1,5 @@
 -- What the bytes of the grammar mean to the reader.
-use Rattle.std.proofs.Common.{◌≡◌, ℕ, ◌≤◌, Bool, true, false, cond, refl, arith, inl, inr, ◌⊎◌}
+use Rattle.std.proofs.Common.{◌≡◌, ℕ, ◌≤◌, Bool, true, false, cond, refl, arith, inl, inr, ◌⊎◌, List, [], ◌∷◌, Result, Ok, ap, ◌∙◌}
 use Rattle.std.specs.Prelude.{◌==◌, nat_le, ◌&&◌}
 use Rattle.std.proofs.lemmas.Bool.Decides.{nat_tests, eqb_tells}
 use Rattle.std.proofs.lemmas.Bool.{cases_lt}
@@ -12,7 +12,8 @@ use Rattle.triplets.specs.declared.marks.Mark.{Mark}
 use Rattle.triplets.specs.declared.marks.Mark.TheVariants as marks
 use Rattle.triplets.specs.declared.notation.Notation.TheVariants.{Triplets, Pairs}
 use Rattle.triplets.specs.Marks.{has_axis, third_letter, mark}
-use Rattle.triplets.specs.Grammar.{Blank, space, tab, carriage_return, blank_byte, sign_byte, letter_byte, Digit, digit_value}
+use Rattle.triplets.specs.Grammar.{Blank, space, tab, carriage_return, blank_byte, sign_byte, letter_byte, Digit, digit_value, blanks_text}
+use Rattle.triplets.specs.Runs.{run_by}
 
 pub mark_sign : (nt : Notation) → (s : Sign) → mark nt (sign_byte s) ≡ marks.Signs s
 mark_sign nt Plus = refl
@@ -89,3 +90,12 @@ mark_is nt b =
           choose nt b 40 _ _ (λ e. e) (
           choose nt b 41 _ _ (λ e. e) tt))))))))))))))))
     ]
+
+pub mark_blank : (nt : Notation) → (k : Blank) → mark nt (blank_byte k) ≡ marks.Blank
+mark_blank nt space = refl
+mark_blank nt k = refl
+
+-- a place that a blank keeps is kept by blanks
+pub blanks_keep : {S E : Type 0} (nt : Notation) (step : Mark → S → Result S E) (s : S) → step marks.Blank s ≡ Ok s → (bs : List Blank) → run_by (λ b. step (mark nt b)) (Ok s) (blanks_text bs) ≡ Ok s
+blanks_keep nt step s e [] = refl
+blanks_keep nt step s e (k ∷ bs) = ap (λ r. run_by (λ b. step (mark nt b)) r (blanks_text bs)) (ap (λ m. step m s) (mark_blank nt k) ∙ e) ∙ blanks_keep nt step s e bs

@@ -1,8 +1,5 @@
 -- What the reader answers at the end, and at a fault.
-use Rattle.std.proofs.Common.{◌≡◌, ℕ, ◌+◌, ◌<◌, List, [], ◌∷◌, ◌++◌, length, get_or, take, drop, Result, Ok, refl, sym, ◌∙◌, ap, subst, arith, add-one}
-use Rattle.std.proofs.Math.Seq.{take-suc, take-length}
-use Rattle.std.proofs.lemmas.List.{take-append-drop}
-use Rattle.std.proofs.lemmas.Option.{slice_get-get_or, slice_get_past}
+use Rattle.std.proofs.Common.{◌≡◌, ℕ, ◌+◌, ◌<◌, List, [], length, get_or, take, Result, Ok, sym, ◌∙◌, ap}
 use Rattle.triplets.specs.declared.notation.Notation.{Notation}
 use Rattle.triplets.specs.declared.notation.Notation.TheVariants.{Triplets}
 use Rattle.triplets.specs.declared.fault.TextKind.{TextKind}
@@ -14,11 +11,10 @@ use Rattle.triplets.specs.declared.triplet.TripletReader.{TripletReader}
 use Rattle.triplets.specs.Marks.{mark}
 use Rattle.triplets.specs.TripletReading.{start, value, step, run, operation_byte}
 use Rattle.triplets.specs.Grammar.{IsOperation}
-use Rattle.triplets.specs.Faults.{IsGood, IsPrefixOfGood, IsFault, HasKind}
+use Rattle.triplets.specs.Faults.{IsGood, IsFault, HasKind}
 use Rattle.triplets.proofs.Wholes.{found, is_read, is_prefix, no_prefix}
 use Rattle.triplets.proofs.KindFacts.{not_good, fault_kind, no_triplet}
-use Rattle.triplets.proofs.Runs.{going, stopped, going_is, run-append, run_stopped, run_next, run_all, run_whole}
-use Rattle.triplets.specs.Runs.{advanced}
+use Rattle.triplets.proofs.Runs.{going, stopped, going_is, run_next, run_all, run_whole}
 use Rattle.triplets.proofs.Places.{itself, fault_at, end_from}
 
 -- one byte more is read

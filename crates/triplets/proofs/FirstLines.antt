@@ -21,6 +21,7 @@ use Rattle.triplets.proofs.Headings.{IsBegun, begun_prefix, no_heading, no_whole
 use Rattle.triplets.proofs.HeadingKinds.{heading_kind}
 use Rattle.triplets.proofs.Runs.{going, stopped, run_more}
 use Rattle.triplets.proofs.Places.{end_from, fault_from, shorter, itself}
+use Rattle.triplets.proofs.Bytes.{blanks_keep}
 
 -- no line of either kind begins so
 neither : (nt : Notation) → (bytes : List ℕ) → (IsPrefixOfGoodLine nt bytes → ⊥) → (IsPrefixIn IsHeading bytes → ⊥) → IsPrefixIn (IsGoodFirstLine nt) bytes → ⊥
@@ -32,10 +33,7 @@ pub blanks_line : (nt : Notation) → (bs : List Blank) → IsLine nt (blanks_te
 blanks_line nt bs = record { form = empty bs; comment = None; text = refl; value = refl }
 
 pub blanks_read : (nt : Notation) → (bs : List Blank) → line_run nt (Ok line_start) (blanks_text bs) ≡ going line_start
-blanks_read nt [] = refl
-blanks_read nt (space ∷ bs) = blanks_read nt bs
-blanks_read nt (tab ∷ bs) = blanks_read nt bs
-blanks_read nt (carriage_return ∷ bs) = blanks_read nt bs
+blanks_read nt = blanks_keep nt (line_step nt) line_start refl
 
 pub blanks_prefix : (nt : Notation) → (bs : List Blank) → IsPrefixIn (IsGoodFirstLine nt) (blanks_text bs)
 blanks_prefix nt bs = ([], inl (nothing_listed, blanks_line nt bs))

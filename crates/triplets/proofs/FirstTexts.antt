@@ -16,7 +16,7 @@ use Rattle.triplets.specs.declared.heading.HeadingPlace.TheVariants as words
 use Rattle.triplets.specs.declared.place.TextPlace.{TextPlace}
 use Rattle.triplets.specs.declared.place.TextPlace.TheVariants as texts
 use Rattle.triplets.specs.Marks.{mark}
-use Rattle.triplets.specs.Grammar.{Blank, space, tab, carriage_return, blank_byte, blanks_text}
+use Rattle.triplets.specs.Grammar.{Blank, blank_byte, blanks_text}
 use Rattle.triplets.specs.Lines.{IsLine}
 use Rattle.triplets.specs.Headings.{IsHeading}
 use Rattle.triplets.specs.Places.{IsPrefixIn}
@@ -30,15 +30,16 @@ use Rattle.triplets.specs.TextReading.{Said, Kept, kept_start, moved, new_line, 
 use Rattle.triplets.proofs.LineBegun.{state_of}
 use Rattle.triplets.proofs.LineEnds.{is_line_prefix}
 use Rattle.triplets.proofs.Partials.{blanks_more}
-use Rattle.triplets.proofs.Bytes.{IsMark, mark_is}
+use Rattle.triplets.proofs.Bytes.{IsMark, mark_is, mark_blank}
 use Rattle.triplets.proofs.Headings.{IsBegun, begun_more, whole_heading, other_beginning, no_vector}
 use Rattle.triplets.proofs.FirstLines.{blanks_line, blanks_read, blanks_prefix, beginning_fault, word_prefix, word_fault, short_word_fault, IsApart, no_whole, first_of_line, line_of_first}
-use Rattle.triplets.proofs.TextEnds.{IsOutcome, InLine, outcome_all, front_nil, front_front, an_ending, no_ending}
+use Rattle.triplets.proofs.TextEnds.{IsOutcome, outcome_all}
 use Rattle.triplets.proofs.BegunRows.{begun_row}
 use Rattle.triplets.proofs.KeptLines.{KeptAfter, IsKeptSoFar, kept_all}
-use Rattle.triplets.proofs.TextShown.{IsShownSoFar, shown_all, shown_more, not_last, some_line}
+use Rattle.triplets.proofs.TextShown.{IsShownSoFar, shown_all, shown_more, not_last}
 use Rattle.triplets.proofs.Runs.{going, run_stopped, run_more}
 use Rattle.triplets.proofs.Places.{take_front}
+use Rattle.triplets.proofs.LineByLine.{InLine, an_ending, no_ending, front_nil, front_front, some_line}
 
 abbrev nothing_said : Bool → Said
 nothing_said g = record { generated = g; listing = nothing_listed }
@@ -276,10 +277,6 @@ heading_all nt (b ∷ bs) ks p hs c g e = heading_byte nt (b == 10) b bs ks p hs
 -- the induction hypothesis
 abbrev BeginningAfter : (nt : Notation) → List ℕ → Type 0
 BeginningAfter nt bs = (ks : List Blank) (c : ℕ) → c ≡ length (blanks_text ks) + 1 → IsGiven nt (text_run nt (Ok (first_kept c texts.Beginning)) bs) (with_front (blanks_text ks) (lines_of bs))
-
-mark_blank : (nt : Notation) → (k : Blank) → mark nt (blank_byte k) ≡ marks.Blank
-mark_blank nt space = refl
-mark_blank nt k = refl
 
 no_blank : (nt : Notation) → (b : ℕ) (m : Mark) → mark nt b ≡ m → m ≢ marks.Blank → (k : Blank) → b ≢ blank_byte k
 no_blank nt b m e n k h = n (sym e ∙ (ap (mark nt) h ∙ mark_blank nt k))

@@ -1,9 +1,8 @@
 -- What a text of pairs lists is flat.
-use Rattle.std.proofs.Common.{◌≡◌, ℕ, zero, suc, arith, ℤ, pos, Bool, true, false, List, [], ◌∷◌, ◌++◌, refl, sym, ◌∙◌, ap, subst}
-use Rattle.std.specs.Prelude.{◌^◌, ◌==◌, nat_abs, All, map}
+use Rattle.std.proofs.Common.{◌≡◌, ℕ, zero, suc, arith, ℤ, pos, Bool, true, false, List, [], ◌∷◌, refl, sym, subst}
+use Rattle.std.specs.Prelude.{All}
 use Rattle.std.proofs.lemmas.List.Elements.{All-append, All-nil}
 use Rattle.symmetry.specs.Vectors.{Vector}
-use Rattle.symmetry.specs.Motions.{Motion}
 use Rattle.symmetry.specs.Groups.{Listing}
 use Rattle.plane_motions.specs.PlaneMotions.{IsFlat, IsFlatListing}
 use Rattle.triplets.specs.declared.notation.Notation.{Notation}
@@ -16,8 +15,8 @@ use Rattle.triplets.specs.declared.part.Row.{Row}
 use Rattle.triplets.specs.Marks.{has_axis}
 use Rattle.triplets.specs.Rows.{axis_row, with_entry, motion_with}
 use Rattle.triplets.specs.Grammar.{Term, letter, multiple, whole, fraction, Lead, bare, sign, more, lead_letters, lead_row, lead_sign, with_term, IsNew, IsLead, Written, part_row}
-use Rattle.triplets.specs.Lines.{Centring, centring_value, Centrings, one, further, centrings_value, Form, empty, operation, row, form_value, IsLine}
-use Rattle.triplets.specs.Texts.{lines_of, listed_then, nothing_listed, AreLines, AreTextLines, IsGroupText}
+use Rattle.triplets.specs.Lines.{centring_value, Centrings, one, further, centrings_value, Form, empty, operation, row, form_value}
+use Rattle.triplets.specs.Texts.{lines_of, AreLines, AreTextLines, IsGroupText}
 
 -- a row without z
 abbrev IsWithout : Row → Type 0

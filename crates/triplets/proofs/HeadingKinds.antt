@@ -9,12 +9,14 @@ use Rattle.triplets.specs.declared.heading.HeadingPlace.{HeadingPlace}
 use Rattle.triplets.specs.declared.heading.HeadingPlace.TheVariants as words
 use Rattle.triplets.specs.Marks.{mark}
 use Rattle.triplets.specs.Rows.{unused}
-use Rattle.triplets.specs.Grammar.{Blank, space, tab, carriage_return, blank_byte, blanks_text}
+use Rattle.triplets.specs.Grammar.{Blank, space, blank_byte, blanks_text}
 use Rattle.triplets.specs.HeadingReading.{heading_step}
 use Rattle.triplets.specs.LineFaults.{line_stands, is_end_of_part, HasLineKind}
 use Rattle.triplets.proofs.Bytes.{mark_is}
-use Rattle.triplets.proofs.LineSeen.{LineSeen, line_seen, line_seen_step, line_seen_start, Between, between_blank}
-use Rattle.triplets.proofs.LineKinds.{Fresh, between_kind, line_uses}
+use Rattle.triplets.proofs.LineSeen.{LineSeen, line_seen, line_seen_step, line_seen_start}
+use Rattle.triplets.proofs.LineAgrees.{Between, between_blank}
+use Rattle.triplets.proofs.LineTable.{Fresh}
+use Rattle.triplets.proofs.LineKinds.{between_kind, line_uses}
 use Rattle.triplets.proofs.Headings.{IsBegun, stopped_by}
 use Rattle.triplets.proofs.Runs.{stopped}
 

@@ -18,7 +18,7 @@ use Rattle.triplets.proofs.Bytes.{IsMark, mark_is}
 use Rattle.triplets.proofs.OneFault.{one_line_kind}
 use Rattle.triplets.proofs.Headings.{heading_run, comment_run, other_letters, IsBegun, begun_more}
 use Rattle.triplets.proofs.HeadingKinds.{IsCommented, other_kind}
-use Rattle.triplets.proofs.Runs.{going, stopped, run-append, run_stopped, carries, no_run}
+use Rattle.triplets.proofs.Runs.{going, run-append, carries, no_run}
 
 -- what is read from a place on
 begun_on : (nt : Notation) → (xs hs : List ℕ) (p q : HeadingPlace) → IsBegun p hs → heading_run nt (Ok p) xs ≡ going q → IsBegun q (hs ++ xs)

@@ -1,5 +1,5 @@
 -- What the reader of the heading takes, and where it stops.
-use Rattle.std.proofs.Common.{◌≡◌, ◌≢◌, ℕ, Bool, true, false, cond, List, [], ◌∷◌, ◌++◌, Option, Some, None, Result, Ok, Err, refl, sym, ◌∙◌, ap, subst, arith, inl, inr, ◌⊎◌, append_assoc}
+use Rattle.std.proofs.Common.{◌≡◌, ◌≢◌, ℕ, Bool, true, false, cond, List, [], ◌∷◌, ◌++◌, Option, Some, None, Result, Ok, refl, sym, ◌∙◌, ap, subst, arith, inl, inr, ◌⊎◌, append_assoc}
 use Rattle.std.specs.Prelude.{◌==◌, codes}
 use Rattle.std.proofs.lemmas.Bool.Decides.{eqb_tells}
 use Rattle.std.proofs.lemmas.List.{append-nil}
@@ -20,8 +20,8 @@ use Rattle.triplets.specs.Places.{IsPrefixIn}
 use Rattle.triplets.specs.HeadingReading.{letter_step, behind_word, heading_step, is_whole}
 use Rattle.triplets.proofs.Bytes.{IsMark, mark_is}
 use Rattle.triplets.proofs.Partials.{blanks_more}
-use Rattle.triplets.proofs.Runs.{going, stopped, going_is, stopped_is, not_going, run-append, run_stopped, run_more}
-use Rattle.triplets.specs.Runs.{advanced, run_by}
+use Rattle.triplets.proofs.Runs.{going, stopped, going_is, stopped_is, not_going, run_more}
+use Rattle.triplets.specs.Runs.{run_by}
 use Rattle.triplets.proofs.Places.{itself, none_begins}
 
 -- the bytes behind the first letter one by one

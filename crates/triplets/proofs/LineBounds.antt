@@ -2,7 +2,7 @@
 use Rattle.std.proofs.Common.{◌≡◌, ℕ, ◌+◌, ◌≤◌, Bool, true, false, cond, List, Option, Some, None, Result, Ok, Err, ℤ, refl, sym, subst, arith}
 use Rattle.std.specs.Prelude.{◌&&◌}
 use Rattle.motions.specs.declared.motion.Sign.{Sign}
-use Rattle.motions.specs.declared.motion.Sign.TheVariants.{Plus, Minus}
+use Rattle.motions.specs.declared.motion.Sign.TheVariants.{Plus}
 use Rattle.triplets.specs.declared.notation.Notation.{Notation}
 use Rattle.triplets.specs.declared.notation.Notation.TheVariants.{Triplets, Pairs}
 use Rattle.triplets.specs.declared.fault.TextKind.{TextKind}
@@ -10,7 +10,7 @@ use Rattle.triplets.specs.declared.marks.Mark.{Mark}
 use Rattle.triplets.specs.declared.marks.Mark.TheVariants as marks
 use Rattle.triplets.specs.declared.part.PartReader.{PartReader}
 use Rattle.triplets.specs.declared.part.Spot.{Spot}
-use Rattle.triplets.specs.declared.part.Spot.TheVariants.{Begin, Signed, Digits, Divided, Below, Behind}
+use Rattle.triplets.specs.declared.part.Spot.TheVariants.{Begin, Behind}
 use Rattle.triplets.specs.declared.triplet.Nth.{Nth}
 use Rattle.triplets.specs.declared.triplet.Nth.TheVariants.{First, Second, Third}
 use Rattle.motions.specs.declared.motion.Motion3.{Motion3}

@@ -10,16 +10,16 @@ use Rattle.triplets.specs.declared.notation.Notation.{Notation}
 use Rattle.triplets.specs.declared.notation.Notation.TheVariants.{Triplets, Pairs}
 use Rattle.triplets.specs.PartReading.{settled}
 use Rattle.triplets.specs.TripletReading.{value}
-use Rattle.triplets.specs.Grammar.{Blank, blanks_text, part_text}
-use Rattle.triplets.specs.Lines.{Coordinate, ThirdCoordinate, coordinate_text, third_coordinate_text, Centrings, centrings_text, Label, label_text, Form, empty, operation, row, form_text, form_value, IsLine}
+use Rattle.triplets.specs.Grammar.{Blank, blanks_text}
+use Rattle.triplets.specs.Lines.{Coordinate, ThirdCoordinate, coordinate_text, third_coordinate_text, Centrings, centrings_text, Label, label_text, Form, empty, operation, row, form_text, form_value, IsLine, IsFirst, IsNumber}
 use Rattle.triplets.specs.LineReading.{LineState, line_start, line_run, line_value, operations_of, some_operation, listing_by}
 use Rattle.triplets.specs.LineFaults.{IsPrefixOfGoodLine}
-use Rattle.triplets.specs.Denominators.{denominator_text}
 use Rattle.triplets.proofs.Divisors.{one}
-use Rattle.triplets.proofs.Partials.{Partial, lead, digits, divided, below, behind, partial_text, IsLike}
-use Rattle.triplets.proofs.Wholes.{Begun, begun_text, begun_state, ends, zero, zero_part, prefix_of}
-use Rattle.triplets.specs.Grammar.{lead_text, numerator_text, whole, fraction}
-use Rattle.triplets.proofs.LineBegun.{lists, LineBegun, at_start, at_opening, at_operation, at_vector, at_closed, at_behind, at_comment, line_text, line_state, VectorBegun, in_one, in_two, in_three, vector_text, closed_text, in_bracket, bracket_more, vector_of, all_of, all_text, closed_more, as_vector, as_vector_text, form_operation, form_vectors, LineGoes, line_goes}
+use Rattle.triplets.proofs.Partials.{Partial, lead, behind, partial_text, IsLike}
+use Rattle.triplets.proofs.Wholes.{Begun, begun_text, begun_state, ends, zero_part, prefix_of, completes}
+use Rattle.triplets.proofs.LineBegun.{lists, LineBegun, at_start, at_opening, at_operation, at_vector, at_closed, at_behind, at_comment, line_text, line_state, VectorBegun, in_one, in_two, in_three, vector_text, closed_text, in_bracket, bracket_more, vector_of, all_of, all_text, closed_more, form_operation, form_vectors, LineGoes}
+use Rattle.triplets.proofs.VectorSteps.{as_vector, as_vector_text}
+use Rattle.triplets.proofs.LineSteps.{line_goes}
 use Rattle.triplets.proofs.Runs.{going}
 
 abbrev make_listing : List Motion → List Vector → Listing
@@ -64,24 +64,15 @@ record GoesOnTo (nt : Notation) (q : Partial nt) : Type 0 where
   coordinate : Coordinate nt
   text : partial_text nt q ++ rest ≡ coordinate_text nt coordinate
 
+completes_like : (nt : Notation) → (q : Partial nt) → IsLike nt q → IsFirst (completes nt q).part.lead × IsNumber (completes nt q).part.last
+completes_like nt (behind w) h = h
+completes_like nt q h = (h, tt)
+
 goes_on_to : (nt : Notation) → (q : Partial nt) → IsLike nt q → GoesOnTo nt q
-goes_on_to nt (lead l good) h = record { rest = 48 ∷ []; coordinate = record { part = record { lead = l; last = whole zero; after = []; good = good; new = tt }; first = h; number = tt }; text = refl }
-goes_on_to nt (digits l good d ds short) h = record {
-  rest = [];
-  coordinate = record { part = record { lead = l; last = whole (record { first = d; others = ds; short = short }); after = []; good = good; new = tt }; first = h; number = tt };
-  text = simp append_assoc;
-}
-goes_on_to nt (divided l good n) h = record {
-  rest = denominator_text one;
-  coordinate = record { part = record { lead = l; last = fraction n one; after = []; good = good; new = tt }; first = h; number = tt };
-  text = simp append_assoc (ap (λ (x : List ℕ). lead_text l ++ (numerator_text n ++ 47 ∷ x)) (sym (append-nil (denominator_text one))));
-}
-goes_on_to nt (below l good n u) h = record {
-  rest = [];
-  coordinate = record { part = record { lead = l; last = fraction n u; after = []; good = good; new = tt }; first = h; number = tt };
-  text = simp append_assoc;
-}
-goes_on_to nt (behind w) h = record { rest = []; coordinate = record { part = w; first = h.0; number = h.1 }; text = append-nil (part_text nt w) }
+goes_on_to nt q h =
+    let c = completes nt q in
+    let like = completes_like nt q h in
+    record { rest = c.rest; coordinate = record { part = c.part; first = like.0; number = like.1 }; text = c.text }
 
 abbrev zero_coordinate : (nt : Notation) → Coordinate nt
 zero_coordinate nt = record { part = zero_part nt; first = tt; number = tt }

@@ -1,9 +1,5 @@
 -- The value of a good line, and the place of a bad one.
-use Rattle.std.proofs.Common.{◌≡◌, ℕ, ◌+◌, List, [], ◌∷◌, ◌++◌, length, take, drop, Option, Some, Result, Ok, refl, sym, ◌∙◌, ap, subst, arith, append_assoc, length-append}
-use Rattle.std.specs.Prelude.{slice_get}
-use Rattle.std.proofs.Math.Seq.{take-length, take-append_seam, take-append-add}
-use Rattle.std.proofs.lemmas.List.{take-append-drop}
-use Rattle.std.proofs.lemmas.Option.{slice_get_past}
+use Rattle.std.proofs.Common.{◌≡◌, ℕ, ◌+◌, List, [], ◌∷◌, ◌++◌, length, Ok, sym, ◌∙◌, ap}
 use Rattle.symmetry.specs.Groups.{Listing}
 use Rattle.triplets.specs.declared.notation.Notation.{Notation}
 use Rattle.triplets.specs.declared.fault.TextKind.{TextKind}
@@ -11,14 +7,12 @@ use Rattle.triplets.specs.declared.fault.TextKind.TheVariants as kinds
 use Rattle.triplets.specs.Marks.{mark}
 use Rattle.triplets.specs.Lines.{IsLine}
 use Rattle.triplets.specs.LineReading.{LineState, line_start, line_step, line_run, line_value, line_byte}
-use Rattle.triplets.specs.Places.{IsPrefixIn}
-use Rattle.triplets.specs.LineFaults.{IsGoodLine, IsPrefixOfGoodLine, IsFaultIn, IsLineFault, HasLineKind}
+use Rattle.triplets.specs.LineFaults.{IsGoodLine, IsPrefixOfGoodLine, IsLineFault, HasLineKind}
 use Rattle.triplets.proofs.LineBegun.{lists, lists_nothing}
 use Rattle.triplets.proofs.LineEnds.{is_line_prefix}
 use Rattle.triplets.proofs.LineRuns.{is_line_read}
 use Rattle.triplets.proofs.LineKinds.{line_kind}
-use Rattle.triplets.proofs.Runs.{going, stopped, going_is, run-append, run_stopped, run_more}
-use Rattle.triplets.specs.Runs.{advanced}
+use Rattle.triplets.proofs.Runs.{going, stopped, going_is, run_more}
 use Rattle.triplets.proofs.Places.{end_from, fault_from, none_begins}
 
 pub no_line_prefix : (nt : Notation) → (bytes : List ℕ) (k : TextKind) → line_run nt (Ok line_start) bytes ≡ stopped k → IsPrefixOfGoodLine nt bytes → ⊥

@@ -1,18 +1,14 @@
 -- A text lists one thing or has one fault.
-use Rattle.std.proofs.Common.{◌≡◌, ℕ, zero, suc, ◌+◌, ◌<◌, Bool, List, [], ◌∷◌, take, Option, Some, None, Result, Ok, refl, sym, ◌∙◌, ap, subst, arith, inl, inr}
-use Rattle.std.specs.Prelude.{slice_get}
-use Rattle.std.proofs.lemmas.List.{take-take}
+use Rattle.std.proofs.Common.{◌≡◌, ℕ, zero, suc, Bool, List, [], ◌∷◌, Result, Ok, refl, sym, ◌∙◌, ap}
 use Rattle.symmetry.specs.Groups.{Listing}
 use Rattle.triplets.specs.declared.notation.Notation.{Notation}
 use Rattle.triplets.specs.declared.fault.TextKind.{TextKind}
-use Rattle.triplets.specs.Faults.{TableRow}
-use Rattle.triplets.specs.Places.{IsPrefixIn, IsPlaceIn}
 use Rattle.triplets.specs.LineFaults.{IsGoodLine, IsGoodFirstLine, HasLineKind, IsFaultIn}
 use Rattle.triplets.specs.Texts.{lines_of, IsGroupText, IsFirstBad, Fault, IsTextFault}
 use Rattle.triplets.specs.TextReading.{Said}
-use Rattle.triplets.proofs.TextEnds.{make_said}
 use Rattle.triplets.proofs.Answered.{only_group, bad_text_lines}
 use Rattle.triplets.proofs.Places.{row_one, one_fault_by}
+use Rattle.triplets.proofs.LineByLine.{make_said}
 
 said_one : (a a' : Said) → (let x : Result Said Fault = Ok a in x) ≡ Ok a' → a ≡ a'
 said_one a a' e = cc

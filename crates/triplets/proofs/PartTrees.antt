@@ -8,7 +8,7 @@ use Rattle.fractions.specs.declared.part.TheConstants.{UNIT}
 use Rattle.fractions.specs.LowestTerms.{lowest_terms}
 use Rattle.symmetry.specs.Vectors.{Vector}
 use Rattle.symmetry.specs.Sizes.{IsVectorWithin}
-use Rattle.triplets.specs.declared.notation.Notation.TheVariants.{Triplets, Pairs}
+use Rattle.triplets.specs.declared.notation.Notation.TheVariants.{Triplets}
 use Rattle.triplets.specs.declared.marks.Axis.{Axis}
 use Rattle.triplets.specs.declared.marks.Axis.TheVariants.{X, Y, Z}
 use Rattle.motions.specs.declared.motion.Sign.{Sign}
@@ -16,7 +16,7 @@ use Rattle.motions.specs.declared.motion.Sign.TheVariants.{Plus, Minus}
 use Rattle.triplets.specs.declared.part.Row.{Row}
 use Rattle.triplets.specs.declared.part.Used.{Used}
 use Rattle.triplets.specs.Rows.{zero_row, unused, with_entry, uses, with_used}
-use Rattle.triplets.specs.Grammar.{sign_byte, letter_byte, Term, whole, bare, sign as signed_lead, more, lead_text, lead_letters, blanks_text, letter, multiple, fraction, term_text, with_term, with_letters, IsNew, Written, part_text, part_row}
+use Rattle.triplets.specs.Grammar.{sign_byte, letter_byte, Term, whole, bare, sign as signed_lead, more, lead_text, lead_letters, blanks_text, letter, term_text, with_term, with_letters, IsNew, Written, part_text, part_row}
 use Rattle.triplets.specs.Writing.{letter_term, number_term, terms_text, or_zero, row_text}
 use Rattle.triplets.proofs.Terms.{without_leading_plus-more}
 use Rattle.triplets.proofs.NumberTrees.{digit}

@@ -1,5 +1,5 @@
 -- What stands before a place, as the reader of a part knows it.
-use Rattle.std.proofs.Common.{◌≡◌, ◌≢◌, ℕ, ◌+◌, ◌*◌, ◌≤◌, Bool, true, false, List, [], ◌∷◌, Option, Some, None, Result, Ok, Err, refl, sym, ap, subst, arith}
+use Rattle.std.proofs.Common.{◌≡◌, ◌≢◌, ℕ, ◌+◌, ◌*◌, ◌≤◌, Bool, true, false, List, Option, Some, None, Ok, refl, sym, ap, subst, arith}
 use Rattle.std.specs.Prelude.{◌==◌, if◌then◌else◌}
 use Rattle.std.proofs.lemmas.Bool.Decides.{nat_tests}
 use Rattle.triplets.specs.declared.notation.Notation.{Notation}
@@ -9,7 +9,6 @@ use Rattle.triplets.specs.declared.marks.Axis.TheVariants.{X, Y, Z}
 use Rattle.motions.specs.declared.motion.Sign.{Sign}
 use Rattle.motions.specs.declared.motion.Sign.TheVariants.{Plus, Minus}
 use Rattle.triplets.specs.declared.part.Used.{Used}
-use Rattle.triplets.specs.declared.fault.TextKind.{TextKind}
 use Rattle.triplets.specs.declared.fault.TextKind.TheVariants as kinds
 use Rattle.triplets.specs.declared.marks.Mark.{Mark}
 use Rattle.triplets.specs.declared.marks.Mark.TheVariants as marks
@@ -24,12 +23,12 @@ use Rattle.triplets.specs.Marks.{mark}
 use Rattle.triplets.specs.Rows.{unused, with_used}
 use Rattle.triplets.specs.PartReading.{begin, settled, part_step, on_blank, on_sign, on_digit, on_slash, on_new_letter_at, with_letter, with_spot}
 use Rattle.triplets.specs.TripletReading.{start, in_part, next_part, comma_at, step, run, operation_byte}
-use Rattle.triplets.specs.Grammar.{Blank, space, tab, carriage_return, blank_byte, sign_byte, letter_byte, Digit, digit_value}
+use Rattle.triplets.specs.Grammar.{Blank, space, blank_byte, sign_byte, letter_byte, Digit, digit_value}
 use Rattle.triplets.specs.Faults.{is_digit, is_blank, is_letter, last_mark, last_other, digits_at_end, stands}
 use Rattle.triplets.proofs.Bytes.{IsMark, mark_is}
 use Rattle.triplets.proofs.Partials.{passed, met, below_is}
 use Rattle.triplets.proofs.Wholes.{part_step_is}
-use Rattle.triplets.proofs.Runs.{going, going_is, not_going, no_run, carries}
+use Rattle.triplets.proofs.Runs.{going, going_is, not_going, carries}
 
 -- what stands before, in words
 pub record Seen : Type 0 where

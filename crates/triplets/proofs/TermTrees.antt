@@ -12,7 +12,7 @@ use Rattle.fractions.specs.LowestTerms.{gcd, signed_gcd, lowest_terms}
 use Rattle.fractions.specs.RatioText.{denominator_text as below_text}
 use Rattle.fractions.proofs.Gcd.{IsGcd-gcd}
 use Rattle.triplets.specs.declared.notation.Notation.TheVariants.{Triplets}
-use Rattle.triplets.specs.declared.marks.Axis.TheVariants.{X, Y, Z}
+use Rattle.triplets.specs.declared.marks.Axis.TheVariants.{X}
 use Rattle.triplets.specs.Marks.{has_axis}
 use Rattle.triplets.specs.declared.marks.Axis.{Axis}
 use Rattle.motions.specs.declared.motion.Sign.{Sign}

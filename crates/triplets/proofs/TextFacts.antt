@@ -1,7 +1,6 @@
 -- Reading in pieces.
-use Rattle.std.proofs.Common.{◌≡◌, ◌≢◌, ℕ, ◌+◌, ◌<◌, List, [], ◌∷◌, ◌++◌, length, get_or, take, drop, Option, Some, None, Result, Ok, Err, refl, sym, ◌∙◌, ap, inl, inr, ◌⊎◌, add-one, append_assoc, length-append}
-use Rattle.std.proofs.Math.Seq.{take-suc, take-length}
-use Rattle.std.proofs.lemmas.List.{take-append-drop, append-nil}
+use Rattle.std.proofs.Common.{◌≡◌, ◌≢◌, ℕ, ◌+◌, ◌<◌, List, ◌++◌, length, get_or, take, Option, Some, None, Result, Ok, Err, refl, sym, ◌∙◌, ap, inl, inr, ◌⊎◌, length-append}
+use Rattle.std.proofs.lemmas.List.{append-nil}
 use Rattle.triplets.specs.declared.notation.Notation.{Notation}
 use Rattle.triplets.specs.declared.fault.TextFault.{TextFault}
 use Rattle.triplets.specs.declared.fault.TextFault.TheVariants as faults
@@ -9,7 +8,6 @@ use Rattle.triplets.specs.declared.text.LineReader.{LineReader}
 use Rattle.triplets.specs.Texts.{Fault}
 use Rattle.triplets.specs.TextReading.{Kept, kept_start, kept, byte_step, text_run, kept_or, Stands, Refuses}
 use Rattle.triplets.proofs.Runs.{run_stopped, run_next, run_all, run_whole, run_then}
-use Rattle.triplets.specs.Runs.{advanced}
 
 -- a byte of a piece
 pub text_fault : (nt : Notation) → (text piece : List ℕ) (i : ℕ) (k : Kept) (f : Fault) → i < length piece → text_run nt (Ok kept_start) (text ++ take i piece) ≡ Ok k → byte_step nt (get_or piece i 0) k ≡ Err f →

@@ -1,7 +1,7 @@
 -- What `write_triplet` writes of a motion that the grammar can say is a triplet with that value alone.
 use Rattle.std.proofs.Common.{◌≡◌, ℕ, List, [], ◌∷◌, ◌++◌, sym, ◌∙◌, append_assoc}
 use Rattle.symmetry.specs.Motions.{Motion}
-use Rattle.triplets.specs.declared.notation.Notation.TheVariants.{Triplets, Pairs}
+use Rattle.triplets.specs.declared.notation.Notation.TheVariants.{Triplets}
 use Rattle.triplets.specs.Bytes.{comma}
 use Rattle.triplets.specs.Rows.{motion_with}
 use Rattle.triplets.specs.Grammar.{IsTriplet, part_text}

@@ -25,7 +25,7 @@ use Rattle.triplets.proofs.Written.{written_run, settled_after}
 use Rattle.triplets.specs.Denominators.{denominator_text}
 use Rattle.triplets.proofs.Divisors.{one}
 use Rattle.triplets.proofs.Partials.{Partial, lead, digits, divided, below, behind, partial_text, partial_state, grows_by, whole_part}
-use Rattle.triplets.proofs.Runs.{going, stopped, going_is, run-append, run_stopped, no_run, goes_on, follows, Goes, run_then}
+use Rattle.triplets.proofs.Runs.{going, stopped, going_is, goes_on, follows, Goes, run_then}
 use Rattle.triplets.proofs.Places.{none_begins}
 
 -- ---- a part in its triplet
@@ -250,7 +250,7 @@ pub record Completes (nt : Notation) (q : Partial nt) : Type 0 where
   pub part : Written nt
   pub text : partial_text nt q ++ rest ≡ part_text nt part
 
-pub completes : (nt : Notation) → (q : Partial nt) → Completes nt q
+abbrev pub completes : (nt : Notation) → (q : Partial nt) → Completes nt q
 completes nt (lead l good) = record { rest = 48 ∷ []; part = record { lead = l; last = whole zero; after = []; good = good; new = tt }; text = refl }
 completes nt (digits l good d ds short) = record {
   rest = [];

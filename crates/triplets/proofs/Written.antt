@@ -20,7 +20,7 @@ use Rattle.triplets.specs.Rows.{uses}
 use Rattle.triplets.specs.Denominators.{unit, denominator_text, further_digit}
 use Rattle.triplets.specs.PartReading.{begin, part_step, settled, on_blank, on_sign, on_digit, on_digit_at, on_new_letter_at, below_or, with_letter, with_sign, with_spot}
 use Rattle.triplets.specs.Grammar.{Blank, space, tab, carriage_return, blanks_text, sign_byte, letter_byte, Digit, digit_value, digits_text, decimal, Numerator, numerator_text, numerator_value, Term, letter, multiple, whole, fraction, term_text, IsNew, Lead, bare, sign, more, lead_text, lead_row, lead_sign, lead_letters, IsLead, Written, part_text}
-use Rattle.triplets.proofs.Bytes.{mark_sign, mark_letter, mark_digit}
+use Rattle.triplets.proofs.Bytes.{mark_sign, mark_letter, mark_digit, blanks_keep}
 use Rattle.triplets.proofs.Divisors.{at_least_one, at_most_unit, further_is, beginning_divides}
 use Rattle.triplets.proofs.NumberTrees.{digit, digit-value}
 use Rattle.triplets.proofs.PartRuns.{run_part, lead_spot, state, lead_state, behind_state, term_state, after_state, part_byte}
@@ -30,22 +30,13 @@ use Rattle.triplets.specs.Runs.{advanced}
 -- blanks change nothing before a term, and behind one
 
 pub still_begin : (nt : Notation) → (r : Row) (u : Used) (s : Sign) (bs : List Blank) → let p : PartReader = record { row = r; used = u; sign = s; spot = Begin } in run_part nt (Ok p) (blanks_text bs) ≡ Ok p
-still_begin nt r u s [] = refl
-still_begin nt r u s (space ∷ bs) = still_begin nt r u s bs
-still_begin nt r u s (tab ∷ bs) = still_begin nt r u s bs
-still_begin nt r u s (carriage_return ∷ bs) = still_begin nt r u s bs
+still_begin nt r u s = blanks_keep nt part_step (record { row = r; used = u; sign = s; spot = Begin }) refl
 
 pub still_signed : (nt : Notation) → (r : Row) (u : Used) (s : Sign) (bs : List Blank) → let p : PartReader = record { row = r; used = u; sign = s; spot = Signed } in run_part nt (Ok p) (blanks_text bs) ≡ Ok p
-still_signed nt r u s [] = refl
-still_signed nt r u s (space ∷ bs) = still_signed nt r u s bs
-still_signed nt r u s (tab ∷ bs) = still_signed nt r u s bs
-still_signed nt r u s (carriage_return ∷ bs) = still_signed nt r u s bs
+still_signed nt r u s = blanks_keep nt part_step (record { row = r; used = u; sign = s; spot = Signed }) refl
 
 still_behind : (nt : Notation) → (r : Row) (u : Used) (s : Sign) (bs : List Blank) → let p : PartReader = record { row = r; used = u; sign = s; spot = Behind } in run_part nt (Ok p) (blanks_text bs) ≡ Ok p
-still_behind nt r u s [] = refl
-still_behind nt r u s (space ∷ bs) = still_behind nt r u s bs
-still_behind nt r u s (tab ∷ bs) = still_behind nt r u s bs
-still_behind nt r u s (carriage_return ∷ bs) = still_behind nt r u s bs
+still_behind nt r u s = blanks_keep nt part_step (record { row = r; used = u; sign = s; spot = Behind }) refl
 
 -- a term
 

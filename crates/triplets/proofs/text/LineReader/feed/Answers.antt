@@ -1,5 +1,5 @@
-use Rattle.std.proofs.Common.{get_or, refl, sym, subst, ap, ◌∙◌, ◌++◌, arith, inr, Ok, Err}
-use Rattle.triplets.specs.TextReading.{Refuses, Gives, kept, byte_step, kept_start}
+use Rattle.std.proofs.Common.{get_or, refl, sym, ap, ◌∙◌, ◌++◌, arith, inr, Ok, Err}
+use Rattle.triplets.specs.TextReading.{kept, byte_step, kept_start}
 use Rattle.triplets.proofs.TextFacts.{text_fault, gives_along, again, again_stands, stands_all, all_read, err_stands}
 use Rattle.triplets.proofs.Answered.{answer_so_far}
 use Rattle.triplets.proofs.FirstKept.{reader_keeps}

@@ -1,6 +1,6 @@
 use Rattle.std.proofs.Common.{ℕ, List, arith, Ok, ap, subst, sym, ◌∙◌}
 use Rattle.triplets.specs.declared.notation.Notation.{Notation}
-use Rattle.triplets.specs.TextReading.{outcome, finished, kept, said_of, Refuses, Gives, Stands}
+use Rattle.triplets.specs.TextReading.{outcome, finished, kept, Refuses, Stands}
 use Rattle.triplets.specs.TextAnswers.{IsAnswer}
 use Rattle.triplets.proofs.TextFacts.{stands_refuses, stands_kept}
 use Rattle.triplets.proofs.Answered.{refuses_shown, answer_shown, answer, answer_passed, answer_small}
