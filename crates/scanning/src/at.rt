@@ -39,14 +39,19 @@ impl Scan {
     /// [`Large`](AtFault::Large) comes exactly where the numerator or the denominator of s is above [`MOST_HEIGHT`] in size.
     pub fn ops_at(&self, alloc: Global, s: Ratio) -> Result<Vec<Motion3>, AtFault>
         ensures large { (result ≡ Err Large) ↔ (¬ IsFractionWithin 1000000000 (fraction_of s)) }
-        ensures gives { (g : Listing) → IsGroup g → IsFrame g (row_of self.now.frame.plane) (basis_of_frame self.now.frame) →
-            IsScan g (row_of self.now.frame.plane) (basis_of_frame self.now.frame) (scan_of self.now) →
-            IfOk result (λ ops. GivesAt g (row_of self.now.frame.plane) (basis_of_frame self.now.frame) (scan_of self.now)
-            (fraction_of s) (map motion_of ops.items)) }
-        ensures list { (g : Listing) → IsGroup g → IsFrame g (row_of self.now.frame.plane) (basis_of_frame self.now.frame) →
-            IsScan g (row_of self.now.frame.plane) (basis_of_frame self.now.frame) (scan_of self.now) →
-            IfOk result (λ ops. IsListOf (SameModulo g) g.ops (IsAtHome (basis_of_frame self.now.frame))
-            (InStabiliser g (row_of self.now.frame.plane) (fraction_of s)) (map motion_of ops.items)) }
+        ensures gives { (g : Listing) → IsGroup g
+            → IsFrame g (row_of self.now.frame.plane) (basis_of_frame self.now.frame)
+            → IsScan g (row_of self.now.frame.plane) (basis_of_frame self.now.frame) (scan_of self.now)
+            → IfOk result (λ ops.
+            GivesAt g (row_of self.now.frame.plane) (basis_of_frame self.now.frame)
+            (scan_of self.now) (fraction_of s) (map motion_of ops.items)) }
+        ensures list { (g : Listing) → IsGroup g
+            → IsFrame g (row_of self.now.frame.plane) (basis_of_frame self.now.frame)
+            → IsScan g (row_of self.now.frame.plane) (basis_of_frame self.now.frame) (scan_of self.now)
+            → IfOk result (λ ops.
+            IsListOf (SameModulo g) g.ops (IsAtHome (basis_of_frame self.now.frame))
+            (InStabiliser g (row_of self.now.frame.plane) (fraction_of s))
+            (map motion_of ops.items)) }
     {
         if !is_in_range(s) {
             return Err(AtFault::Large);
@@ -75,7 +80,9 @@ fn moved(alloc: Global, ops: &[Motion3], frame: &Frame, k: i64) -> Result<Vec<Mo
     requires ops { All (λ m. IsSmallWithin (unsigned_abs MAX_ENTRY) (motion_of m)) ops.now }
     requires periods { IsWithin largest_periods k }
     ensures { IfOk result (λ moved.
-        AllZip (λ m n. IsMoved (row_of frame.now.plane) (basis_of_frame frame.now) k (motion_of m) (motion_of n)) ops.now moved.items) }
+        AllZip (λ m n.
+        IsMoved (row_of frame.now.plane) (basis_of_frame frame.now) k (motion_of m) (motion_of n))
+        ops.now moved.items) }
 {
     let mut moved = Vec::new(alloc);
     for m in ops {
@@ -88,7 +95,8 @@ fn moved(alloc: Global, ops: &[Motion3], frame: &Frame, k: i64) -> Result<Vec<Mo
 fn moved_by(m: &Motion3, frame: &Frame, k: i64) -> Motion3
     requires motion { IsSmallWithin (unsigned_abs MAX_ENTRY) (motion_of m.now) }
     requires periods { IsWithin largest_periods k }
-    ensures { IsMoved (row_of frame.now.plane) (basis_of_frame frame.now) k (motion_of m.now) (motion_of result) }
+    ensures { IsMoved (row_of frame.now.plane) (basis_of_frame frame.now) k (motion_of m.now)
+        (motion_of result) }
 {
     match side(m, &frame.plane) {
         Some(Sign::Minus) => raised(m, 2 * k, &frame.tau),

@@ -19,7 +19,8 @@ impl Scan {
     /// denominator are at most 10^18 in size.
     pub fn class_at(&self, s: Ratio) -> Place
         requires { IsFractionWithin (10 ^ 18) (fraction_of s) }
-        ensures { IsPlaceOf self.now.frame.period.0 (specials_of self.now.special.items) (fraction_of s) result }
+        ensures { IsPlaceOf self.now.frame.period.0 (specials_of self.now.special.items)
+            (fraction_of s) result }
     {
         let Some(level) = level_of(s) else {
             return Place::General;
@@ -35,7 +36,8 @@ impl Scan {
 /// Twice the height, in parts. None comes exactly where that is no whole number.
 fn level_of(s: Ratio) -> Option<i128>
     requires { IsFractionWithin (10 ^ 18) (fraction_of s) }
-    ensures is { MatchOption result ((t : ℤ) → ¬ IsLevel (fraction_of s) t) (IsLevel (fraction_of s)) }
+    ensures is { MatchOption result ((t : ℤ) → ¬ IsLevel (fraction_of s) t)
+        (IsLevel (fraction_of s)) }
     ensures small { IfSome result (IsWithin (2 ^ 70)) }
 {
     whole_quotient(2 * i128::from(UNIT) * s.num(), s.den())
@@ -56,7 +58,8 @@ fn periods_in(level: i128, period: Part) -> (i128, i128)
 /// The index of the special height with this level. None comes exactly where there is none.
 fn index_of(special: &[Height], level: i128) -> Option<usize>
     ensures { MatchOption result
-        ((i : ℕ) (d : SpecialHeight) → i < length special.now → ¬ ((slice_index_or special.now i d).level ≡ level))
+        ((i : ℕ) (d : SpecialHeight) → i < length special.now
+        → ¬ ((slice_index_or special.now i d).level ≡ level))
         (λ i. (i < length special.now)
         × ((d : SpecialHeight) → (slice_index_or special.now i d).level ≡ level)) }
 {

@@ -21,8 +21,11 @@ pub(crate) fn special_heights(
     homes: &[Motion3],
     frame: &Frame,
 ) -> Result<Vec<Height>, NoMemory>
-    requires { All (λ m. IsHomeMotion (row_of frame.now.plane) (basis_of_frame frame.now) (motion_of m)) homes.now }
-    ensures { IfOk result (λ heights. AreHeights frame.now (map motion_of homes.now) heights.items) }
+    requires { All
+        (λ m. IsHomeMotion (row_of frame.now.plane) (basis_of_frame frame.now) (motion_of m))
+        homes.now }
+    ensures { IfOk result
+        (λ heights. AreHeights frame.now (map motion_of homes.now) heights.items) }
 {
     let levels = special_levels(alloc, homes, frame)?;
     let mut heights = Vec::new(alloc);
@@ -39,7 +42,9 @@ fn height_at(
     frame: &Frame,
     level: i64,
 ) -> Result<Height, NoMemory>
-    requires homes { All (λ m. IsHomeMotion (row_of frame.now.plane) (basis_of_frame frame.now) (motion_of m)) homes.now }
+    requires homes { All
+        (λ m. IsHomeMotion (row_of frame.now.plane) (basis_of_frame frame.now) (motion_of m))
+        homes.now }
     requires level { IsInTwoPeriods frame.now.period.0 level }
     ensures { IfOk result (IsHeightAt frame.now (map motion_of homes.now) level) }
 {

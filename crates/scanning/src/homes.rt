@@ -20,12 +20,15 @@ pub type NoMemory = AllocError;
 
 /// For each operation of the group a motion that is the same modulo the lattice and is at home.
 pub(crate) fn homes(alloc: Global, group: &Group, frame: &Frame) -> Result<Vec<Motion3>, NoMemory>
-    requires { IsFrame (group_listing group.now) (row_of frame.now.plane) (basis_of_frame frame.now) }
+    requires { IsFrame (group_listing group.now) (row_of frame.now.plane)
+        (basis_of_frame frame.now) }
     ensures group { IsGroup (group_listing group.now) }
     ensures same { IfOk result (λ homes.
-        AreSameMotions (group_listing group.now) (group_listing group.now).ops (map motion_of homes.items)) }
+        AreSameMotions (group_listing group.now) (group_listing group.now).ops
+        (map motion_of homes.items)) }
     ensures home { IfOk result (λ homes.
-        All (λ m. IsHomeMotion (row_of frame.now.plane) (basis_of_frame frame.now) (motion_of m)) homes.items) }
+        All (λ m. IsHomeMotion (row_of frame.now.plane) (basis_of_frame frame.now) (motion_of m))
+        homes.items) }
 {
     let mut homes = Vec::new(alloc);
     for m in group.ops() {
@@ -36,10 +39,12 @@ pub(crate) fn homes(alloc: Global, group: &Group, frame: &Frame) -> Result<Vec<M
 
 /// A motion that is the same as this operation modulo the lattice and is at home.
 fn home(group: &Group, frame: &Frame, m: &Motion3) -> Motion3
-    requires frame { IsFrame (group_listing group.now) (row_of frame.now.plane) (basis_of_frame frame.now) }
+    requires frame { IsFrame (group_listing group.now) (row_of frame.now.plane)
+        (basis_of_frame frame.now) }
     requires small { IsSmallWithin (unsigned_abs MAX_ENTRY) (motion_of m.now) }
     ensures same { SameModulo (group_listing group.now) (motion_of result) (motion_of m.now) }
-    ensures home { IsHomeMotion (row_of frame.now.plane) (basis_of_frame frame.now) (motion_of result) }
+    ensures home { IsHomeMotion (row_of frame.now.plane) (basis_of_frame frame.now)
+        (motion_of result) }
 {
     frame.home(&group.lattice().home(m))
 }

@@ -24,7 +24,8 @@ impl Scan {
     /// periods. The operations at each are the members of its stabiliser that are at home, each once, in the order of
     /// the group's operations.
     pub fn make(alloc: Global, group: &Group, frame: &Frame) -> Result<Scan, NoMemory>
-        requires { IsFrame (group_listing group.now) (row_of frame.now.plane) (basis_of_frame frame.now) }
+        requires { IsFrame (group_listing group.now) (row_of frame.now.plane)
+            (basis_of_frame frame.now) }
         ensures { (g : Listing) → IsGroupOf g group.now → IfOk result (IsScanOf g frame.now) }
     {
         let homes = homes(alloc, group, frame)?;

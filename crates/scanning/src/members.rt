@@ -25,12 +25,15 @@ pub(crate) fn members(
     frame: &Frame,
     turned: Option<i64>,
 ) -> Result<Vec<Motion3>, NoMemory>
-    requires homes { All (λ m. IsHomeMotion (row_of frame.now.plane) (basis_of_frame frame.now) (motion_of m)) homes.now }
+    requires homes { All
+        (λ m. IsHomeMotion (row_of frame.now.plane) (basis_of_frame frame.now) (motion_of m))
+        homes.now }
     requires turned { IfSome turned (IsWithin largest_level) }
-    ensures { (g : Listing) → IsFrame g (row_of frame.now.plane) (basis_of_frame frame.now) →
-        All (IsMember g) (map motion_of homes.now) →
-        IfOk result (λ members. AreChosen (SameModulo g) (IsAtHome (basis_of_frame frame.now))
-        (InRows g (row_of frame.now.plane) turned) (map motion_of homes.now) (map motion_of members.items)) }
+    ensures { (g : Listing) → IsFrame g (row_of frame.now.plane) (basis_of_frame frame.now)
+        → All (IsMember g) (map motion_of homes.now)
+        → IfOk result (λ members. AreChosen (SameModulo g) (IsAtHome (basis_of_frame frame.now))
+        (InRows g (row_of frame.now.plane) turned) (map motion_of homes.now)
+        (map motion_of members.items)) }
 {
     let mut members = Vec::new(alloc);
     for m in homes {
@@ -43,10 +46,13 @@ pub(crate) fn members(
 
 /// That motion for one motion. None comes exactly where there is none.
 fn member(m: &Motion3, frame: &Frame, turned: Option<i64>) -> Option<Motion3>
-    requires home { IsHomeMotion (row_of frame.now.plane) (basis_of_frame frame.now) (motion_of m.now) }
+    requires home { IsHomeMotion (row_of frame.now.plane) (basis_of_frame frame.now)
+        (motion_of m.now) }
     requires turned { IfSome turned (IsWithin largest_level) }
-    ensures { (g : Listing) → IsFrame g (row_of frame.now.plane) (basis_of_frame frame.now) → IsMember g (motion_of m.now) →
-        IsChoice (SameModulo g) (IsAtHome (basis_of_frame frame.now)) (InRows g (row_of frame.now.plane) turned)
+    ensures { (g : Listing) → IsFrame g (row_of frame.now.plane) (basis_of_frame frame.now)
+        → IsMember g (motion_of m.now)
+        → IsChoice (SameModulo g) (IsAtHome (basis_of_frame frame.now))
+        (InRows g (row_of frame.now.plane) turned)
         (motion_of m.now) (option_map motion_of result) }
 {
     let shift = asked_shift(side(m, &frame.plane)?, turned)?;

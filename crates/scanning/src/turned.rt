@@ -18,9 +18,12 @@ pub(crate) fn special_levels(
     homes: &[Motion3],
     frame: &Frame,
 ) -> Result<Vec<i64>, NoMemory>
-    requires { All (λ m. IsHomeMotion (row_of frame.now.plane) (basis_of_frame frame.now) (motion_of m)) homes.now }
+    requires { All
+        (λ m. IsHomeMotion (row_of frame.now.plane) (basis_of_frame frame.now) (motion_of m))
+        homes.now }
     ensures { IfOk result (λ levels.
-        AreLevels (row_of frame.now.plane) frame.now.period.0 (map motion_of homes.now) levels.items) }
+        AreLevels (row_of frame.now.plane) frame.now.period.0
+        (map motion_of homes.now) levels.items) }
 {
     let mut levels = turned_levels(alloc, homes, frame)?;
     levels.sort_unstable();
@@ -30,9 +33,12 @@ pub(crate) fn special_levels(
 
 /// The same in any order, each at least once.
 fn turned_levels(alloc: Global, homes: &[Motion3], frame: &Frame) -> Result<Vec<i64>, NoMemory>
-    requires { All (λ m. IsHomeMotion (row_of frame.now.plane) (basis_of_frame frame.now) (motion_of m)) homes.now }
+    requires { All
+        (λ m. IsHomeMotion (row_of frame.now.plane) (basis_of_frame frame.now) (motion_of m))
+        homes.now }
     ensures { IfOk result (λ levels.
-        AreTurned (row_of frame.now.plane) frame.now.period.0 (map motion_of homes.now) levels.items) }
+        AreTurned (row_of frame.now.plane) frame.now.period.0
+        (map motion_of homes.now) levels.items) }
 {
     let mut levels = Vec::new(alloc);
     for m in homes {
@@ -47,9 +53,11 @@ fn turned_levels(alloc: Global, homes: &[Motion3], frame: &Frame) -> Result<Vec<
 /// The (hkl).w of the motion, modulo the period. None comes exactly where it does not turn the row.
 fn turned_level(m: &Motion3, frame: &Frame) -> Option<i64>
     requires { IsHomeMotion (row_of frame.now.plane) (basis_of_frame frame.now) (motion_of m.now) }
-    ensures { let turns = row_times (row_of frame.now.plane) (motion_of m.now).matrix ≡ opposite (row_of frame.now.plane) in
+    ensures { let turns = row_times (row_of frame.now.plane) (motion_of m.now).matrix
+        ≡ opposite (row_of frame.now.plane) in
         MatchOption result (¬ turns) (λ t. turns × (pos 0 ≤ℤ t) × (t <ℤ frame.now.period.0)
-        × ((k : ℤ) × (t ≡ dot (row_of frame.now.plane) (motion_of m.now).shift +ℤ k *ℤ frame.now.period.0))) }
+        × ((k : ℤ)
+        × (t ≡ dot (row_of frame.now.plane) (motion_of m.now).shift +ℤ k *ℤ frame.now.period.0))) }
 {
     match side(m, &frame.plane)? {
         Sign::Plus => None,
