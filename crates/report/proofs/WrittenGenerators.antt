@@ -24,7 +24,8 @@ use Rattle.triplets.specs.declared.notation.Notation.TheVariants.{Pairs, Triplet
 use Rattle.triplets.specs.declared.triplet.TripletReader.{TripletReader}
 use Rattle.triplets.specs.Grammar.{IsOperation}
 use Rattle.triplets.specs.TripletReading.{run, start, value}
-use Rattle.triplets.proofs.Wholes.{going, is_triplet}
+use Rattle.triplets.proofs.Runs.{going}
+use Rattle.triplets.proofs.Wholes.{is_triplet}
 use Rattle.report.specs.WrittenGenerators.{IsFriezeGenerator, IsLayerGenerator, IsRodGenerator}
 
 -- ---- a text is read, and its value passes a test
