@@ -1,5 +1,5 @@
 -- What a search of a list decides: whether all of its elements are so, or one of them.
-use Rattle.std.proofs.Common.{◌≡◌, refl, sym, subst, arith, ℕ, ◌<◌, List, length, IsTrue}
+use Rattle.std.proofs.Common.{refl, sym, subst, arith, ℕ, ◌<◌, List, length, IsTrue}
 use Rattle.std.specs.Prelude.{◌↔◌, All, Any, Bool, true, false}
 use Rattle.std.specs.Bool.{MatchBool}
 use Rattle.std.specs.List.{AllWithin, HoldsAt}

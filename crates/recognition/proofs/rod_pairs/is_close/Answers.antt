@@ -1,4 +1,4 @@
-use Rattle.std.proofs.Common.{◌≡◌, ◌∙◌, IsTrue, subst, rules, w64, FitsSigned, ℤ, pos, ◌-ℤ◌, ◌*ℤ◌}
+use Rattle.std.proofs.Common.{◌≡◌, ◌∙◌, IsTrue, subst, rules, w64, FitsSigned, ℤ, ◌-ℤ◌, ◌*ℤ◌}
 use Rattle.std.specs.Prelude.{◌↔◌}
 use Rattle.std.proofs.lemmas.Int.{to_z-of_z}
 use Rattle.fractions.specs.declared.part.TheConstants.{UNIT}
