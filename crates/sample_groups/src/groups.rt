@@ -3,7 +3,7 @@ ghost use Rattle.std.specs.Prelude.{◌^◌, All, unsigned_abs};
 ghost use Rattle.symmetry.specs.Sizes.{IsVectorWithin};
 ghost use Rattle.motions.specs.ListedSizes.{IsSmallWithin};
 ghost use Rattle.motions.specs.Views.{motion_of, parts};
-ghost use Rattle.closure.specs.declared.limits.TheConstants.{MAX_ENTRY};
+ghost use Rattle.closure.specs.declared.group.TheConstants.{MAX_ENTRY};
 
 use crate::operations::{
     FOURFOLD, FOURFOLD_SCREW, GLIDE_ALONG_C, IDENTITY, INVERSION, MIRROR_ACROSS_B, MIRROR_ACROSS_C,
