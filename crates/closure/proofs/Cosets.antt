@@ -9,21 +9,16 @@ use Rattle.std.proofs.lemmas.List.Elements.{All-append, All-map, All-contains, A
 use Rattle.integers.proofs.Solver.{Expr.{var, num, ◌⊕◌, ◌⊗◌}, linear, given}
 use Rattle.symmetry.specs.Vectors.{Vector, origin, plus, minus, multiple, opposite}
 use Rattle.symmetry.specs.Groups.{Listing, IsInLattice, zero_vector, added, subtracted}
-use Rattle.symmetry.proofs.VectorLaws.{vector_path, minus-plus, plus-origin}
-use Rattle.symmetry.proofs.LatticeLaws.{lattice-plus, lattice-minus, lattice-opposite, lattice-made}
+use Rattle.symmetry.proofs.VectorLaws.{vector_path, minus-plus, plus-origin, multiple-suc, multiple-zero, plus-minus_last, multiple-one}
+use Rattle.symmetry.proofs.LatticeLaws.{lattice-plus, lattice-minus, lattice-opposite, lattice-made, lattice-multiple}
 use Rattle.closure.specs.Residues.{residue}
 use Rattle.closure.specs.Spans.{AreResiduesOf, coset, with_centring}
 use Rattle.closure.specs.Fineness.{IsTooFine}
 use Rattle.closure.specs.Laws.ListLaws.{AllPairs-append, AllPairs-map, Contains-map, Contains-from_map}
 use Rattle.closure.specs.Laws.ResidueLaws.{residue-same, residue-residue, residue-plus, residue-minus}
-use Rattle.closure.proofs.Spans.{multiple-zero, multiple-suc, lattice-multiple, lattice-by_residue, generates_with, lattice-with, lattice-centring}
+use Rattle.closure.proofs.Spans.{lattice-by_residue, generates_with, lattice-with, lattice-centring}
 
 -- ---- sums of three vectors and multiples
-
--- u + v - w + w
-back_again : (v w : Vector) → minus (plus v w) w ≡ v
-unfolding plus multiple
-back_again v w = vector_path (omega (arith, ints)) (omega (arith, ints)) (omega (arith, ints))
 
 -- (u - w) + (w + v - x) is u + v - x
 past : (u v w x : Vector) → plus (minus u w) (minus (plus w v) x) ≡ minus (plus u v) x
@@ -65,10 +60,6 @@ pub record AreCosets (g : Listing) (v : Vector) (size : ℕ) (rs : List Vector) 
 
 -- ---- the first coset is the lattice
 
-one_multiple : (v : Vector) → multiple (pos 1) v ≡ v
-unfolding multiple
-one_multiple v = vector_path (omega (arith, ints)) (omega (arith, ints)) (omega (arith, ints))
-
 less_nothing : (g : Listing) (v u : Vector) → IsInLattice g u ↔ IsInLattice g (minus u (multiple (pos 0) v))
 unfolding multiple
 less_nothing g v u = (
@@ -84,7 +75,7 @@ pub cosets_none : (g : Listing) (v : Vector) (rs : List Vector) (step : Vector) 
 cosets_none g v rs step h e = record {
   count = 1;
   positive = omega arith;
-  is_step = e ∙ ap residue (sym (one_multiple v));
+  is_step = e ∙ ap residue (sym (multiple-one v));
   within = omega arith;
   group = subst (AreResiduesOf g) (sym (take-length rs)) h;
   reduced = h.reduced;
@@ -107,7 +98,7 @@ without_first u v w = vector_path (omega (arith, ints)) (omega (arith, ints)) (o
 
 -- what is added to two residues may be taken off
 same_rest : (u v w : Vector) → residue (plus u w) ≡ residue (plus v w) → residue u ≡ residue v
-same_rest u v w e = ap residue (sym (back_again u w)) ∙ residue-plus (plus u w) (plus v w) (opposite w) e ∙ ap residue (back_again v w)
+same_rest u v w e = ap residue (sym (plus-minus_last u w)) ∙ residue-plus (plus u w) (plus v w) (opposite w) e ∙ ap residue (plus-minus_last v w)
 
 module _ (g : Listing) (v : Vector) (size : ℕ) (rs : List Vector) (step : Vector) (h : AreCosets g v size rs step) where
   abbrev group : List Vector
@@ -123,7 +114,7 @@ module _ (g : Listing) (v : Vector) (size : ℕ) (rs : List Vector) (step : Vect
       lattice-by_residue g (minus u step) r.0 (residue_minus u r.0 step (sym r.2)) (in_group r.0 r.1)
     where
       residue_minus : (u r s : Vector) → residue u ≡ residue (plus r s) → residue (minus u s) ≡ residue r
-      residue_minus u r s e = residue-plus u (plus r s) (opposite s) e ∙ ap residue (back_again r s)
+      residue_minus u r s e = residue-plus u (plus r s) (opposite s) e ∙ ap residue (plus-minus_last r s)
 
   to_coset : (u : Vector) → IsInLattice g (minus u step) → Contains (coset step group) (residue u)
   to_coset u is =

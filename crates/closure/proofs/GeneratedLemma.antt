@@ -8,10 +8,10 @@ use Rattle.quotient.specs.Kind.{Kind, IsInverse}
 use Rattle.quotient.specs.Closure.{IsFactor}
 use Rattle.quotient.specs.Closure.IsFactor.{generator, inverse, shift}
 use Rattle.quotient.specs.Closure.IsProduct.{empty, further}
-use Rattle.symmetry.specs.Vectors.{Vector, Matrix, origin, plus, minus, image, product, unit_matrix}
+use Rattle.symmetry.specs.Vectors.{Vector, Matrix, plus, minus, image, product, unit_matrix}
 use Rattle.symmetry.specs.Motions.{Motion, followed_by, identity, translation}
 use Rattle.symmetry.specs.Groups.{Listing, IsInLattice, SameModulo}
-use Rattle.symmetry.proofs.VectorLaws.{opposite-origin, plus-origin, plus_comm, minus-plus, plus-minus_first}
+use Rattle.symmetry.proofs.VectorLaws.{plus_comm, minus-plus, plus-minus_first, minus-origin}
 use Rattle.symmetry.proofs.MatrixLaws.{product_assoc, product-unit_left, product-unit_right}
 use Rattle.symmetry.proofs.MotionLaws.{motion_path, followed_by-assoc, followed_by-identity}
 use Rattle.symmetry.proofs.LatticeLaws.{same_refl, same_sym, same_trans, same-followed_by}
@@ -22,9 +22,6 @@ use Rattle.closure.specs.Laws.ShiftLaws.{followed_by-translation}
 use Rattle.closure.specs.Generated.{generating_kind, IsGenerated, InGeneratedLattice}
 use Rattle.closure.specs.ClosedLists.{HasMatrixOf, IsMatrixClosed, IsLatticeClosed, IsCovered}
 use Rattle.closure.proofs.Pigeonhole.{has_each}
-
-minus-origin : (v : Vector) → minus v origin ≡ v
-minus-origin v = ap (plus v) opposite-origin ∙ plus-origin v
 
 pub matrix_decided : (w v : Matrix) → (w ≡ v) ⊎ ¬ (w ≡ v)
 matrix_decided w v = go (same_matrix w v) refl

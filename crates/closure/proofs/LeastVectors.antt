@@ -12,7 +12,7 @@ use Rattle.fractions.specs.Parts.{reduced_parts}
 use Rattle.symmetry.specs.Vectors.{Vector, origin}
 use Rattle.symmetry.specs.Sizes.{IsVectorWithin}
 use Rattle.closure.specs.Residues.{residue, is_before}
-use Rattle.closure.specs.Laws.Remainders.{zero-le-rem, rem-below}
+use Rattle.integers.proofs.Remainders.{zero-le-rem, rem-below}
 
 pub origin_reduced : residue origin ≡ origin
 unfolding residue

@@ -6,16 +6,16 @@ use Rattle.std.proofs.lemmas.List.Elements.{All-weaker, All-cons, All-nil, Conta
 use Rattle.std.proofs.lemmas.Int.{ints}
 use Rattle.fractions.specs.declared.part.Part.{Part}
 use Rattle.fractions.specs.declared.part.TheConstants.{UNIT}
-use Rattle.symmetry.proofs.VectorLaws.{plus-origin}
 use Rattle.motions.specs.Views.{parts}
-use Rattle.symmetry.specs.Vectors.{Vector, origin, minus, multiple}
+use Rattle.symmetry.specs.Vectors.{Vector, origin}
 use Rattle.symmetry.specs.Groups.{Listing, Generates, IsInLattice, zero_vector, added, subtracted, edges}
 use Rattle.symmetry.proofs.LatticeLaws.{lattice-made}
 use Rattle.closure.specs.Residues.{IsWhole, residue, IsResidue, IsResidueEntry}
 use Rattle.closure.specs.declared.lattice_fault.LatticeFault.{LatticeFault}
 use Rattle.closure.specs.declared.lattice_fault.LatticeFault.TheVariants.{TooFine, NoMemory}
 use Rattle.closure.specs.Faults.{IsLatticeFault}
-use Rattle.closure.specs.Laws.Remainders.{Divides-zero, Divides-self}
+use Rattle.integers.proofs.Remainders.{Divides-zero, Divides-self}
+use Rattle.symmetry.proofs.VectorLaws.{minus-origin}
 use Rattle.closure.specs.Fineness.{centrings_alone, IsTooFine}
 use Rattle.closure.specs.Spans.{AreResiduesOf, with_centring}
 use Rattle.closure.specs.Laws.ListLaws.{nothing_contained}
@@ -27,10 +27,6 @@ use Rattle.closure.proofs.Spans.{lattice-whole, lattice-more}
 residue-origin : residue origin ≡ origin
 unfolding residue
 residue-origin = refl
-
-from_origin : (v : Vector) → minus v origin ≡ v
-unfolding multiple
-from_origin v = plus-origin v
 
 pub edge-whole : (v : Vector) → Contains edges v → IsWhole v
 edge-whole v (zero, within, is) = subst IsWhole is (record { x = Divides-self (unsigned_abs UNIT); y = Divides-zero (unsigned_abs UNIT); z = Divides-zero (unsigned_abs UNIT) })
@@ -53,8 +49,8 @@ residues-none = record {
   reduced = λ k d l. one k d (omega arith);
   apart = λ i j d less within. absurd (omega arith);
   same = λ v. (
-    λ (k, within, is). lattice-whole (centrings_alone []) v (subst IsWhole (from_origin v) (whole_from_residues v origin (at_origin v k within is))),
-    λ h. (0, omega arith, sym (residue-same v origin (subst IsWhole (sym (from_origin v)) (edges-whole v h)) ∙ residue-origin)),
+    λ (k, within, is). lattice-whole (centrings_alone []) v (subst IsWhole (minus-origin v) (whole_from_residues v origin (at_origin v k within is))),
+    λ h. (0, omega arith, sym (residue-same v origin (subst IsWhole (sym (minus-origin v)) (edges-whole v h)) ∙ residue-origin)),
   );
 }
   where

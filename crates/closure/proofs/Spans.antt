@@ -1,55 +1,15 @@
 -- Lattices of listed vectors: whole edges, multiples, and one more vector.
-use Rattle.std.proofs.Common.{◌≡◌, ℕ, zero, suc, ◌⊎◌, inl, inr, arith, refl, sym, ap, subst, lit<, [], ◌∷◌, ℤ, pos, negsuc, ◌+ℤ◌, ◌*ℤ◌}
-use Rattle.std.proofs.lemmas.Int.{ints}
+use Rattle.std.proofs.Common.{◌≡◌, ◌⊎◌, inl, inr, refl, subst, lit<, [], ◌∷◌, ℤ, pos, negsuc, ◌+ℤ◌, ◌*ℤ◌}
 use Rattle.std.proofs.lemmas.List.Elements.{Contains-append_left, Contains-push, Contains-push_cases}
 use Rattle.integers.proofs.Solver.{Expr.{var, num, ◌⊕◌, ◌⊗◌}, linear, given}
 use Rattle.fractions.specs.declared.part.TheConstants.{UNIT}
-use Rattle.symmetry.specs.Vectors.{Vector, origin, plus, minus, multiple, opposite}
+use Rattle.symmetry.specs.Vectors.{Vector, plus, minus, multiple, opposite}
 use Rattle.symmetry.specs.Groups.{Listing, Generates, IsInLattice, zero_vector, added, subtracted}
 use Rattle.symmetry.proofs.VectorLaws.{vector_path, minus-plus}
-use Rattle.symmetry.proofs.LatticeLaws.{lattice-plus, lattice-opposite, lattice-made}
+use Rattle.symmetry.proofs.LatticeLaws.{lattice-plus, lattice-opposite, lattice-made, lattice-multiple}
 use Rattle.closure.specs.Residues.{IsWhole, residue}
 use Rattle.closure.specs.Spans.{with_centring}
 use Rattle.closure.specs.Laws.ResidueLaws.{whole_from_residues}
-
--- ---- multiples
-
-next_times : (i : ℕ) → pos (suc i) ≡ pos i +ℤ pos 1
-next_times i = ap pos (omega arith)
-
-multiple_zero : (x : ℤ) → pos 0 *ℤ x ≡ pos 0
-multiple_zero x = omega (arith, ints)
-
-multiple_next : (x i j : ℤ) → j ≡ i +ℤ pos 1 → j *ℤ x ≡ i *ℤ x +ℤ x
-multiple_next x i j e = linear (x ∷ i ∷ j ∷ []) (var 2 ⊗ var 0) (var 1 ⊗ var 0 ⊕ var 0) (given (var 0) (var 2) (var 1 ⊕ num (pos 1)) ∷ []) tt (e, tt)
-
-pub multiple-zero : (v : Vector) → multiple (pos 0) v ≡ origin
-unfolding multiple
-multiple-zero v = vector_path (multiple_zero v.x) (multiple_zero v.y) (multiple_zero v.z)
-
-pub multiple-suc : (i : ℕ) (v : Vector) → multiple (pos (suc i)) v ≡ plus (multiple (pos i) v) v
-unfolding multiple plus
-multiple-suc i v =
-    let e = next_times i in
-    vector_path (multiple_next v.x (pos i) (pos (suc i)) e) (multiple_next v.y (pos i) (pos (suc i)) e) (multiple_next v.z (pos i) (pos (suc i)) e)
-
-pub multiple-negsuc : (i : ℕ) (v : Vector) → multiple (negsuc i) v ≡ opposite (multiple (pos (suc i)) v)
-unfolding multiple
-multiple-negsuc i v = vector_path (turned v.x) (turned v.y) (turned v.z)
-  where
-    turned : (x : ℤ) → negsuc i *ℤ x ≡ negsuc 0 *ℤ (pos (suc i) *ℤ x)
-    turned x = linear (x ∷ negsuc i ∷ pos (suc i) ∷ []) (var 1 ⊗ var 0) (num (negsuc 0) ⊗ (var 2 ⊗ var 0))
-        (given (var 0) (var 1) (num (negsuc 0) ⊗ var 2) ∷ []) tt (omega (arith, ints), tt)
-
-lattice-times : (g : Listing) (v : Vector) → IsInLattice g v → (i : ℕ) → IsInLattice g (multiple (pos i) v)
-lattice-times g v h zero = subst (IsInLattice g) (sym (multiple-zero v)) zero_vector
-lattice-times g v h (suc i) = subst (IsInLattice g) (sym (multiple-suc i v)) (lattice-plus g (multiple (pos i) v) v (lattice-times g v h i) h)
-
--- whole multiples of a member are members
-pub lattice-multiple : (g : Listing) (c : ℤ) (v : Vector) → IsInLattice g v → IsInLattice g (multiple c v)
-lattice-multiple g (pos i) v h = lattice-times g v h i
-lattice-multiple g (negsuc i) v h =
-    subst (IsInLattice g) (sym (multiple-negsuc i v)) (lattice-opposite g (multiple (pos (suc i)) v) (lattice-times g v h (suc i)))
 
 -- ---- whole edges
 

@@ -1,5 +1,4 @@
 pub mod ListLaws
-pub mod Remainders
 pub mod ResidueLaws
 pub mod VectorOrder
 pub mod FirstLaws

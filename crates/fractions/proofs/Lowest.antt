@@ -6,7 +6,7 @@ use Rattle.std.proofs.lemmas.Int.{ints, quot-rem}
 use Rattle.std.proofs.lemmas.Nat.Gcd.{dvd_antisymm, mod-eq-zero_of_dvd}
 use Rattle.std.proofs.Math.Nat.{div-le_self, dvd-mul_left, dvd-mul_right, mul-dvd-mul_right, dvd_of_mul-dvd-mul_right, eq-one_of_dvd-one, eq-zero_of_zero-dvd}
 use Rattle.integers.specs.Size.{Divides}
-use Rattle.integers.proofs.Ring.{abs-mul, add_zero, zero_mul, mul_neg, mul-eq-zero, mul_right_cancel}
+use Rattle.integers.proofs.Ring.{abs-mul, add_zero, zero_mul, mul_neg, mul-eq-zero, mul_right_cancel, abs-neg}
 use Rattle.integers.proofs.Solver.{Expr.{var, num as literal, neg, ◌⊕◌, ◌⊗◌}, linear, given}
 use Rattle.integers.proofs.Divisors.{combine}
 use Rattle.fractions.specs.Fraction.{Fraction, IsFraction, SameFraction, IsInLowestTerms}
@@ -16,10 +16,6 @@ use Rattle.fractions.proofs.Gcd.{IsGcd-gcd}
 -- ---- the divisor
 
 -- its size is the greatest common divisor, also where it has a sign
-pub abs-neg : (n : ℕ) → nat_abs (neg_ℤ (pos n)) ≡ n
-abs-neg zero = refl
-abs-neg (suc n) = refl
-
 pub abs-signed_gcd : (num den : ℤ) → nat_abs (signed_gcd num den) ≡ gcd (nat_abs num) (nat_abs den)
 unfolding signed_gcd
 abs-signed_gcd num (pos den) = refl

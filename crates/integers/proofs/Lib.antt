@@ -6,3 +6,4 @@ pub mod Coded
 pub mod Divisors
 pub mod Sums
 pub mod Division
+pub mod Remainders

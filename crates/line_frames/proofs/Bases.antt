@@ -10,10 +10,11 @@ use Rattle.symmetry.specs.Vectors.{Vector, plus, multiple, dot, cross}
 use Rattle.symmetry.specs.Groups.{Listing, IsInLattice}
 use Rattle.symmetry.specs.Planes.{IsCoprime}
 use Rattle.symmetry.specs.Frames.{Basis, combination, IsFrame}
-use Rattle.symmetry.proofs.LatticeLaws.{lattice-made, lattice-minus}
+use Rattle.symmetry.specs.HeightMotions.{IsSign}
+use Rattle.symmetry.proofs.LatticeLaws.{lattice-made, lattice-minus, lattice-multiple}
 use Rattle.symmetry.proofs.VectorLaws.{vector_path}
-use Rattle.symmetry.proofs.Signs.{IsSign, sign-square}
-use Rattle.plane_lattice.proofs.FrameTestFacts.{lattice-multiple, tests_make_frame}
+use Rattle.symmetry.proofs.Signs.{sign-square}
+use Rattle.plane_lattice.proofs.FrameTestFacts.{tests_make_frame}
 use Rattle.line_frames.specs.LineFrames.{third_edge}
 use Rattle.line_frames.specs.Searches.{along_lines, IsFirstAbove, IsRepeat}
 use Rattle.line_frames.proofs.Along.{dot-along_lines}

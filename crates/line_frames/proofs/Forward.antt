@@ -11,8 +11,9 @@ use Rattle.integers.proofs.Solver.{Expr.{var, num, ◌⊝◌, ◌⊗◌}, linear
 use Rattle.symmetry.specs.Vectors.{Vector, multiple, dot}
 use Rattle.symmetry.specs.Groups.{Listing, IsInLattice}
 use Rattle.symmetry.specs.Planes.{IsCoprime}
-use Rattle.symmetry.proofs.Signs.{IsSign, sign-square}
-use Rattle.plane_lattice.proofs.FrameTestFacts.{lattice-multiple}
+use Rattle.symmetry.specs.HeightMotions.{IsSign}
+use Rattle.symmetry.proofs.Signs.{sign-square}
+use Rattle.symmetry.proofs.LatticeLaws.{lattice-multiple}
 use Rattle.line_frames.specs.Searches.{along_lines, coordinate, IsForwardAlong, IsRepeat, IsSense, across_y, along_y}
 use Rattle.line_frames.proofs.Along.{along_of, dot-along_lines, multiple-along_lines}
 use Rattle.line_frames.proofs.Points.{coordinate_x, coordinate_y}

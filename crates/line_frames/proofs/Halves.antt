@@ -5,7 +5,7 @@ use Rattle.fractions.specs.Fraction.{Fraction, SameFraction}
 use Rattle.fractions.specs.declared.part.TheConstants.{UNIT}
 use Rattle.integers.proofs.Ring.{mul-eq-zero, mul_left_cancel}
 use Rattle.integers.proofs.Solver.{Expr.{var, num, ◌⊕◌, ◌⊝◌, ◌⊗◌}, linear, given}
-use Rattle.symmetry.proofs.Signs.{IsSign}
+use Rattle.symmetry.specs.HeightMotions.{IsSign}
 
 -- one entry of W (k tau + z a) is that of s (k tau + z a)
 pub factor_entry : (k s y z c t x : ℤ) → k *ℤ (s *ℤ t +ℤ y *ℤ x) +ℤ z *ℤ (c *ℤ x) ≡ s *ℤ (k *ℤ t +ℤ z *ℤ x)

@@ -7,17 +7,15 @@ use Rattle.symmetry.specs.Vectors.{Vector, multiple, dot}
 use Rattle.symmetry.specs.Groups.{Listing, IsInLattice}
 use Rattle.symmetry.specs.Planes.{IsCoprime}
 use Rattle.symmetry.specs.Frames.{IsPeriod}
+use Rattle.symmetry.specs.HeightMotions.{IsSign}
 use Rattle.symmetry.proofs.VectorLaws.{vector_path}
+use Rattle.symmetry.proofs.LatticeLaws.{lattice-multiple}
 use Rattle.motions.specs.PlaneMatrices.{Pair, dot2}
-use Rattle.symmetry.proofs.Signs.{IsSign}
-use Rattle.plane_lattice.proofs.FrameTestFacts.{lattice-multiple}
+use Rattle.motions.specs.Laws.PlaneMatrixLaws.{pair_path}
 use Rattle.line_frames.specs.Lines.{first_two, in_space, times2, IsAlong, IsBefore, IsInPlaneLattice, IsLineFrame, IsLinePeriod, IsReducedAlong}
 use Rattle.line_frames.specs.Searches.{along_lines, coordinate, IsFirstAbove, IsForwardAlong, IsRepeat}
 use Rattle.line_frames.proofs.Forward.{a_inside, multiple_of_a}
 use Rattle.line_frames.proofs.Points.{coordinate_x, coordinate_y, zero_or_not}
-
-pair_path : {v w : Pair} → v.x ≡ w.x → v.y ≡ w.y → v ≡ w
-pair_path p q = λ i. record { x = p i; y = q i }
 
 module _ (r : Vector) where
   pub dot-in_space : (v : Pair) → dot r (in_space v) ≡ dot2 (first_two r) v

@@ -15,9 +15,9 @@ use Rattle.symmetry.specs.Groups.{Listing, IsGroup, SameModulo}
 use Rattle.symmetry.specs.Sizes.{IsVectorWithin}
 use Rattle.symmetry.specs.Frames.{Basis, IsFrame, IsPeriod, mean_of}
 use Rattle.symmetry.specs.Listings.{AreAlike}
+use Rattle.symmetry.specs.HeightMotions.{IsSign}
 use Rattle.symmetry.proofs.Alike.{period_from}
 use Rattle.symmetry.proofs.FrameLaws.{frame_period}
-use Rattle.symmetry.proofs.Signs.{IsSign}
 use Rattle.symmetry.proofs.VectorLaws.{vector_path, multiple-one}
 use Rattle.motions.specs.Views.{parts, row_of}
 use Rattle.motions.specs.declared.miller.Miller.{Miller}

@@ -11,14 +11,14 @@ use Rattle.symmetry.specs.Planes.{IsCoprime}
 use Rattle.symmetry.specs.Frames.{KeepsOrientation, mean_of, same_vector, sign_at, total_up}
 use Rattle.symmetry.specs.Lists.{motion_at, AreScanning}
 use Rattle.symmetry.proofs.GroupLaws.{member_keeps}
-use Rattle.symmetry.proofs.LatticeLaws.{lattice-minus, listed_member}
+use Rattle.symmetry.proofs.LatticeLaws.{lattice-minus, listed_member, lattice-multiple}
 use Rattle.symmetry.proofs.MatrixLaws.{image-multiple, image-plus, image-product, image-unit, row_times-dot}
 use Rattle.symmetry.proofs.Means.{mean_is_kept}
-use Rattle.symmetry.proofs.Signs.{IsSign, row_sign, sign-square, sign_is}
+use Rattle.symmetry.proofs.Signs.{row_sign, sign-square, sign_is}
 use Rattle.symmetry.proofs.VectorLaws.{vector_path, dot-multiple, dot-minus_same, multiple-dot, minus-plus, plus_comm}
 use Rattle.plane_motions.specs.PlaneMotions.{IsFlat}
-use Rattle.plane_lattice.proofs.FrameTestFacts.{lattice-multiple}
 use Rattle.fractions.specs.declared.ratio.Ratio.{Ratio}
+use Rattle.symmetry.specs.HeightMotions.{IsSign}
 use Rattle.plane_lattice.specs.Scanning.{fraction_at, IsPointOf}
 use Rattle.line_frames.specs.Searches.{along_lines, coordinate, IsForwardAlong, IsMeanUp, IsOtherUp, IsRepeat, IsUp, other, same}
 use Rattle.line_frames.proofs.Along.{dot-along_lines}

@@ -8,9 +8,8 @@ use Rattle.symmetry.specs.Vectors.{Vector, plus, minus, multiple, opposite, dot}
 use Rattle.symmetry.specs.Groups.{Listing}
 use Rattle.symmetry.specs.Planes.{IsCoprime}
 use Rattle.symmetry.proofs.Coprime.{unit_column}
-use Rattle.symmetry.proofs.LatticeLaws.{lattice-minus}
+use Rattle.symmetry.proofs.LatticeLaws.{lattice-minus, lattice-multiple}
 use Rattle.symmetry.proofs.VectorLaws.{dot-plus, dot-multiple}
-use Rattle.plane_lattice.proofs.FrameTestFacts.{lattice-multiple}
 use Rattle.line_frames.specs.Searches.{coordinate, IsAt, IsForwardAlong, IsReducedAt}
 use Rattle.line_frames.proofs.Points.{coordinate_x, coordinate_y, zero_or_not}
 use Rattle.line_frames.proofs.Repeats.{edges_inside}

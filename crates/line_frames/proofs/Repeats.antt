@@ -5,9 +5,8 @@ use Rattle.fractions.specs.declared.part.TheConstants.{UNIT}
 use Rattle.integers.proofs.Division.{floor}
 use Rattle.symmetry.specs.Vectors.{Vector, multiple, plus}
 use Rattle.symmetry.specs.Groups.{Listing, IsInLattice}
-use Rattle.symmetry.proofs.LatticeLaws.{lattice-made, lattice-minus, lattice-plus}
+use Rattle.symmetry.proofs.LatticeLaws.{lattice-made, lattice-minus, lattice-plus, lattice-multiple}
 use Rattle.symmetry.proofs.VectorLaws.{vector_path}
-use Rattle.plane_lattice.proofs.FrameTestFacts.{lattice-multiple}
 use Rattle.line_frames.specs.Searches.{along_lines, IsRepeat}
 use Rattle.line_frames.proofs.Along.{along_lines-minus, multiple-along_lines}
 

@@ -5,11 +5,12 @@ use Rattle.fractions.specs.declared.part.TheConstants.{UNIT}
 use Rattle.fractions.specs.Fraction.{SameFraction}
 use Rattle.integers.proofs.Order.{mul_left_cancel_pos}
 use Rattle.integers.proofs.Solver.{Expr, Expr.{var, num, neg, ◌⊕◌, ◌⊝◌, ◌⊗◌}, ring, linear, given}
-use Rattle.motions.specs.PlaneMatrices.{Matrix2, Pair, image2, minus2, origin2, plus2, product2, unit2}
+use Rattle.motions.specs.PlaneMatrices.{Matrix2, Pair, image2, minus2, origin2, plus2, product2}
 use Rattle.motions.specs.Signs.{sign_product, sign_value}
 use Rattle.motions.specs.declared.motion.Sign.{Sign}
 use Rattle.motions.specs.declared.motion.Sign.TheVariants.{Plus, Minus}
 use Rattle.motions.specs.FriezeMotions.{FriezeOperation, frieze_followed_by, frieze_identity}
+use Rattle.motions.specs.Laws.PlaneMatrixLaws.{pair_path, image2-product, image2-unit}
 use Rattle.plane_motions.specs.PlaneMotions.{PlaneMotion, plane_followed_by, plane_identity}
 use Rattle.friezes.specs.Lines.{edge}
 use Rattle.friezes.specs.RationalLines.{RationalLine, half_parts}
@@ -17,9 +18,6 @@ use Rattle.line_frames.specs.Lines.{times2}
 use Rattle.line_scans.specs.Lines.{PlanePoint, moved2}
 use Rattle.line_scans.specs.LineLists.{DiffersAlong}
 use Rattle.line_scans.specs.LineSections.{ActsAlong}
-
-pub pair_path : {v w : Pair} → v.x ≡ w.x → v.y ≡ w.y → v ≡ w
-pair_path p q = λ i. record { x = p i; y = q i }
 
 -- an operation along the line with its translation as a part of the cell edge
 abbrev pub rational_line : FriezeOperation → RationalLine
@@ -30,19 +28,6 @@ abbrev pub drift2 : PlaneMotion → PlanePoint → Pair
 drift2 m o = minus2 (moved2 m o).at (times2 UNIT o.at)
 
 -- ---- products
-
--- W (V v) + W w is what the product of the matrices makes
-product_entry : (p q a b c d x y : ℤ) → (p *ℤ a +ℤ q *ℤ c) *ℤ x +ℤ (p *ℤ b +ℤ q *ℤ d) *ℤ y ≡ p *ℤ (a *ℤ x +ℤ b *ℤ y) +ℤ q *ℤ (c *ℤ x +ℤ d *ℤ y)
-product_entry p q a b c d x y =
-    ring (p ∷ q ∷ a ∷ b ∷ c ∷ d ∷ x ∷ y ∷ [])
-    ((var 0 ⊗ var 2 ⊕ var 1 ⊗ var 4) ⊗ var 6 ⊕ (var 0 ⊗ var 3 ⊕ var 1 ⊗ var 5) ⊗ var 7)
-    (var 0 ⊗ (var 2 ⊗ var 6 ⊕ var 3 ⊗ var 7) ⊕ var 1 ⊗ (var 4 ⊗ var 6 ⊕ var 5 ⊗ var 7)) tt
-
-pub image_product2 : (n m : Matrix2) (v : Pair) → image2 (product2 n m) v ≡ image2 n (image2 m v)
-image_product2 n m v =
-    pair_path
-    (product_entry n.first.x n.first.y m.first.x m.first.y m.second.x m.second.y v.x v.y)
-    (product_entry n.second.x n.second.y m.first.x m.first.y m.second.x m.second.y v.x v.y)
 
 image_times_entry : (p q k x y : ℤ) → p *ℤ (k *ℤ x) +ℤ q *ℤ (k *ℤ y) ≡ k *ℤ (p *ℤ x +ℤ q *ℤ y)
 image_times_entry p q k x y =
@@ -57,9 +42,6 @@ times_times k l v = pair_path (entry v.x) (entry v.y)
     entry : (x : ℤ) → k *ℤ (l *ℤ x) ≡ k *ℤ l *ℤ x
     entry x = ring (k ∷ l ∷ x ∷ []) (var 0 ⊗ (var 1 ⊗ var 2)) (var 0 ⊗ var 1 ⊗ var 2) tt
 
-pub image_unit2 : (v : Pair) → image2 unit2 v ≡ v
-image_unit2 v = pair_path (omega (arith, ints)) (omega (arith, ints))
-
 pub times_one : (v : Pair) → times2 (pos 1) v ≡ v
 times_one v = pair_path (omega (arith, ints)) (omega (arith, ints))
 
@@ -73,7 +55,7 @@ sign_of_product Minus Minus = refl
 turned_twice : (n m : Matrix2) (v : Pair) (f g : Sign) → image2 m v ≡ times2 (sign_value g) v → image2 n v ≡ times2 (sign_value f) v
     → image2 (product2 n m) v ≡ times2 (sign_value (sign_product f g)) v
 turned_twice n m v f g a b =
-    image_product2 n m v ∙ ap (image2 n) a ∙ image_times n (sign_value g) v ∙ ap (times2 (sign_value g)) b ∙ times_times (sign_value g) (sign_value f) v
+    image2-product n m v ∙ ap (image2 n) a ∙ image_times n (sign_value g) v ∙ ap (times2 (sign_value g)) b ∙ times_times (sign_value g) (sign_value f) v
     ∙ ap (λ k. times2 k v) (swap ∙ sign_of_product f g)
   where
     swap : sign_value g *ℤ sign_value f ≡ sign_value f *ℤ sign_value g
@@ -153,9 +135,9 @@ module _ (a : Pair) (c o : PlanePoint) where
 
   pub acts_identity : Acts plane_identity frieze_identity
   acts_identity = record {
-    along = image_unit2 a ∙ sym (times_one a);
-    across = image_unit2 c.at ∙ sym (times_one c.at);
-    shift = ap (λ v. times2 edge (minus2 (plus2 (times2 UNIT v) (times2 o.over origin2)) (times2 UNIT o.at))) (image_unit2 o.at)
+    along = image2-unit a ∙ sym (times_one a);
+    across = image2-unit c.at ∙ sym (times_one c.at);
+    shift = ap (λ v. times2 edge (minus2 (plus2 (times2 UNIT v) (times2 o.over origin2)) (times2 UNIT o.at))) (image2-unit o.at)
         ∙ pair_path (nothing_entry o.at.x o.over a.x) (nothing_entry o.at.y o.over a.y);
   }
 

@@ -24,6 +24,7 @@ use Rattle.motions.specs.PlaneMatrices.{Pair, dot2, image2}
 use Rattle.motions.specs.Signs.{sign_value}
 use Rattle.motions.specs.declared.motion.Sign.{Sign}
 use Rattle.motions.specs.declared.motion.Sign.TheVariants.{Plus, Minus}
+use Rattle.motions.specs.Laws.PlaneMatrixLaws.{pair_path}
 use Rattle.plane_lattice.proofs.SectionLaws.{above_mean}
 use Rattle.plane_motions.specs.PlaneMotions.{IsFlat, PlaneMotion, plane_block}
 use Rattle.line_frames.specs.LineFrames.{third_edge}
@@ -31,7 +32,7 @@ use Rattle.line_frames.specs.Lines.{IsAlong, IsInPlaneLattice, first_two, in_spa
 use Rattle.line_scans.specs.Lines.{FixesEveryLine, IsPlaneMember, IsSameInPlane, PlanePoint}
 use Rattle.line_scans.specs.LineLists.{ComesBefore, DiffersAlong, ExactlyOne, IsAtLineHome, IsLineList, plane_at}
 use Rattle.line_scans.specs.LineSections.{line_mean, line_total}
-use Rattle.line_scans.proofs.LineActions.{pair_path, times_one}
+use Rattle.line_scans.proofs.LineActions.{times_one}
 use Rattle.line_scans.proofs.LineMeans.{at_below, flat_scanning, total_below}
 use Rattle.line_scans.proofs.LineOps.{image_block}
 use Rattle.line_scans.proofs.LineStabilisers.{differs_along, differs_in_plane, sign_is_sign}

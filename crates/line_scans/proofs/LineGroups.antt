@@ -14,6 +14,7 @@ use Rattle.motions.specs.Signs.{sign_product, sign_value}
 use Rattle.motions.specs.declared.motion.Sign.TheVariants.{Plus}
 use Rattle.motions.specs.FriezeMotions.{FriezeOperation, frieze_followed_by, frieze_identity}
 use Rattle.motions.specs.Laws.FriezeLaws.{frieze_path}
+use Rattle.motions.specs.Laws.PlaneMatrixLaws.{pair_path}
 use Rattle.plane_motions.specs.PlaneMotions.{PlaneMotion, plane_followed_by, plane_identity}
 use Rattle.friezes.specs.declared.line_op.LineOp.{LineOp}
 use Rattle.friezes.specs.Lines.{edge, line_kind, line_of}
@@ -25,7 +26,7 @@ use Rattle.line_frames.specs.Lines.{times2}
 use Rattle.line_scans.specs.Lines.{PlanePoint}
 use Rattle.line_scans.specs.LineLists.{DiffersAlong, ExactlyOne, plane_at}
 use Rattle.line_scans.specs.LineSections.{ActsFrom}
-use Rattle.line_scans.proofs.LineActions.{Acts, acts_differs, acts_identity, acts_product, acts_same, across_once, along_once, less, pair_path, rational_line, shift_once}
+use Rattle.line_scans.proofs.LineActions.{Acts, acts_differs, acts_identity, acts_product, acts_same, across_once, along_once, less, rational_line, shift_once}
 
 -- a group of motions that holds each that differs by a multiple of a from one of its own, and whose translations are these
 pub record IsLineGroup (a : Pair) (S : PlaneMotion → Type 0) : Type 0 where

@@ -9,13 +9,13 @@ use Rattle.symmetry.specs.Vectors.{Vector, dot, image, minus, multiple, plus}
 use Rattle.symmetry.specs.Planes.{Height, IsCoprime, IsHeight}
 use Rattle.symmetry.specs.Groups.{Listing, IsGroup, IsInLattice}
 use Rattle.symmetry.specs.Frames.{Basis}
-use Rattle.symmetry.proofs.LatticeLaws.{lattice-made, lattice-minus, lattice-plus}
+use Rattle.symmetry.proofs.LatticeLaws.{lattice-made, lattice-minus, lattice-plus, lattice-multiple}
 use Rattle.symmetry.proofs.VectorLaws.{vector_path}
 use Rattle.motions.specs.PlaneMatrices.{Pair, dot2, image2, minus2, plus2}
 use Rattle.motions.specs.Signs.{sign_value}
 use Rattle.motions.specs.declared.motion.Sign.{Sign}
+use Rattle.motions.specs.Laws.PlaneMatrixLaws.{pair_path}
 use Rattle.plane_lattice.specs.Sections.{drift, height_in_steps}
-use Rattle.plane_lattice.proofs.FrameTestFacts.{lattice-multiple}
 use Rattle.plane_motions.specs.PlaneMotions.{PlaneMotion, plane_block}
 use Rattle.friezes.specs.declared.line_op.LineOp.{LineOp}
 use Rattle.friezes.specs.Lines.{edge, line_of}
@@ -23,7 +23,7 @@ use Rattle.line_frames.specs.Lines.{IsAlong, IsInPlaneLattice, first_two, in_spa
 use Rattle.line_scans.specs.Lines.{InLineStabiliser, IsPlaneMember, PlanePoint}
 use Rattle.line_scans.specs.LineOps.{HasLineOp, IsLineOp}
 use Rattle.line_scans.specs.LineSections.{ActsAlong, in_edges2, point_at2}
-use Rattle.line_scans.proofs.LineActions.{image_times, pair_path, rational_line}
+use Rattle.line_scans.proofs.LineActions.{image_times, rational_line}
 use Rattle.line_scans.proofs.LineStabilisers.{Follows, dot_turned, image_in_lattice, stabiliser_follows, turned_along}
 use Rattle.line_scans.proofs.PlaneBridges.{IsFlatModulo, block_matrix_flat, dot_in_space, flat_minus, image_below}
 

@@ -17,17 +17,19 @@ use Rattle.symmetry.proofs.MatrixLaws.{row_times-dot, row_times-multiple, row_ti
 use Rattle.symmetry.proofs.PlaneLattice.{differs_stabiliser}
 use Rattle.symmetry.proofs.PlaneRows.{stabiliser_by_row}
 use Rattle.symmetry.proofs.Signs.{row_times-followed_by, sign_twice}
-use Rattle.symmetry.proofs.VectorLaws.{dot-origin, dot-plus, multiple-dot, multiple-one, vector_path}
+use Rattle.symmetry.proofs.VectorLaws.{dot-origin, multiple-dot, multiple-one, vector_path}
+use Rattle.symmetry.proofs.PlaneOrbits.{dot-followed_by}
 use Rattle.motions.specs.PlaneMatrices.{Pair, dot2, image2, minus2, unit2}
 use Rattle.motions.specs.Signs.{sign_product, sign_value}
 use Rattle.motions.specs.declared.motion.Sign.{Sign}
 use Rattle.motions.specs.declared.motion.Sign.TheVariants.{Plus, Minus}
+use Rattle.motions.specs.Laws.PlaneMatrixLaws.{image2-product, image2-unit}
 use Rattle.plane_motions.specs.PlaneMotions.{PlaneMotion, plane_block, plane_followed_by, plane_identity}
 use Rattle.plane_motions.proofs.PlaneBlocks.{plane_block_product}
 use Rattle.line_frames.specs.Lines.{IsAlong, IsInPlaneLattice, first_two, in_space, times2}
 use Rattle.line_scans.specs.Lines.{FixesEveryLine, InLineStabiliser, IsPlaneMember}
 use Rattle.line_scans.specs.LineLists.{DiffersAlong}
-use Rattle.line_scans.proofs.LineActions.{image_product2, image_times, image_unit2, sign_of_product, times_one, times_times}
+use Rattle.line_scans.proofs.LineActions.{image_times, sign_of_product, times_one, times_times}
 use Rattle.line_scans.proofs.LineGroups.{IsLineGroup}
 use Rattle.line_scans.proofs.PlaneBridges.{IsFlatModulo, block_is, block_member, dot_in_space, flat_minus, pair_member, pair_motion, stabiliser_by_line}
 
@@ -89,18 +91,11 @@ sign_squared : (e : Sign) → sign_value e *ℤ sign_value e ≡ pos 1
 sign_squared Plus = refl
 sign_squared Minus = refl
 
--- (hkl).w of a product
-dot_product : (r : Vector) (m n : Motion) (e : ℤ) → row_times r n.matrix ≡ multiple e r
-    → dot r (followed_by m n).shift ≡ e *ℤ dot r m.shift +ℤ dot r n.shift
-dot_product r m n e row =
-    dot-plus r (image n.matrix m.shift) n.shift
-    ∙ ap (λ x. x +ℤ dot r n.shift) (sym (row_times-dot r n.matrix m.shift) ∙ ap (λ t. dot t m.shift) row ∙ multiple-dot e r m.shift)
-
 follows_product : (r : Vector) (s : Height) (m n : Motion) → Follows r s m → Follows r s n → Follows r s (followed_by m n)
 follows_product r s m n p q = record {
   sign = sign_product q.sign p.sign;
   row = row_times-followed_by r m n (sign_value p.sign) (sign_value q.sign) p.row q.row ∙ ap (λ e. multiple e r) signs;
-  shift = (λ i. sym signs i *ℤ s.num *ℤ UNIT +ℤ s.den *ℤ dot_product r m n (sign_value q.sign) q.row i)
+  shift = (λ i. sym signs i *ℤ s.num *ℤ UNIT +ℤ s.den *ℤ dot-followed_by r m n (sign_value q.sign) q.row i)
       ∙ product_shift (sign_value q.sign) (sign_value p.sign) s.num s.den (dot r m.shift) (dot r n.shift) p.shift q.shift;
 }
   where
@@ -119,7 +114,7 @@ follows_inverse : (r : Vector) (s : Height) (m n : Motion) → followed_by m n �
 follows_inverse r s m n after before p =
     let e = sign_value p.sign in
     let row = inverse_row r m n p.sign before p.row in
-    let none : e *ℤ dot r m.shift +ℤ dot r n.shift ≡ pos 0 = sym (dot_product r m n e row) ∙ ap (λ (k : Motion). dot r k.shift) after ∙ dot-origin r in
+    let none : e *ℤ dot r m.shift +ℤ dot r n.shift ≡ pos 0 = sym (dot-followed_by r m n e row) ∙ ap (λ (k : Motion). dot r k.shift) after ∙ dot-origin r in
     record {
       sign = p.sign;
       row = row;
@@ -321,7 +316,7 @@ module _ (g : Listing) (r a : Pair) (group : IsGroup g) (coprime : IsCoprime (in
       both =
           once_a (back.0 *ℤ there.0) (pos 1)
           (sym (times_times back.0 there.0 a) ∙ ap (times2 back.0) (sym there.1) ∙ sym (image_times m.matrix back.0 a) ∙ ap (image2 m.matrix) (sym back.1)
-          ∙ sym (image_product2 m.matrix i.0.matrix a) ∙ ap (λ (k : PlaneMotion). image2 k.matrix a) i.3 ∙ image_unit2 a ∙ sym (times_one a))
+          ∙ sym (image2-product m.matrix i.0.matrix a) ∙ ap (λ (k : PlaneMotion). image2 k.matrix a) i.3 ∙ image2-unit a ∙ sym (times_one a))
 
       signed : (there.0 ≡ pos 1) ⊎ (there.0 ≡ negsuc 0) → (f : Sign) × (image2 m.matrix a ≡ times2 (sign_value f) a)
       signed (inl one) = (Plus, there.1 ∙ ap (λ k. times2 k a) one)

@@ -55,7 +55,7 @@ module _ (m : Matrix2) where
       (pair_path (omega (arith, ints, negative-product s p)) (omega (arith, ints, negative-product s q)))
       (pair_path (omega (arith, ints, negative-product p r)) (omega (arith, ints, negative-product p s)))
 
-determinant2-product : (m n : Matrix2) → determinant2 (product2 m n) ≡ determinant2 m *ℤ determinant2 n
+pub determinant2-product : (m n : Matrix2) → determinant2 (product2 m n) ≡ determinant2 m *ℤ determinant2 n
 determinant2-product m n =
     ring (m.first.x ∷ m.first.y ∷ m.second.x ∷ m.second.y ∷ n.first.x ∷ n.first.y ∷ n.second.x ∷ n.second.y ∷ [])
     ((var 0 ⊗ var 4 ⊕ var 1 ⊗ var 6) ⊗ (var 2 ⊗ var 5 ⊕ var 3 ⊗ var 7) ⊝ (var 0 ⊗ var 5 ⊕ var 1 ⊗ var 7) ⊗ (var 2 ⊗ var 4 ⊕ var 3 ⊗ var 6))

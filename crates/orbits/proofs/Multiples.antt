@@ -3,13 +3,14 @@ use Rattle.std.proofs.Common.{◌≡◌, ◌↔◌, ℤ, pos, ◌+ℤ◌, ◌*�
 use Rattle.std.specs.Prelude.{int_div, int_rem, nat_eq}
 use Rattle.std.proofs.lemmas.Bool.Decides.{Decides-eqb}
 use Rattle.std.proofs.lemmas.Int.{quot-rem, rem_is, to_z-of_z}
+use lib.IntN.{*ℤ_comm}
 use Rattle.integers.proofs.Coded.{again}
-use Rattle.integers.proofs.Ring.{add_zero, mul_comm_lem}
+use Rattle.integers.proofs.Ring.{add_zero}
 use Rattle.fractions.proofs.Multiples.{rem-multiple}
 
 multiple_by_rest : (x d : ℤ) → int_rem x d ≡ pos 0 → x ≡ d *ℤ int_div x d
 multiple_by_rest x d e =
-    sym (quot-rem x d) ∙ ap (λ r. int_div x d *ℤ d +ℤ r) e ∙ add_zero (int_div x d *ℤ d) ∙ mul_comm_lem (int_div x d) d
+    sym (quot-rem x d) ∙ ap (λ r. int_div x d *ℤ d +ℤ r) e ∙ add_zero (int_div x d *ℤ d) ∙ *ℤ_comm (int_div x d) d
 
 rest_of_multiple : (x d k : ℤ) → pos 1 ≤ℤ d → x ≡ d *ℤ k → int_rem x d ≡ pos 0
 rest_of_multiple x d k h e = ap (λ y. int_rem y d) e ∙ rem-multiple d k h

@@ -5,7 +5,7 @@ use Rattle.std.proofs.lemmas.Int.{ints}
 use Rattle.integers.specs.Size.{IsWithin}
 use Rattle.integers.proofs.Coded.{again, again_is}
 use Rattle.integers.proofs.Ring.{add_comm}
-use Rattle.closure.specs.Laws.Remainders.{divided}
+use Rattle.integers.proofs.Remainders.{divided}
 use Rattle.plane_lattice.specs.Bounds.{largest_period}
 
 -- x is the rest and some periods

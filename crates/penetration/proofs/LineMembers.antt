@@ -6,7 +6,7 @@ use Rattle.fractions.specs.declared.part.TheConstants.{UNIT}
 use Rattle.integers.proofs.Division.{fractional_parts}
 use Rattle.integers.proofs.Order.{mul_left_cancel_pos, one-le-mul}
 use Rattle.integers.proofs.Ring.{mul_zero}
-use Rattle.integers.proofs.Solver.{Expr.{var, num, neg, ◌⊕◌, ◌⊝◌, ◌⊗◌}, ring, linear, given}
+use Rattle.integers.proofs.Solver.{Expr.{var, num, neg, ◌⊕◌, ◌⊝◌, ◌⊗◌}, linear, given}
 use Rattle.integers.proofs.Spread.{spread}
 use Rattle.symmetry.specs.Vectors.{Vector, plus, minus, multiple, dot, cross, image}
 use Rattle.symmetry.specs.Motions.{Motion, moved}
@@ -17,7 +17,7 @@ use Rattle.symmetry.specs.Lists.{IsChoice}
 use Rattle.symmetry.proofs.FrameLaws.{combination-minus, combination-multiple, cramer}
 use Rattle.symmetry.proofs.LatticeLaws.{same_member, same_sym, same_trans}
 use Rattle.symmetry.proofs.MotionLaws.{motion_path}
-use Rattle.symmetry.proofs.VectorLaws.{vector_path, dot-multiple}
+use Rattle.symmetry.proofs.VectorLaws.{vector_path, dot-multiple, multiple-minus, minus-minus}
 use Rattle.plane_lattice.specs.Coordinates.{volume, scaled}
 use Rattle.plane_lattice.specs.Laws.QuotientLaws.{scaled-combination, scaled-plus}
 use Rattle.penetration.specs.Lines.{IsOnLine, InLineStabiliser}
@@ -84,13 +84,6 @@ drift_back f at c m =
     one : (w r s x : ℤ) → (w +ℤ (r +ℤ negsuc 0 *ℤ s)) +ℤ negsuc 0 *ℤ x ≡ ((w +ℤ r) +ℤ negsuc 0 *ℤ x) +ℤ negsuc 0 *ℤ s
     one w r s x = omega (arith, ints)
 
-multiple-minus : (c : ℤ) (v w : Vector) → multiple c (minus v w) ≡ minus (multiple c v) (multiple c w)
-unfolding plus multiple
-multiple-minus c v w = vector_path (one c v.x w.x) (one c v.y w.y) (one c v.z w.z)
-  where
-    one : (c x y : ℤ) → c *ℤ (x +ℤ negsuc 0 *ℤ y) ≡ c *ℤ x +ℤ negsuc 0 *ℤ (c *ℤ y)
-    one c x y = ring (c ∷ x ∷ y ∷ []) (var 0 ⊗ (var 1 ⊕ num (negsuc 0) ⊗ var 2)) (var 0 ⊗ var 1 ⊕ num (negsuc 0) ⊗ (var 0 ⊗ var 2)) tt
-
 rest_back : (s : Vector) (v : ℤ) (c : Vector) → v *ℤ c.x ≡ s.x → v *ℤ c.y ≡ s.y → minus s (multiple v c) ≡ record { x = pos 0; y = pos 0; z = s.z -ℤ v *ℤ c.z }
 unfolding plus multiple
 rest_back s v c p q = vector_path (zero (v *ℤ c.x) s.x p) (zero (v *ℤ c.y) s.y q) (same s.z (v *ℤ c.z))
@@ -126,10 +119,6 @@ x_of v s k c e = λ i. (e i).x
 y_of : (v s : Vector) (k : ℤ) (c : Vector) → v ≡ plus s (multiple k c) → v.y ≡ s.y +ℤ k *ℤ c.y
 unfolding plus multiple
 y_of v s k c e = λ i. (e i).y
-
-pub minus-minus : (v w : Vector) → minus v (minus v w) ≡ w
-unfolding plus multiple
-minus-minus v w = vector_path (omega (arith, ints)) (omega (arith, ints)) (omega (arith, ints))
 
 pub scaled_multiple : (f : Basis) (k : ℤ) (v : Vector) → scaled f (multiple k v) ≡ multiple k (scaled f v)
 unfolding multiple

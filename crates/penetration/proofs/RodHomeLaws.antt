@@ -4,25 +4,24 @@ use Rattle.std.proofs.lemmas.Int.{ints}
 use Rattle.fractions.specs.declared.part.TheConstants.{UNIT}
 use Rattle.integers.proofs.Division.{floor, fractional_parts}
 use Rattle.integers.proofs.Order.{one-le-mul}
-use Rattle.integers.proofs.Solver.{Expr.{var, num, neg, ◌⊕◌, ◌⊝◌, ◌⊗◌}, ring, linear, given}
+use Rattle.integers.proofs.Solver.{Expr.{var, num, neg, ◌⊕◌, ◌⊝◌, ◌⊗◌}, linear, given}
 use Rattle.symmetry.specs.Vectors.{Vector, plus, minus, multiple}
 use Rattle.symmetry.specs.Motions.{Motion}
 use Rattle.symmetry.specs.Planes.{IsCoprime}
 use Rattle.symmetry.specs.Groups.{Listing, IsInLattice, IsGroup, SameModulo}
 use Rattle.symmetry.specs.Frames.{Basis, combination}
 use Rattle.symmetry.proofs.FrameLaws.{combination-minus, combination-multiple, cramer}
-use Rattle.symmetry.proofs.LatticeLaws.{same_member}
+use Rattle.symmetry.proofs.LatticeLaws.{same_member, lattice-multiple}
 use Rattle.symmetry.proofs.MotionLaws.{motion_path}
-use Rattle.symmetry.proofs.VectorLaws.{vector_path, multiple-multiple}
+use Rattle.symmetry.proofs.VectorLaws.{vector_path, multiple-multiple, minus-minus, multiple-minus, multiples-minus}
 use Rattle.plane_lattice.specs.Coordinates.{volume, scaled}
 use Rattle.plane_lattice.specs.Laws.QuotientLaws.{div_euclid_from, div_euclid_below}
 use Rattle.penetration.specs.Lines.{InLineStabiliser}
 use Rattle.penetration.specs.RodFrames.{IsRodFrame, KeepsDirection, DiffersAlong}
 use Rattle.penetration.specs.RodHomes.{IsAtRodHome, IsNear, rod_home, whole_turns}
 use Rattle.penetration.specs.RodSections.{counted, drift}
-use Rattle.penetration.proofs.LatticeMultiples.{lattice-multiple}
 use Rattle.penetration.proofs.LineImages.{stabiliser_by_direction}
-use Rattle.penetration.proofs.LineMembers.{differ_by_none, drift_same, in_by_drift, keeps_direction_of, minus-minus, only_axis}
+use Rattle.penetration.proofs.LineMembers.{differ_by_none, drift_same, in_by_drift, keeps_direction_of, only_axis}
 use Rattle.penetration.proofs.RodActions.{drift_on_line, unit_positive}
 
 -- ---- differing by a multiple of the axis
@@ -59,13 +58,6 @@ differs_trans f k m n d e =
 abbrev along : ℤ → Vector
 along k = record { x = pos 0; y = pos 0; z = k }
 
-multiple-minus : (c : ℤ) (v w : Vector) → multiple c (minus v w) ≡ minus (multiple c v) (multiple c w)
-unfolding plus multiple
-multiple-minus c v w = vector_path (one v.x w.x) (one v.y w.y) (one v.z w.z)
-  where
-    one : (x y : ℤ) → c *ℤ (x +ℤ negsuc 0 *ℤ y) ≡ c *ℤ x +ℤ negsuc 0 *ℤ (c *ℤ y)
-    one x y = ring (c ∷ x ∷ y ∷ []) (var 0 ⊗ (var 1 ⊕ num (negsuc 0) ⊗ var 2)) (var 0 ⊗ var 1 ⊕ num (negsuc 0) ⊗ (var 0 ⊗ var 2)) tt
-
 less_along : (s : Vector) (k : ℤ) → record { x = s.x; y = s.y; z = s.z -ℤ k } ≡ minus s (along k)
 unfolding plus multiple
 less_along s k = vector_path (none s.x) (none s.y) (some s.z k)
@@ -101,14 +93,6 @@ rod_home_at_home f positive m =
 pub rod_home_differs : (f : Basis) (m : Motion) → DiffersAlong f m (rod_home f m)
 rod_home_differs f m = record { matrix = refl; times = whole_turns f m.shift; shift = minus-minus m.shift (multiple (whole_turns f m.shift) f.tau) }
 
-crossed : (o o' : ℤ) (v w : Vector) → minus (multiple o' (multiple o v)) (multiple o (multiple o' w)) ≡ multiple (o *ℤ o') (minus v w)
-unfolding plus multiple
-crossed o o' v w = vector_path (one v.x w.x) (one v.y w.y) (one v.z w.z)
-  where
-    one : (x y : ℤ) → o' *ℤ (o *ℤ x) +ℤ negsuc 0 *ℤ (o *ℤ (o' *ℤ y)) ≡ (o *ℤ o') *ℤ (x +ℤ negsuc 0 *ℤ y)
-    one x y =
-        ring (o ∷ o' ∷ x ∷ y ∷ []) (var 1 ⊗ (var 0 ⊗ var 2) ⊕ num (negsuc 0) ⊗ (var 0 ⊗ (var 1 ⊗ var 3))) ((var 0 ⊗ var 1) ⊗ (var 2 ⊕ num (negsuc 0) ⊗ var 3)) tt
-
 -- two vectors over o and o' with coordinates along the axis differ by k c
 coordinates_apart : (f : Basis) (o o' k : ℤ) (v w p q : Vector) → minus v w ≡ multiple k f.tau → combination f p ≡ multiple o v → combination f q ≡ multiple o' w
     → combination f (minus (multiple o' p) (multiple o q)) ≡ combination f (along (o *ℤ o' *ℤ k))
@@ -116,7 +100,7 @@ coordinates_apart f o o' k v w p q e is_p is_q =
     combination-minus f (multiple o' p) (multiple o q)
     ∙ (λ i. minus (combination-multiple f o' p i) (combination-multiple f o q i))
     ∙ (λ i. minus (multiple o' (is_p i)) (multiple o (is_q i)))
-    ∙ crossed o o' v w ∙ ap (multiple (o *ℤ o')) e ∙ multiple-multiple (o *ℤ o') k f.tau ∙ sym (only_axis f (o *ℤ o' *ℤ k))
+    ∙ multiples-minus o o' v w ∙ ap (multiple (o *ℤ o')) e ∙ multiple-multiple (o *ℤ o') k f.tau ∙ sym (only_axis f (o *ℤ o' *ℤ k))
 
 z_apart : (o o' : ℤ) (p q : Vector) (k : ℤ) → minus (multiple o' p) (multiple o q) ≡ along k → o' *ℤ p.z -ℤ o *ℤ q.z ≡ k
 unfolding plus multiple

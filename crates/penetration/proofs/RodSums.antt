@@ -5,6 +5,7 @@ use Rattle.std.proofs.lemmas.Int.{ints}
 use Rattle.std.proofs.lemmas.List.{append-nil, get_or_default, length-append}
 use Rattle.std.proofs.lemmas.List.Elements.{filter-append}
 use Rattle.std.proofs.lemmas.List.Kept.{AllPairs-filter}
+use Rattle.std.proofs.lemmas.Bool.{cases_order}
 use Rattle.symmetry.specs.Vectors.{Vector, multiple, opposite, image}
 use Rattle.symmetry.specs.Motions.{Motion, identity}
 use Rattle.symmetry.specs.Planes.{IsCoprime}
@@ -16,7 +17,7 @@ use Rattle.symmetry.proofs.MatrixLaws.{image-unit}
 use Rattle.motions.specs.Laws.MotionLaws.{same_vector-is}
 use Rattle.motions.specs.Signs.{sign_value}
 use Rattle.motions.specs.declared.motion.Sign.{Sign}
-use Rattle.plane_lattice.proofs.ScanningFacts.{filter-has, has-filter, lt_trichotomy}
+use Rattle.plane_lattice.proofs.ScanningFacts.{filter-has, has-filter}
 use Rattle.penetration.specs.RodFrames.{AreRodOperations, KeepsDirection, coefficient, sign_along, total_along}
 use Rattle.penetration.specs.RodOperations.{keeps_along, rod_ops, signed_coefficient}
 use Rattle.penetration.proofs.DirectionSigns.{keeps_by_sign, sign_is, sign_is_sign}
@@ -120,9 +121,9 @@ module _ (g : Listing) (u : Vector) (apart : AllPairs (λ m n. ¬ SameModulo g m
   only_one : (m : Motion) (j k : ℕ) → j < length ms → k < length ms → SameModulo g m (motion_at ms j) → SameModulo g m (motion_at ms k) → k ≡ j
   only_one m j k hj hk p q =
       let across : SameModulo g (motion_at ms j) (motion_at ms k) = same_trans g (motion_at ms j) m (motion_at ms k) (same_sym g m (motion_at ms j) p) q in
-      elim (lt_trichotomy j k) [
-        | inl l ↦ absurd (rods_apart j k identity l hk across)
-        | inr (inl e) ↦ sym e
+      elim (cases_order j k) [
+        | inl e ↦ sym e
+        | inr (inl l) ↦ absurd (rods_apart j k identity l hk across)
         | inr (inr l) ↦ absurd (rods_apart k j identity l hj (same_sym g (motion_at ms j) (motion_at ms k) across))
       ]
 

@@ -9,7 +9,7 @@ use Rattle.symmetry.specs.Planes.{IsCoprime}
 use Rattle.symmetry.specs.Groups.{Listing, IsInLattice, IsMember, IsGroup}
 use Rattle.symmetry.specs.Frames.{Basis}
 use Rattle.symmetry.proofs.VectorLaws.{vector_path, plus-minus_first}
-use Rattle.symmetry.proofs.LatticeLaws.{same_member}
+use Rattle.symmetry.proofs.LatticeLaws.{same_member, lattice-multiple}
 use Rattle.motions.specs.declared.rod.RodMotion.{RodMotion}
 use Rattle.motions.specs.PlaneMatrices.{Matrix2}
 use Rattle.motions.specs.Signs.{sign_value}
@@ -19,7 +19,6 @@ use Rattle.recognition.proofs.RodTypeLemma.{contains_rod, from_list, motion_of_r
 use Rattle.penetration.specs.Lines.{SamePoint}
 use Rattle.penetration.specs.RodFrames.{IsRodFrame, AreRodOperations, IsAcross, levelled}
 use Rattle.penetration.specs.RodSections.{AreSections, InRodSection, ListsAlong, counted, drift, point_on_axis}
-use Rattle.penetration.proofs.LatticeMultiples.{lattice-multiple}
 use Rattle.penetration.proofs.RodActions.{shift_is, acts, acts_once}
 use Rattle.penetration.proofs.RodGroups.{in_stabiliser, listed_op, motion_of_op}
 

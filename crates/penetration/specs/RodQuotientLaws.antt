@@ -1,13 +1,12 @@
 -- Proofs that the whole multiples of an axis meet the laws of `Quotient`. They stand here since an `impl` cites them.
-use Rattle.std.proofs.Common.{◌≡◌, ◌↔◌, ℤ, pos, negsuc, ◌+ℤ◌, ◌*ℤ◌, ◌≤ℤ◌, [], ◌∷◌, refl, sym, ap, subst, ◌∙◌, arith}
+use Rattle.std.proofs.Common.{◌≡◌, ◌↔◌, ℤ, pos, negsuc, ◌+ℤ◌, ◌*ℤ◌, ◌≤ℤ◌, [], ◌∷◌, refl, sym, ap, subst, ◌∙◌}
 use Rattle.std.specs.Int.{int_div_euclid}
-use Rattle.std.proofs.lemmas.Int.{ints}
 use Rattle.integers.proofs.Solver.{Expr.{var, num, ◌⊕◌, ◌⊗◌}, ring}
 use Rattle.quotient.specs.Kind.{Kind, kind_of, IsSame, Keeps, AreShiftsGroup}
 use Rattle.symmetry.specs.Vectors.{Vector, origin, plus, minus, multiple, opposite, dot, cross, image, unit_matrix}
 use Rattle.symmetry.specs.Motions.{Motion, followed_by, identity}
 use Rattle.symmetry.specs.Frames.{Basis}
-use Rattle.symmetry.proofs.VectorLaws.{vector_path, dot-plus, dot-multiple, multiple-multiple, multiple-one, plus_comm, minus-same, opposite-plus_same}
+use Rattle.symmetry.proofs.VectorLaws.{vector_path, dot-plus, dot-multiple, multiple-multiple, multiple-one, plus_comm, minus-same, opposite-plus_same, multiple-zero, plus-multiple}
 use Rattle.symmetry.proofs.MatrixLaws.{image-multiple}
 use Rattle.symmetry.proofs.MotionLaws.{motion_path}
 use Rattle.motions.specs.declared.motion.Motion3.{Motion3}
@@ -39,22 +38,11 @@ shift_is f s (m, h, e) = subst (IsAxisShift f) e h
 
 -- ---- whole multiples of the axis, their sums and opposites
 
-multiple-none : (v : Vector) → multiple (pos 0) v ≡ origin
-unfolding multiple
-multiple-none v = vector_path (omega (arith, ints)) (omega (arith, ints)) (omega (arith, ints))
-
-plus_of_multiples : (k l : ℤ) (v : Vector) → multiple (k +ℤ l) v ≡ plus (multiple k v) (multiple l v)
-unfolding plus multiple
-plus_of_multiples k l v = vector_path (one v.x) (one v.y) (one v.z)
-  where
-    one : (x : ℤ) → (k +ℤ l) *ℤ x ≡ k *ℤ x +ℤ l *ℤ x
-    one x = ring (k ∷ l ∷ x ∷ []) ((var 0 ⊕ var 1) ⊗ var 2) (var 0 ⊗ var 2 ⊕ var 1 ⊗ var 2) tt
-
 axis_origin : (f : Basis) → IsAlongAxis f origin
-axis_origin f = (pos 0, multiple-none f.tau)
+axis_origin f = (pos 0, multiple-zero f.tau)
 
 axis-plus : (f : Basis) (v w : Vector) → IsAlongAxis f v → IsAlongAxis f w → IsAlongAxis f (plus v w)
-axis-plus f v w (k, e) (l, h) = (k +ℤ l, plus_of_multiples k l f.tau ∙ (λ i. plus (e i) (h i)))
+axis-plus f v w (k, e) (l, h) = (k +ℤ l, plus-multiple k l f.tau ∙ (λ i. plus (e i) (h i)))
 
 axis-multiple : (f : Basis) (c : ℤ) (v : Vector) → IsAlongAxis f v → IsAlongAxis f (multiple c v)
 axis-multiple f c v (k, e) = (c *ℤ k, sym (multiple-multiple c k f.tau) ∙ ap (multiple c) e)

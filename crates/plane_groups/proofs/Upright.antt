@@ -6,7 +6,7 @@ use Rattle.fractions.specs.declared.part.TheConstants.{UNIT}
 use Rattle.integers.specs.Size.{Divides}
 use Rattle.symmetry.specs.Vectors.{Vector, dot, plus, multiple}
 use Rattle.symmetry.specs.Motions.{Motion, followed_by, identity}
-use Rattle.closure.specs.Laws.Remainders.{Divides-zero, Divides-add, Divides-multiple}
+use Rattle.integers.proofs.Remainders.{Divides-zero, Divides-add, Divides-multiple}
 use Rattle.plane_motions.specs.PlaneMotions.{IsFlat}
 
 -- the third entry of the vector is whole

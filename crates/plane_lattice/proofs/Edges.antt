@@ -4,13 +4,13 @@ use Rattle.std.specs.Int.{int_div_euclid, int_rem_euclid}
 use Rattle.std.proofs.lemmas.Int.{ints}
 use Rattle.std.proofs.Math.Logic.{∥∥₁_elim}
 use Rattle.std.proofs.Math.IntN.{ℤ_set}
+use lib.IntN.{*ℤ_comm}
 use Rattle.fractions.specs.declared.part.TheConstants.{UNIT}
 use Rattle.symmetry.specs.Vectors.{Vector, plus, multiple, cross}
 use Rattle.symmetry.specs.Frames.{Basis, combination}
 use Rattle.symmetry.proofs.VectorLaws.{vector_path, dot-multiple}
-use Rattle.symmetry.proofs.FrameLaws.{combination-multiple}
+use Rattle.symmetry.proofs.FrameLaws.{combination-multiple, combination-plus}
 use Rattle.plane_lattice.specs.Coordinates.{volume, scaled, HoldsEdges, IsCombination}
-use Rattle.plane_lattice.specs.Laws.QuotientLaws.{combination-plus}
 use Rattle.plane_lattice.proofs.Cramer.{whole_x, whole_y, whole_z, combination_of}
 use Rattle.plane_lattice.proofs.Quotients.{rem-multiple, exact_quotient}
 
@@ -36,22 +36,19 @@ whole_edges f h v =
     (combination-sum f _ _ (combination-times f v.x _ h.first) (combination-times f v.y _ h.second))
     (combination-times f v.z _ h.third))
 
-swapped : (x y : ℤ) → x *ℤ y ≡ y *ℤ x
-swapped x y = omega (arith, ints)
-
 module _ (f : Basis) (h : pos 1 ≤ℤ volume f) (v : Vector) where
   -- the coordinates of UNIT times the vector, times the volume
   abbrev scaled_edges : Vector
   scaled_edges = scaled f (multiple UNIT v)
 
   in_x : (scaled f v).x *ℤ UNIT ≡ scaled_edges.x
-  in_x = swapped (scaled f v).x UNIT ∙ sym (dot-multiple (cross f.b f.tau) UNIT v)
+  in_x = *ℤ_comm (scaled f v).x UNIT ∙ sym (dot-multiple (cross f.b f.tau) UNIT v)
 
   in_y : (scaled f v).y *ℤ UNIT ≡ scaled_edges.y
-  in_y = swapped (scaled f v).y UNIT ∙ sym (dot-multiple (cross f.tau f.a) UNIT v)
+  in_y = *ℤ_comm (scaled f v).y UNIT ∙ sym (dot-multiple (cross f.tau f.a) UNIT v)
 
   in_z : (scaled f v).z *ℤ UNIT ≡ scaled_edges.z
-  in_z = swapped (scaled f v).z UNIT ∙ sym (dot-multiple (cross f.a f.b) UNIT v)
+  in_z = *ℤ_comm (scaled f v).z UNIT ∙ sym (dot-multiple (cross f.a f.b) UNIT v)
 
   module _ (edges : ∥ HoldsEdges f ∥₁) where
     -- the volume divides them

@@ -1,38 +1,16 @@
 -- A frame is told by finitely many vectors.
-use Rattle.std.proofs.Common.{◌≡◌, ℕ, zero, suc, ℤ, pos, negsuc, ◌*ℤ◌, ◌<ℤ◌, sym, ap, subst, ◌∙◌, arith}
+use Rattle.std.proofs.Common.{◌≡◌, zero, suc, ℤ, pos, negsuc, ◌*ℤ◌, ◌<ℤ◌, sym, ap, subst, ◌∙◌, arith}
 use Rattle.std.proofs.lemmas.Int.{ints}
 use Rattle.symmetry.specs.Vectors.{Vector, origin, plus, minus, multiple, dot, cross}
 use Rattle.symmetry.specs.Groups.{Listing, Generates, IsInLattice, zero_vector, added, subtracted}
 use Rattle.symmetry.specs.Frames.{Basis, combination, IsFrame}
 use Rattle.symmetry.proofs.VectorLaws.{vector_path, multiple-dot}
-use Rattle.symmetry.proofs.LatticeLaws.{lattice-plus, lattice-minus, lattice-made}
+use Rattle.symmetry.proofs.LatticeLaws.{lattice-plus, lattice-made, lattice-multiple}
 use Rattle.plane_lattice.specs.FrameTests.{PassesFrameTests}
-use Rattle.symmetry.proofs.FrameLaws.{combination-minus}
+use Rattle.symmetry.proofs.FrameLaws.{combination-minus, combination-origin, combination-plus}
 use Rattle.plane_lattice.specs.Coordinates.{volume}
-use Rattle.plane_lattice.specs.Laws.QuotientLaws.{along_a, along_b, combination-origin, combination-plus}
+use Rattle.plane_lattice.specs.Laws.QuotientLaws.{along_a, along_b}
 use Rattle.plane_lattice.proofs.Cramer.{combination_once}
-
-multiple-zero : (v : Vector) → multiple (pos 0) v ≡ origin
-unfolding multiple
-multiple-zero v = vector_path (omega (arith, ints)) (omega (arith, ints)) (omega (arith, ints))
-
-multiple-suc : (n : ℕ) (v : Vector) → plus (multiple (pos n) v) v ≡ multiple (pos (suc n)) v
-unfolding plus multiple
-multiple-suc n v = vector_path (omega (arith, ints)) (omega (arith, ints)) (omega (arith, ints))
-
-multiple-negsuc : (n : ℕ) (v : Vector) → minus origin (multiple (pos (suc n)) v) ≡ multiple (negsuc n) v
-unfolding plus multiple
-multiple-negsuc n v = vector_path (omega (arith, ints)) (omega (arith, ints)) (omega (arith, ints))
-
-times_member : (g : Listing) (n : ℕ) (v : Vector) → IsInLattice g v → IsInLattice g (multiple (pos n) v)
-times_member g zero v h = subst (IsInLattice g) (sym (multiple-zero v)) zero_vector
-times_member g (suc n) v h = subst (IsInLattice g) (multiple-suc n v) (lattice-plus g (multiple (pos n) v) v (times_member g n v h) h)
-
--- whole multiples of members are members
-pub lattice-multiple : (g : Listing) (k : ℤ) (v : Vector) → IsInLattice g v → IsInLattice g (multiple k v)
-lattice-multiple g (pos n) v h = times_member g n v h
-lattice-multiple g (negsuc n) v h =
-    subst (IsInLattice g) (multiple-negsuc n v) (lattice-minus g origin (multiple (pos (suc n)) v) zero_vector (times_member g (suc n) v h))
 
 pub lattice-combination : (g : Listing) (f : Basis) → IsInLattice g f.a → IsInLattice g f.b → IsInLattice g f.tau
     → (c : Vector) → IsInLattice g (combination f c)

@@ -2,14 +2,14 @@
 use Rattle.std.proofs.Common.{◌≡◌, ℕ, ◌+◌, ◌*◌, ◌≤◌, ◌<◌, ℤ, pos, negsuc, ◌+ℤ◌, ◌*ℤ◌, ◌≤ℤ◌, ◌<ℤ◌, nat_abs, unsigned_abs, ◌^◌, refl, sym, ap, subst, ◌∙◌, arith}
 use Rattle.std.proofs.Math.Nat.{le_of_mul-le-mul_left, le-mul_of_pos_right}
 use Rattle.std.proofs.lemmas.Int.{ints}
+use lib.IntN.{*ℤ_comm}
 use Rattle.integers.specs.Size.{IsWithin}
 use Rattle.integers.proofs.Ring.{IsWithin-add, IsWithin-mul, abs-mul, neg_as_mul}
-use Rattle.integers.proofs.Spread.{spread}
 use Rattle.symmetry.specs.Vectors.{Vector, plus, minus, multiple, dot}
 use Rattle.symmetry.specs.Motions.{Motion}
 use Rattle.symmetry.specs.Frames.{Basis, combination, IsAtHome}
 use Rattle.symmetry.specs.Sizes.{IsVectorWithin}
-use Rattle.symmetry.proofs.VectorLaws.{vector_path, dot-plus, dot-multiple}
+use Rattle.symmetry.proofs.VectorLaws.{dot-plus, dot-multiple, minus-minus, multiple-minus}
 use Rattle.symmetry.proofs.FrameLaws.{cramer, combination-minus, combination-multiple}
 use Rattle.motions.specs.declared.miller.TheConstants.{INDEX}
 use Rattle.plane_lattice.specs.Bounds.{largest_entry, largest_level, largest_home}
@@ -17,14 +17,6 @@ use Rattle.plane_lattice.specs.Coordinates.{volume, scaled, IsPlaneCombination}
 use Rattle.plane_lattice.specs.PlaneLattice.{whole_part, home_shift, home_motion}
 use Rattle.plane_lattice.specs.Laws.QuotientLaws.{div_euclid_from, div_euclid_below}
 use Rattle.plane_lattice.proofs.Sizes.{dot_within}
-
-minus-minus : (v w : Vector) → minus v (minus v w) ≡ w
-unfolding plus multiple
-minus-minus v w = vector_path (omega (arith, ints)) (omega (arith, ints)) (omega (arith, ints))
-
-multiple-minus : (k : ℤ) (v w : Vector) → multiple k (minus v w) ≡ minus (multiple k v) (multiple k w)
-unfolding plus multiple
-multiple-minus k v w = vector_path (simp spread (omega (arith, ints))) (simp spread (omega (arith, ints))) (simp spread (omega (arith, ints)))
 
 -- ---- the coordinates of the translation at home, times the volume
 
@@ -133,11 +125,8 @@ module _ (r : Vector) (f : Basis) (h : pos 1 ≤ℤ volume f) (a_flat : dot r f.
   -- the third coordinate is (hkl).w in periods
   third : dot r f.tau *ℤ (rest f v).z ≡ volume f *ℤ dot r v
   third =
-      swapped (dot r f.tau) (rest f v).z ∙ sym (flat_combination r f a_flat b_flat (rest f v)) ∙ ap (dot r) (combination-rest f v)
+      *ℤ_comm (dot r f.tau) (rest f v).z ∙ sym (flat_combination r f a_flat b_flat (rest f v)) ∙ ap (dot r) (combination-rest f v)
       ∙ dot-multiple r (volume f) (home_shift f v) ∙ ap (λ x. volume f *ℤ x) (home_level r f a_flat b_flat v)
-    where
-      swapped : (x y : ℤ) → x *ℤ y ≡ y *ℤ x
-      swapped x y = omega (arith, ints)
 
   third_within : IsWithin (nat_abs (volume f) * largest_level) (rest f v).z
   third_within =

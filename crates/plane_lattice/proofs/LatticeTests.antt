@@ -4,6 +4,7 @@ use Rattle.std.specs.Prelude.{Contains, unsigned_abs}
 use Rattle.std.specs.List.{All}
 use Rattle.std.proofs.lemmas.Int.{ints}
 use Rattle.std.proofs.lemmas.List.{get_or-map, length-map}
+use lib.IntN.{*ℤ_comm}
 use Rattle.fractions.specs.declared.part.Part.{Part}
 use Rattle.fractions.specs.declared.part.TheConstants.{UNIT}
 use Rattle.integers.specs.Size.{IsWithin}
@@ -26,11 +27,8 @@ whole_vector : (v : Vector) → IsWhole v → (k : Vector) × (multiple UNIT k �
 unfolding multiple
 whole_vector v h = (
   record { x = h.x.times; y = h.y.times; z = h.z.times },
-  vector_path (swapped UNIT h.x.times ∙ sym h.x.is) (swapped UNIT h.y.times ∙ sym h.y.is) (swapped UNIT h.z.times ∙ sym h.z.is),
+  vector_path (*ℤ_comm UNIT h.x.times ∙ sym h.x.is) (*ℤ_comm UNIT h.y.times ∙ sym h.y.is) (*ℤ_comm UNIT h.z.times ∙ sym h.z.is),
 )
-  where
-    swapped : (x y : ℤ) → x *ℤ y ≡ y *ℤ x
-    swapped x y = omega (arith, ints)
 
 module _ (f : Basis) (rs : List (List Part)) (edges : HoldsEdges f) (held : All (λ v. IsCombination f (parts v)) rs) where
   residue_held : (v : Vector) → Contains (map parts rs) v → IsCombination f v

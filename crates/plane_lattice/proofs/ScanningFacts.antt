@@ -4,6 +4,7 @@ use Rattle.std.specs.Prelude.{Contains}
 use Rattle.std.specs.List.{AllPairs, filter}
 use Rattle.std.proofs.lemmas.List.Kept.{AllPairs-filter}
 use Rattle.std.proofs.lemmas.List.{get_or_default}
+use Rattle.std.proofs.lemmas.Bool.{cases_order}
 use Rattle.symmetry.specs.Vectors.{Vector, row_times}
 use Rattle.symmetry.specs.Motions.{Motion, identity}
 use Rattle.symmetry.specs.Groups.{Listing, IsGroup, SameModulo}
@@ -47,14 +48,6 @@ module _ (p : Motion → Bool) where
       by true j l e = (suc j, omega arith, e)
       by false j l e = (j, l, e)
 
--- of two numbers one is less, or they are equal
-pub lt_trichotomy : (j k : ℕ) → (j < k) ⊎ ((j ≡ k) ⊎ (k < j))
-lt_trichotomy zero zero = inr (inl refl)
-lt_trichotomy zero (suc k) = inl (omega arith)
-lt_trichotomy (suc j) zero = inr (inr (omega arith))
-lt_trichotomy (suc j) (suc k) =
-    elim (lt_trichotomy j k) [ inl l ↦ inl (omega arith) | inr (inl e) ↦ inr (inl (ap suc e)) | inr (inr l) ↦ inr (inr (omega arith)) ]
-
 -- the motion with the matrix of one that keeps the orientation keeps it
 keeps_along : (r : Vector) (m n : Motion) → m.matrix ≡ n.matrix → KeepsOrientation r m → KeepsOrientation r n
 keeps_along r m n e (inl h) = inl (ap (row_times r) (sym e) ∙ h)
@@ -70,9 +63,9 @@ module _ (g : Listing) (r : Vector) (apart : AllPairs (λ m n. ¬ SameModulo g m
   only_one : (m : Motion) (j k : ℕ) → j < length ms → k < length ms → SameModulo g m (motion_at ms j) → SameModulo g m (motion_at ms k) → k ≡ j
   only_one m j k hj hk p q =
       let across : SameModulo g (motion_at ms j) (motion_at ms k) = same_trans g (motion_at ms j) m (motion_at ms k) (same_sym g m (motion_at ms j) p) q in
-      elim (lt_trichotomy j k) [
-        | inl l ↦ absurd (scanning_apart j k identity l hk across)
-        | inr (inl e) ↦ sym e
+      elim (cases_order j k) [
+        | inl e ↦ sym e
+        | inr (inl l) ↦ absurd (scanning_apart j k identity l hk across)
         | inr (inr l) ↦ absurd (scanning_apart k j identity l hj (same_sym g (motion_at ms j) (motion_at ms k) across))
       ]
 

@@ -17,9 +17,9 @@ use Rattle.symmetry.specs.Frames.{Basis, combination, IsFrame, IsSkewed, IsSpeci
 use Rattle.symmetry.specs.Sizes.{IsVectorWithin}
 use Rattle.symmetry.specs.Scans.{IsInPeriod}
 use Rattle.symmetry.proofs.Coprime.{not_opposite}
-use Rattle.symmetry.proofs.FrameLaws.{lattice_periods, plane_lattice, combination-minus, combination-multiple}
+use Rattle.symmetry.proofs.FrameLaws.{lattice_periods, plane_lattice, combination-minus, combination-multiple, combination-plus}
 use Rattle.symmetry.proofs.GroupLaws.{member_keeps}
-use Rattle.symmetry.proofs.LatticeLaws.{lattice-plus, lattice-minus}
+use Rattle.symmetry.proofs.LatticeLaws.{lattice-plus, lattice-minus, lattice-multiple}
 use Rattle.symmetry.proofs.MatrixLaws.{row_times-dot}
 use Rattle.symmetry.proofs.PlaneRows.{plane_by_row, member_invertible, special_by_row}
 use Rattle.symmetry.proofs.VectorLaws.{vector_path, dot-plus, dot-multiple, multiple-dot, multiple-multiple, multiple-one}
@@ -31,10 +31,9 @@ use Rattle.motions.specs.declared.motion.Sign.{Sign}
 use Rattle.motions.specs.declared.motion.Sign.TheVariants.{Plus, Minus}
 use Rattle.plane_lattice.specs.Coordinates.{IsPlaneCombination}
 use Rattle.plane_lattice.specs.FrameTests.{PassesFrameTests}
-use Rattle.plane_lattice.specs.Laws.QuotientLaws.{combination-plus}
 use Rattle.plane_lattice.specs.Sections.{IsSeenAs, columns, drift, flat, height_in_steps, in_cell, largest_drift, point_at}
 use Rattle.plane_lattice.proofs.Edges.{whole_edges}
-use Rattle.plane_lattice.proofs.FrameTestFacts.{frame_passes_tests, lattice-multiple}
+use Rattle.plane_lattice.proofs.FrameTestFacts.{frame_passes_tests}
 use Rattle.plane_lattice.proofs.LatticeTests.{edges_held}
 use Rattle.plane_lattice.proofs.Oriented.{positive_factor}
 use Rattle.plane_lattice.proofs.SeenPoints.{moved_along}

@@ -11,7 +11,7 @@ use Rattle.symmetry.specs.Motions.{Motion, Point, moved}
 use Rattle.symmetry.specs.Groups.{Listing}
 use Rattle.symmetry.specs.Frames.{Basis, combination, DiffersInPlane, IsFrame}
 use Rattle.symmetry.specs.Lists.{ListsInPlane, motion_at}
-use Rattle.symmetry.proofs.FrameLaws.{cramer, plane_lattice, combination-multiple}
+use Rattle.symmetry.proofs.FrameLaws.{cramer, plane_lattice, combination-multiple, combination-plus}
 use Rattle.symmetry.proofs.MatrixLaws.{image-multiple, image-plus, matrix_path}
 use Rattle.symmetry.proofs.MotionLaws.{motion_path}
 use Rattle.symmetry.proofs.PlaneLattice.{differs_refl, differs_sym}
@@ -25,7 +25,6 @@ use Rattle.motions.specs.PlaneViews.{matrix2_of, pair_of}
 use Rattle.motions.specs.Rationals.{DifferByWhole, InSection, IsWhole, RationalMotion, SameRationals, in_edges, rational_minus, rational_of}
 use Rattle.motions.specs.Signs.{sign_value}
 use Rattle.plane_lattice.specs.Coordinates.{scaled, volume}
-use Rattle.plane_lattice.specs.Laws.QuotientLaws.{combination-plus}
 use Rattle.plane_lattice.specs.Sections.{AreSeenAs, IsSeenAs, IsSeenFrom, flat}
 use Rattle.plane_lattice.proofs.Cramer.{multiple_cancel}
 use Rattle.plane_lattice.proofs.FrameTestFacts.{volume_positive}

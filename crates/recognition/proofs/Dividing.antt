@@ -4,14 +4,13 @@ use Rattle.std.specs.Int.{int_rem_euclid}
 use Rattle.std.specs.Prelude.{unsigned_abs, MatchOption, Option, None, Some}
 use Rattle.std.proofs.lemmas.Int.{ints}
 use Rattle.std.proofs.Math.Nat.{mul-le-mul_left}
-use Rattle.integers.proofs.Order.{mul-le-mul_right}
+use Rattle.integers.proofs.Order.{mul-le-mul_right, mul_left_cancel_pos}
 use Rattle.integers.proofs.Solver.{Expr.{var, num, neg, ◌⊕◌, ◌⊝◌, ◌⊗◌}, given, linear}
 use Rattle.recognition.specs.Grid.{grid}
 use Rattle.recognition.specs.declared.classes.Class.{Class}
 use Rattle.motions.specs.Rationals.{IsMultiple}
 use Rattle.recognition.specs.Classes.{InClass, Leaves, Solves}
 use Rattle.recognition.proofs.Multiples.{to_rest}
-use Rattle.recognition.proofs.Whole.{cancel}
 
 -- ---- what the factor times y has to leave
 
@@ -81,7 +80,7 @@ module _ (s l rest : ℕ) (some : 1 ≤ s) (below : rest < grid) (divides : grid
 
     step : (v : ℕ) (y : ℤ) → pos s *ℤ pos v -ℤ pos rest ≡ pos grid *ℤ y → pos v ≡ pos q +ℤ y *ℤ pos l
     step v y e =
-        cancel (pos s) (pos v) (pos q +ℤ y *ℤ pos l) one_positive
+        mul_left_cancel_pos (pos s) (pos v) (pos q +ℤ y *ℤ pos l) one_positive
         (linear (pos s ∷ pos v ∷ pos rest ∷ pos grid ∷ y ∷ pos q ∷ pos l ∷ []) (var 0 ⊗ var 1) (var 0 ⊗ (var 5 ⊕ var 4 ⊗ var 6))
         (given (num (pos 1)) (var 0 ⊗ var 1 ⊝ var 2) (var 3 ⊗ var 4) ∷ given (num (pos 1)) (var 2) (var 0 ⊗ var 5) ∷ given (var 4) (var 3) (var 0 ⊗ var 6) ∷ [])
         tt (e, (rest_is, (parts, tt))))

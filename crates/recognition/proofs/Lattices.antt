@@ -8,7 +8,8 @@ use Rattle.recognition.specs.Changes.{rational_image}
 use Rattle.recognition.specs.Listed.{IsUnit, IsInLattice, TakesLattice, KeepsCentring, half}
 use Rattle.integers.proofs.Spread.{spread, numerals_out}
 use Rattle.integers.proofs.Ring.{mul_assoc}
-use Rattle.recognition.proofs.Whole.{unit_factor, cancel}
+use Rattle.integers.proofs.Order.{mul_left_cancel_pos}
+use Rattle.recognition.proofs.Whole.{unit_factor}
 
 pub matrix_path : (m n : Matrix2) → m.first.x ≡ n.first.x → m.first.y ≡ n.first.y → m.second.x ≡ n.second.x → m.second.y ≡ n.second.y → m ≡ n
 matrix_path m n a b c d = λ i. record { first = record { x = a i; y = b i }; second = record { x = c i; y = d i } }
@@ -71,7 +72,7 @@ half_row : (p q a d x y : ℤ) → p +ℤ q ≡ pos 2 *ℤ a → IsMultiple (d *
     → IsMultiple (d *ℤ pos 2) (y *ℤ pos 2 -ℤ pos 1 *ℤ d) → IsMultiple d (p *ℤ x +ℤ q *ℤ y)
 half_row p q a d x y h (k, e) (l, f) = (
   p *ℤ k +ℤ q *ℤ l +ℤ a,
-  cancel (pos 2) (p *ℤ x +ℤ q *ℤ y) (d *ℤ (p *ℤ k +ℤ q *ℤ l +ℤ a)) (omega (arith, ints))
+  mul_left_cancel_pos (pos 2) (p *ℤ x +ℤ q *ℤ y) (d *ℤ (p *ℤ k +ℤ q *ℤ l +ℤ a)) (omega (arith, ints))
       (grouped p q d x y ∙ (λ i. p *ℤ e i +ℤ q *ℤ f i +ℤ d *ℤ h i) ∙ regrouped p q a d k l),
 )
   where
@@ -108,13 +109,10 @@ in_centred x y =
     ]
 
 same_row : (p q x y d v k : ℤ) → v ≡ d *ℤ k → p *ℤ x +ℤ q *ℤ y ≡ k → v *ℤ pos 1 ≡ (p *ℤ x +ℤ q *ℤ y) *ℤ d
-same_row p q x y d v k e f = one_times v ∙ e ∙ ap (λ z. d *ℤ z) (sym f) ∙ swapped d (p *ℤ x +ℤ q *ℤ y)
+same_row p q x y d v k e f = one_times v ∙ e ∙ ap (λ z. d *ℤ z) (sym f) ∙ *ℤ_comm d (p *ℤ x +ℤ q *ℤ y)
   where
     one_times : (v : ℤ) → v *ℤ pos 1 ≡ v
     one_times v = omega (arith, ints)
-
-    swapped : (d z : ℤ) → d *ℤ z ≡ z *ℤ d
-    swapped d z = omega (arith, ints)
 
 same_half_row : (p q a x y d v k : ℤ) → p +ℤ q ≡ pos 2 *ℤ a → v ≡ d *ℤ k → a *ℤ x +ℤ q *ℤ y ≡ k
     → v *ℤ pos 2 ≡ (p *ℤ x +ℤ q *ℤ (x +ℤ pos 2 *ℤ y)) *ℤ d
@@ -158,13 +156,10 @@ lattice_every false p h v w =
 -- a whole column goes to what its rational form says
 whole_to : (p q x y d k l g : ℤ) → pos 1 ≤ℤ d → x ≡ d *ℤ k → y ≡ d *ℤ l → g *ℤ d ≡ (p *ℤ x +ℤ q *ℤ y) *ℤ pos 1 → p *ℤ k +ℤ q *ℤ l ≡ g
 whole_to p q x y d k l g h e f s =
-    cancel d (p *ℤ k +ℤ q *ℤ l) g h (grouped p q d k l ∙ sym (λ i. (p *ℤ e i +ℤ q *ℤ f i) *ℤ pos 1) ∙ sym s ∙ swapped g d)
+    mul_left_cancel_pos d (p *ℤ k +ℤ q *ℤ l) g h (grouped p q d k l ∙ sym (λ i. (p *ℤ e i +ℤ q *ℤ f i) *ℤ pos 1) ∙ sym s ∙ *ℤ_comm g d)
   where
     grouped : (p q d k l : ℤ) → d *ℤ (p *ℤ k +ℤ q *ℤ l) ≡ (p *ℤ (d *ℤ k) +ℤ q *ℤ (d *ℤ l)) *ℤ pos 1
     grouped p q d k l = simp spread (simp numerals_out (omega (arith, ints)))
-
-    swapped : (d z : ℤ) → d *ℤ z ≡ z *ℤ d
-    swapped d z = omega (arith, ints)
 
 -- a member of the centred lattice is x (1/2, 1/2) + y (0, 1)
 record ByHalves (u : RationalPair) : Type 0 where
@@ -206,8 +201,8 @@ by_halves u (inr (t, w)) = record {
 half_to : (p q a x y d k l g : ℤ) → pos 1 ≤ℤ d → p +ℤ q ≡ pos 2 *ℤ a → x *ℤ pos 2 ≡ d *ℤ k → y *ℤ pos 2 ≡ d *ℤ (k +ℤ pos 2 *ℤ l)
     → g *ℤ d ≡ (p *ℤ x +ℤ q *ℤ y) *ℤ pos 1 → a *ℤ k +ℤ q *ℤ l ≡ g
 half_to p q a x y d k l g hd h e f s =
-    cancel (pos 2) (a *ℤ k +ℤ q *ℤ l) g (omega (arith, ints))
-    (cancel d (pos 2 *ℤ (a *ℤ k +ℤ q *ℤ l)) (pos 2 *ℤ g) hd
+    mul_left_cancel_pos (pos 2) (a *ℤ k +ℤ q *ℤ l) g (omega (arith, ints))
+    (mul_left_cancel_pos d (pos 2 *ℤ (a *ℤ k +ℤ q *ℤ l)) (pos 2 *ℤ g) hd
     (one q a d k l ∙ ap (λ z. d *ℤ (z *ℤ k +ℤ q *ℤ (pos 2 *ℤ l))) (sym h) ∙ two p q d k l ∙ sym (λ i. p *ℤ e i +ℤ q *ℤ f i) ∙ three p q x y ∙ ap (λ z. pos 2 *ℤ z) (sym s) ∙ four g d))
   where
     one : (q a d k l : ℤ) → d *ℤ (pos 2 *ℤ (a *ℤ k +ℤ q *ℤ l)) ≡ d *ℤ ((pos 2 *ℤ a) *ℤ k +ℤ q *ℤ (pos 2 *ℤ l))
@@ -319,7 +314,7 @@ same_rows c p h x y u v e f =
     zero_row : (c : Bool) (p : Matrix2) → TakesLattice c p → (x y : ℤ) → x *ℤ p.first.x +ℤ y *ℤ p.second.x ≡ pos 0 → x *ℤ p.first.y +ℤ y *ℤ p.second.y ≡ pos 0 → (x ≡ pos 0) × (y ≡ pos 0)
     zero_row true p h x y e f =
         no_row h.a p.first.y h.b p.second.y x y h.unit
-        (cancel (pos 2) (x *ℤ h.a +ℤ y *ℤ h.b) (pos 0) (omega (arith, ints))
+        (mul_left_cancel_pos (pos 2) (x *ℤ h.a +ℤ y *ℤ h.b) (pos 0) (omega (arith, ints))
         (one x y h.a h.b ∙ sym (λ i. x *ℤ h.first i +ℤ y *ℤ h.second i) ∙ two x y p.first.x p.first.y p.second.x p.second.y ∙ (λ i. e i +ℤ f i)))
         f
     zero_row false p h x y e f = no_row p.first.x p.first.y p.second.x p.second.y x y h e f

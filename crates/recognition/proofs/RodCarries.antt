@@ -3,6 +3,7 @@ use Rattle.std.proofs.Common.{◌≡◌, ℕ, ℤ, pos, ◌+ℤ◌, ◌-ℤ◌, 
 use Rattle.std.specs.Prelude.{Any, Contains}
 use Rattle.std.proofs.lemmas.Int.{ints}
 use Rattle.std.proofs.lemmas.List.Elements.{All-contains, All-contains_itself}
+use lib.IntN.{*ℤ_comm}
 use Rattle.fractions.specs.declared.part.TheConstants.{UNIT}
 use Rattle.fractions.specs.Fraction.{Fraction}
 use Rattle.integers.proofs.Order.{one-le-mul}
@@ -130,7 +131,7 @@ module _ (section ops : List RodMotion) (p : Matrix2) (z : ℕ) where
       let (k, m, within, is, pair) = All-contains HasSource ops n fits.back h.listed in
       let columns : multiple2 like.over (product2 op.matrix p) ≡ multiple2 like.over (product2 (multiple2 op.over (rod_of m).matrix) p) =
       c.matrix ∙ ap (λ a. multiple2 op.over (product2 p a)) h.matrix ∙ ap (multiple2 op.over) (product2-multiple2 like.over p (rod_of n).matrix ∙ ap (multiple2 like.over) (sym pair.like.matrix))
-      ∙ multiple2-multiple2 op.over like.over (product2 (rod_of m).matrix p) ∙ ap (λ x. multiple2 x (product2 (rod_of m).matrix p)) (swapped op.over like.over)
+      ∙ multiple2-multiple2 op.over like.over (product2 (rod_of m).matrix p) ∙ ap (λ x. multiple2 x (product2 (rod_of m).matrix p)) (*ℤ_comm op.over like.over)
       ∙ sym (multiple2-multiple2 like.over op.over (product2 (rod_of m).matrix p))
       ∙ ap (multiple2 like.over) (sym (multiple2-product2 op.over (rod_of m).matrix p)) in
       let along = c.along ∙ h.along ∙ sym pair.like.along in
@@ -142,9 +143,6 @@ module _ (section ops : List RodMotion) (p : Matrix2) (z : ℕ) where
         along = along;
         shift = listed_shift p z (rod_of m) (rod_of n) op.shift like.shift op.along along high.1 h.shift pair.close c.shift;
       }
-    where
-      swapped : (a b : ℤ) → a *ℤ b ≡ b *ℤ a
-      swapped a b = ring (a ∷ b ∷ []) (var 0 ⊗ var 1) (var 1 ⊗ var 0) tt
 
   pub fits_carries : Fits section ops p z → Carries section ops p z
   fits_carries fits = record { crossed = fits.crossed; operations = λ op rational. (to_type fits op, to_section fits op rational) }

@@ -4,19 +4,14 @@ use Rattle.std.specs.Prelude.{All, Any}
 use Rattle.integers.proofs.Ring.{mul_left_cancel}
 use Rattle.integers.proofs.Solver.{Expr.{var, neg, ◌⊕◌, ◌⊝◌, ◌⊗◌}, ring, linear, given}
 use Rattle.motions.specs.declared.rod.RodMotion.{RodMotion}
-use Rattle.motions.specs.PlaneMatrices.{Matrix2, product2, determinant2}
+use Rattle.motions.specs.PlaneMatrices.{Matrix2, determinant2}
 use Rattle.motions.specs.RodMotions.{RodOperation, rod_of}
+use Rattle.motions.proofs.PlaneCofactors.{determinant2-product}
 use Rattle.recognition.specs.RodChanges.{Carries}
 use Rattle.recognition.specs.RodKinds.{IsKin, trace2}
 use Rattle.recognition.specs.RodSearch.{IsOfNoMatrix}
 use Rattle.recognition.specs.RodTests.{IsLike}
 use Rattle.recognition.proofs.RodCarries.{carries_fits}
-
-determinant2-product2 : (m n : Matrix2) → determinant2 (product2 m n) ≡ determinant2 m *ℤ determinant2 n
-determinant2-product2 m n =
-    ring (m.first.x ∷ m.first.y ∷ m.second.x ∷ m.second.y ∷ n.first.x ∷ n.first.y ∷ n.second.x ∷ n.second.y ∷ [])
-    ((var 0 ⊗ var 4 ⊕ var 1 ⊗ var 6) ⊗ (var 2 ⊗ var 5 ⊕ var 3 ⊗ var 7) ⊝ (var 0 ⊗ var 5 ⊕ var 1 ⊗ var 7) ⊗ (var 2 ⊗ var 4 ⊕ var 3 ⊗ var 6))
-    ((var 0 ⊗ var 3 ⊝ var 1 ⊗ var 2) ⊗ (var 4 ⊗ var 7 ⊝ var 5 ⊗ var 6)) tt
 
 same_trace : (a b c d p q r s k l m n : ℤ)
     → a *ℤ p +ℤ b *ℤ r ≡ p *ℤ k +ℤ q *ℤ m → a *ℤ q +ℤ b *ℤ s ≡ p *ℤ l +ℤ q *ℤ n
@@ -42,7 +37,7 @@ kin_of_like p m n crossed like =
           (same_trace a.first.x a.first.y a.second.x a.second.y p.first.x p.first.y p.second.x p.second.y b.first.x b.first.y b.second.x b.second.y
           (λ i. (e i).first.x) (λ i. (e i).first.y) (λ i. (e i).second.x) (λ i. (e i).second.y));
       determinant = mul_left_cancel (determinant2 p) (determinant2 a) (determinant2 b) crossed
-          (commuted (determinant2 p) (determinant2 a) ∙ sym (determinant2-product2 a p) ∙ ap determinant2 e ∙ determinant2-product2 p b);
+          (commuted (determinant2 p) (determinant2 a) ∙ sym (determinant2-product a p) ∙ ap determinant2 e ∙ determinant2-product p b);
     }
   where
     commuted : (x y : ℤ) → x *ℤ y ≡ y *ℤ x

@@ -3,6 +3,7 @@ use Rattle.std.proofs.Common.{◌≡◌, ℕ, ◌<◌, ℤ, pos, negsuc, ◌+ℤ
 use Rattle.std.proofs.lemmas.Int.{ints}
 use Rattle.std.proofs.lemmas.List.{get_or_default}
 use Rattle.integers.proofs.Solver.{Expr.{var, num, ◌⊕◌, ◌⊝◌, ◌⊗◌}, given, linear}
+use Rattle.integers.proofs.Order.{mul_left_cancel_pos}
 use Rattle.motions.specs.declared.layer.LayerMotion.{LayerMotion}
 use Rattle.motions.specs.PlaneMatrices.{Matrix2, dot2}
 use Rattle.motions.specs.PlaneViews.{matrix2_of, pair_of}
@@ -14,7 +15,6 @@ use Rattle.recognition.specs.Listed.{Fits, IsPaired, IsReady}
 use Rattle.recognition.proofs.Lattices.{same_matrix}
 use Rattle.recognition.proofs.Lists.{item_at, not_more}
 use Rattle.recognition.proofs.Unique.{same_right}
-use Rattle.recognition.proofs.Whole.{cancel}
 
 -- translations that agree with one translation differ by whole edges
 whole_apart : (s s' i u a b a' b' x y k k' : ℤ) → a ≡ a' → b ≡ b'
@@ -22,7 +22,7 @@ whole_apart : (s s' i u a b a' b' x y k k' : ℤ) → a ≡ a' → b ≡ b'
     → pos 6 *ℤ (s' -ℤ i) -ℤ (u -ℤ (a' *ℤ x +ℤ b' *ℤ y)) ≡ pos grid *ℤ k'
     → s -ℤ s' ≡ edge *ℤ (k -ℤ k')
 whole_apart s s' i u a b a' b' x y k k' ea eb e e' =
-    cancel (pos 6) (s -ℤ s') (edge *ℤ (k -ℤ k')) (omega (arith, ints))
+    mul_left_cancel_pos (pos 6) (s -ℤ s') (edge *ℤ (k -ℤ k')) (omega (arith, ints))
     (linear (s ∷ s' ∷ i ∷ u ∷ a ∷ b ∷ a' ∷ b' ∷ x ∷ y ∷ k ∷ k' ∷ []) (num (pos 6) ⊗ (var 0 ⊝ var 1)) (num (pos 6) ⊗ (num edge ⊗ (var 10 ⊝ var 11)))
     (given (num (pos 1)) (num (pos 6) ⊗ (var 0 ⊝ var 2) ⊝ (var 3 ⊝ (var 4 ⊗ var 8 ⊕ var 5 ⊗ var 9))) (num (pos grid) ⊗ var 10)
     ∷ given (num (negsuc 0)) (num (pos 6) ⊗ (var 1 ⊝ var 2) ⊝ (var 3 ⊝ (var 6 ⊗ var 8 ⊕ var 7 ⊗ var 9))) (num (pos grid) ⊗ var 11)

@@ -2,6 +2,7 @@
 use Rattle.std.proofs.Common.{◌≡◌, ◌↔◌, ℕ, Bool, ℤ, pos, ◌+ℤ◌, ◌-ℤ◌, ◌*ℤ◌, ◌≤ℤ◌, inl, inr, refl, sym, ap, subst, ◌∙◌, arith, List, [], ◌∷◌, map}
 use Rattle.std.proofs.lemmas.Int.{ints}
 use Rattle.integers.proofs.Solver.{Expr.{var, num, ◌⊕◌, ◌⊝◌, ◌⊗◌}, given, linear}
+use Rattle.integers.proofs.Order.{mul_left_cancel_pos}
 use Rattle.quotient.specs.Closure.{IsClosure, IsProduct}
 use Rattle.motions.specs.declared.layer.LayerMotion.{LayerMotion}
 use Rattle.motions.specs.PlaneMatrices.{Matrix2, Pair, minus2, plus2}
@@ -18,7 +19,6 @@ use Rattle.recognition.specs.Changes.{Carries, IsLatticeVector, IsOperation}
 use Rattle.recognition.specs.Order.{origin_at}
 use Rattle.recognition.specs.Listed.{CarriesListed, IsInLattice}
 use Rattle.recognition.proofs.Lists.{Contains-map, Contains-from_map}
-use Rattle.recognition.proofs.Whole.{cancel}
 
 -- ---- vectors of a lattice
 
@@ -28,7 +28,7 @@ whole_same x d k e h = linear (x ∷ d ∷ k ∷ e ∷ []) (var 0 ⊗ var 3) ((v
 
 same_whole : (x d v a e : ℤ) → pos 1 ≤ℤ e → x *ℤ e ≡ v *ℤ d → v ≡ e *ℤ a → x ≡ d *ℤ a
 same_whole x d v a e one h k =
-    cancel e x (d *ℤ a) one
+    mul_left_cancel_pos e x (d *ℤ a) one
     (linear (x ∷ d ∷ v ∷ a ∷ e ∷ []) (var 4 ⊗ var 0) (var 4 ⊗ (var 1 ⊗ var 3))
     (given (num (pos 1)) (var 0 ⊗ var 4) (var 2 ⊗ var 1) ∷ given (var 1) (var 2) (var 4 ⊗ var 3) ∷ []) tt (h, (k, tt)))
 
@@ -40,7 +40,7 @@ half_same x d k h e =
 
 same_half : (x d v a h : ℤ) → pos 1 ≤ℤ h → x *ℤ (pos 2 *ℤ h) ≡ v *ℤ d → v -ℤ h ≡ (pos 2 *ℤ h) *ℤ a → x *ℤ pos 2 -ℤ pos 1 *ℤ d ≡ (d *ℤ pos 2) *ℤ a
 same_half x d v a h one e k =
-    cancel h (x *ℤ pos 2 -ℤ pos 1 *ℤ d) ((d *ℤ pos 2) *ℤ a) one
+    mul_left_cancel_pos h (x *ℤ pos 2 -ℤ pos 1 *ℤ d) ((d *ℤ pos 2) *ℤ a) one
     (linear (x ∷ d ∷ v ∷ a ∷ h ∷ []) (var 4 ⊗ (var 0 ⊗ num (pos 2) ⊝ num (pos 1) ⊗ var 1)) (var 4 ⊗ ((var 1 ⊗ num (pos 2)) ⊗ var 3))
     (given (num (pos 1)) (var 0 ⊗ (num (pos 2) ⊗ var 4)) (var 2 ⊗ var 1) ∷ given (var 1) (var 2 ⊝ var 4) ((num (pos 2) ⊗ var 4) ⊗ var 3) ∷ []) tt (e, (k, tt)))
 
@@ -85,7 +85,7 @@ module _ (c : Bool) (generators : List PlanarMotion) (ops : List LayerMotion) (c
 
   together : (s o m v e : ℤ) → pos 1 ≤ℤ e → (s *ℤ e -ℤ m *ℤ o) *ℤ e ≡ v *ℤ (o *ℤ e) → s *ℤ e ≡ (m +ℤ v) *ℤ o
   together s o m v e one h =
-      cancel e (s *ℤ e) ((m +ℤ v) *ℤ o) one
+      mul_left_cancel_pos e (s *ℤ e) ((m +ℤ v) *ℤ o) one
       (linear (s ∷ o ∷ m ∷ v ∷ e ∷ []) (var 4 ⊗ (var 0 ⊗ var 4)) (var 4 ⊗ ((var 2 ⊕ var 3) ⊗ var 1))
       (given (num (pos 1)) ((var 0 ⊗ var 4 ⊝ var 2 ⊗ var 1) ⊗ var 4) (var 3 ⊗ (var 1 ⊗ var 4)) ∷ []) tt (h, tt))
 

@@ -9,7 +9,7 @@ use Rattle.motions.specs.PlaneMatrices.{Matrix2, determinant2, product2}
 use Rattle.recognition.specs.Listed.{Agrees, TakesLattice, IsLike, IsPaired, Fits, AreDistinct}
 use Rattle.integers.proofs.Spread.{spread}
 use Rattle.integers.proofs.Ring.{mul_assoc}
-use Rattle.recognition.proofs.Whole.{cancel}
+use Rattle.integers.proofs.Order.{mul_left_cancel_pos}
 use Rattle.recognition.proofs.Determinants.{half_determinant}
 use Rattle.recognition.proofs.Lattices.{matrix_path, by_unit}
 
@@ -17,7 +17,7 @@ zero_by_lattice : (c : Bool) (p : Matrix2) → TakesLattice c p → (x : ℤ) �
 zero_by_lattice true p h x e =
     let z = h.a *ℤ p.second.y -ℤ p.first.y *ℤ h.b in
     by_unit z x h.unit
-    (cancel (pos 2) (z *ℤ x) (pos 0) (omega (arith, ints))
+    (mul_left_cancel_pos (pos 2) (z *ℤ x) (pos 0) (omega (arith, ints))
     (sym (mul_assoc (pos 2) z x) ∙ ap (λ d. d *ℤ x) (sym (half_determinant p.first.x p.first.y p.second.x p.second.y h.a h.b h.first h.second)) ∙ e))
 zero_by_lattice false p h x e = by_unit (determinant2 p) x h e
 

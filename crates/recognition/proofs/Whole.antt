@@ -5,6 +5,7 @@ use lib.IntN.{nat_abs}
 use Rattle.motions.specs.Rationals.{IsMultiple}
 use Rattle.recognition.specs.Listed.{IsUnit}
 use Rattle.integers.proofs.Spread.{spread}
+use Rattle.integers.proofs.Order.{mul_left_cancel_pos, one-le-mul}
 
 -- a product that is 0 has a factor 0
 pub zero_factor : (a b : ℤ) → pos 1 ≤ℤ a → a *ℤ b ≡ pos 0 → b ≡ pos 0
@@ -28,18 +29,6 @@ unit_factor (pos (suc a)) (negsuc b) e = absurd (omega (arith, ints))
 unit_factor (negsuc a) (pos b) e = absurd (omega (arith, ints))
 unit_factor (negsuc a) (negsuc b) e = inr (ap negsuc (omega (arith, one_factor (suc a) (suc b) (ap nat_abs e))))
 
--- a factor that is not 0 may go
-pub cancel : (c a b : ℤ) → pos 1 ≤ℤ c → c *ℤ a ≡ c *ℤ b → a ≡ b
-cancel c a b h e =
-    let z : a -ℤ b ≡ pos 0 = zero_factor c (a -ℤ b) h (simp spread (omega (arith, ints, e))) in omega (arith, ints)
-
-pub times_positive : (a b : ℤ) → pos 1 ≤ℤ a → pos 1 ≤ℤ b → pos 1 ≤ℤ (a *ℤ b)
-times_positive (pos (suc a)) (pos (suc b)) h k = omega (arith, ints)
-times_positive (pos zero) b h k = absurd (omega (arith, ints))
-times_positive (negsuc a) b h k = absurd (omega (arith, ints))
-times_positive (pos (suc a)) (pos zero) h k = absurd (omega (arith, ints))
-times_positive (pos (suc a)) (negsuc b) h k = absurd (omega (arith, ints))
-
 -- t over d is s over c, up to a whole number; p over d' is q over c, up to a whole number;
 -- then t/d - p/d' - w/(g c) is whole where s/c - q/c - w/(g c) is
 module _ (g c d d' s t p q w : ℤ) (c_positive : pos 1 ≤ℤ c) where
@@ -56,7 +45,7 @@ module _ (g c d d' s t p q w : ℤ) (c_positive : pos 1 ≤ℤ c) where
       → IsMultiple ((d *ℤ d') *ℤ (g *ℤ c)) whole_rest
   forth (i, a) (j, b) (k, e) = (
     i +ℤ j -ℤ k,
-    cancel c whole_rest (((d *ℤ d') *ℤ (g *ℤ c)) *ℤ (i +ℤ j -ℤ k)) c_positive
+    mul_left_cancel_pos c whole_rest (((d *ℤ d') *ℤ (g *ℤ c)) *ℤ (i +ℤ j -ℤ k)) c_positive
         (sum ∙ (λ z. a z *ℤ (g *ℤ c *ℤ d') +ℤ b z *ℤ (c *ℤ d *ℤ d') -ℤ e z *ℤ (g *ℤ c *ℤ d)) ∙ combined c d d' g i j k),
   )
     where
@@ -69,7 +58,7 @@ module _ (g c d d' s t p q w : ℤ) (c_positive : pos 1 ≤ℤ c) where
       → IsMultiple ((d *ℤ d') *ℤ (g *ℤ c)) whole_rest → IsMultiple (g *ℤ c) rest
   back hd hd' (i, a) (k, e) (l, f) = (
     l -ℤ i +ℤ k,
-    cancel (c *ℤ d *ℤ d') rest ((g *ℤ c) *ℤ (l -ℤ i +ℤ k)) (times_positive (c *ℤ d) d' (times_positive c d c_positive hd) hd')
+    mul_left_cancel_pos (c *ℤ d *ℤ d') rest ((g *ℤ c) *ℤ (l -ℤ i +ℤ k)) (one-le-mul (c *ℤ d) d' (one-le-mul c d c_positive hd) hd')
         (solved c d d' g rest (t *ℤ c -ℤ s *ℤ d) (p *ℤ c -ℤ q *ℤ d') whole_rest i k l sum a e f),
   )
     where
@@ -86,7 +75,7 @@ module _ (g c d d' s t p q w : ℤ) (c_positive : pos 1 ≤ℤ c) where
       → IsMultiple ((d *ℤ d') *ℤ (g *ℤ c)) whole_rest → IsMultiple (d *ℤ c) (t *ℤ c -ℤ s *ℤ d)
   first hg hd' (j, b) (k, e) (l, f) = (
     l -ℤ j +ℤ k,
-    cancel (g *ℤ c *ℤ d') (t *ℤ c -ℤ s *ℤ d) ((d *ℤ c) *ℤ (l -ℤ j +ℤ k)) (times_positive (g *ℤ c) d' (times_positive g c hg c_positive) hd')
+    mul_left_cancel_pos (g *ℤ c *ℤ d') (t *ℤ c -ℤ s *ℤ d) ((d *ℤ c) *ℤ (l -ℤ j +ℤ k)) (one-le-mul (g *ℤ c) d' (one-le-mul g c hg c_positive) hd')
         (solved c d d' g rest (t *ℤ c -ℤ s *ℤ d) (p *ℤ c -ℤ q *ℤ d') whole_rest j k l sum b e f),
   )
     where

@@ -1,6 +1,7 @@
 -- The first basis, of which two vectors are replaced twice, has two vectors in the plane and one above it.
 use Rattle.std.proofs.Common.{◌≡◌, zero, suc, ℤ, pos, negsuc, ◌≤ℤ◌, ◌<ℤ◌, ◌+ℤ◌, ◌-ℤ◌, ◌*ℤ◌, refl, sym, ap, subst, ◌∙◌, lit<, arith}
 use Rattle.std.proofs.lemmas.Int.{ints}
+use lib.IntN.{*ℤ_comm}
 use Rattle.integers.specs.Size.{IsWithin}
 use Rattle.integers.proofs.Coded.{again, again_is}
 use Rattle.fractions.specs.declared.part.TheConstants.{UNIT}
@@ -25,15 +26,12 @@ dot-combination r f c =
     dot-plus r (plus (multiple c.x f.a) (multiple c.y f.b)) (multiple c.z f.tau)
     ∙ (λ i. (dot-plus r (multiple c.x f.a) (multiple c.y f.b) ∙ (λ j. dot-multiple r c.x f.a j +ℤ dot-multiple r c.y f.b j)) i +ℤ dot-multiple r c.z f.tau i)
 
-swapped : (x y : ℤ) → x *ℤ y ≡ y *ℤ x
-swapped x y = omega (arith, ints)
-
 whole_multiple : (u : Vector) → IsWhole (multiple UNIT u)
 unfolding multiple
 whole_multiple u = record {
-  x = record { times = u.x; is = swapped UNIT u.x };
-  y = record { times = u.y; is = swapped UNIT u.y };
-  z = record { times = u.z; is = swapped UNIT u.z };
+  x = record { times = u.x; is = *ℤ_comm UNIT u.x };
+  y = record { times = u.y; is = *ℤ_comm UNIT u.y };
+  z = record { times = u.z; is = *ℤ_comm UNIT u.z };
 }
 
 -- not every vector of the lattice lies in the plane

@@ -4,9 +4,8 @@ use Rattle.std.proofs.lemmas.Int.{ints}
 use Rattle.integers.proofs.Solver.{Expr.{var, num, ◌⊕◌, ◌⊝◌, ◌⊗◌}, linear, given, ring}
 use Rattle.symmetry.specs.Vectors.{Vector, plus, multiple, dot}
 use Rattle.symmetry.specs.Groups.{Listing, IsInLattice}
-use Rattle.symmetry.proofs.LatticeLaws.{lattice-plus}
+use Rattle.symmetry.proofs.LatticeLaws.{lattice-plus, lattice-multiple}
 use Rattle.symmetry.proofs.VectorLaws.{vector_path, dot-plus, dot-multiple}
-use Rattle.closure.proofs.Spans.{lattice-multiple}
 use Rattle.reduction.specs.LatticeBases.{IsLatticeBasis, combined}
 
 pub combined_in : (g : Listing) (x y : ℤ) (u v : Vector) → IsInLattice g u → IsInLattice g v → IsInLattice g (combined x u y v)

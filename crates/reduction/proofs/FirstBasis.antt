@@ -12,12 +12,11 @@ use Rattle.fractions.specs.declared.part.TheConstants.{UNIT}
 use Rattle.symmetry.specs.Vectors.{Vector, origin, plus, minus, multiple}
 use Rattle.symmetry.specs.Groups.{Listing, IsInLattice}
 use Rattle.symmetry.specs.Frames.{combination}
-use Rattle.symmetry.proofs.LatticeLaws.{lattice-minus}
+use Rattle.symmetry.proofs.LatticeLaws.{lattice-minus, lattice-multiple}
 use Rattle.symmetry.proofs.VectorLaws.{vector_path}
 use Rattle.motions.specs.Views.{parts}
 use Rattle.closure.specs.Residues.{residue}
-use Rattle.closure.specs.Laws.Remainders.{divided}
-use Rattle.closure.proofs.Spans.{lattice-multiple}
+use Rattle.integers.proofs.Remainders.{divided}
 use Rattle.reduction.specs.LatticeBases.{IsLatticeBasis}
 use Rattle.reduction.specs.LeadingEntries.{edge_at, leading_entry}
 

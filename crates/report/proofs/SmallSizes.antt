@@ -3,12 +3,13 @@ use Rattle.std.proofs.Common.{◌≡◌, ℕ, ◌*◌, ◌<◌, length, map, get
 use Rattle.std.specs.Prelude.{All, int_div}
 use Rattle.std.proofs.lemmas.List.{get_or-map, length-map}
 use Rattle.std.proofs.lemmas.Int.{ints, quot-rem}
+use lib.IntN.{*ℤ_comm}
 use Rattle.fractions.specs.declared.part.TheConstants.{UNIT}
 use Rattle.fractions.specs.FractionOf.{fraction_of}
 use Rattle.fractions.specs.LowestTerms.{lowest_terms, IsLowestForm, IsNoLarger}
 use Rattle.fractions.proofs.Lowest.{IsNoLarger-lowest_terms, lowest_terms-only}
 use Rattle.integers.specs.Size.{IsWithin}
-use Rattle.integers.proofs.Ring.{add_zero, mul_comm_lem, IsWithin-mul}
+use Rattle.integers.proofs.Ring.{add_zero, IsWithin-mul}
 use Rattle.integers.proofs.Solver.{Expr.{var, num, ◌⊗◌}, given, linear}
 use Rattle.symmetry.specs.Planes.{Height}
 use Rattle.symmetry.specs.Scans.{IsInPeriod, SpecialHeight}
@@ -34,7 +35,7 @@ same_number p q x u e =
 -- the half parts that there are
 pub half_parts : (s : Height) → IsInHalves s → s.den *ℤ int_div (pos 2 *ℤ s.num *ℤ UNIT) s.den ≡ pos 2 *ℤ s.num *ℤ UNIT
 half_parts s e =
-    mul_comm_lem s.den _ ∙ sym (add_zero _) ∙ ap (λ r. int_div (pos 2 *ℤ s.num *ℤ UNIT) s.den *ℤ s.den +ℤ r) (sym e) ∙ quot-rem (pos 2 *ℤ s.num *ℤ UNIT) s.den
+    *ℤ_comm s.den _ ∙ sym (add_zero _) ∙ ap (λ r. int_div (pos 2 *ℤ s.num *ℤ UNIT) s.den *ℤ s.den +ℤ r) (sym e) ∙ quot-rem (pos 2 *ℤ s.num *ℤ UNIT) s.den
 
 pub small_height : (d : ℤ) (s : Height) → IsWithin largest_period d → IsInPeriod d s → IsInHalves s → IsSmallHeight s
 small_height d s small inside halves =

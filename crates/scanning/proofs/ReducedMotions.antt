@@ -12,7 +12,7 @@ use Rattle.motions.specs.Laws.MotionLaws.{IsVectorWithin-more}
 use Rattle.closure.specs.declared.lattice.Lattice.{Lattice}
 use Rattle.closure.specs.Lattices.{IsHome, IsLatticeOf}
 use Rattle.closure.specs.Residues.{residue}
-use Rattle.closure.specs.Laws.Remainders.{zero-le-rem, rem-below}
+use Rattle.integers.proofs.Remainders.{zero-le-rem, rem-below}
 
 reduced_within : (z : ℤ) → reduced_parts z ≡ z → IsWithin (unsigned_abs UNIT) z
 reduced_within z e =

@@ -5,12 +5,11 @@ use Rattle.symmetry.specs.Motions.{Motion, followed_by}
 use Rattle.symmetry.specs.Planes.{IsCoprime}
 use Rattle.symmetry.specs.Groups.{IsGroup, IsMember, Listing}
 use Rattle.symmetry.specs.Listings.{AreAlike}
-use Rattle.symmetry.proofs.Coprime.{unit_column}
+use Rattle.symmetry.proofs.Coprime.{unit_column, coprime_by_column}
 use Rattle.symmetry.proofs.LatticeLaws.{listed_member}
 use Rattle.symmetry.proofs.MatrixLaws.{row_times-dot, row_times-multiple, row_times-product, row_times-unit}
 use Rattle.symmetry.proofs.VectorLaws.{dot-multiple, multiple-dot, multiple-multiple, multiple-one}
 use Rattle.surveys.specs.Surveys.{AreEquivalent, IsUpToSign}
-use Rattle.surveys.proofs.Divisors.{coprime_by_column}
 
 pub opposite_twice : (v : Vector) → opposite (opposite v) ≡ v
 opposite_twice v = multiple-multiple (negsuc 0) (negsuc 0) v ∙ multiple-one v

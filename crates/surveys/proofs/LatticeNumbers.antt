@@ -9,7 +9,7 @@ use Rattle.fractions.specs.declared.part.TheConstants.{UNIT}
 use Rattle.integers.specs.Size.{Divides}
 use Rattle.integers.proofs.Coded.{again}
 use Rattle.integers.proofs.Division.{floor}
-use Rattle.integers.proofs.Divisors.{Divides-trans}
+use Rattle.integers.proofs.Divisors.{Divides-trans, divided_by_size, greatest_combined}
 use Rattle.integers.proofs.Order.{least_multiple}
 use Rattle.integers.proofs.Ring.{mul_one}
 use Rattle.integers.proofs.Solver.{Expr.{var, num, ◌⊕◌, ◌⊝◌, ◌⊗◌}, given, linear}
@@ -19,17 +19,16 @@ use Rattle.symmetry.specs.Planes.{IsCoprime}
 use Rattle.symmetry.specs.Groups.{IsInLattice, Listing}
 use Rattle.symmetry.specs.Frames.{IsPeriod}
 use Rattle.symmetry.proofs.Coprime.{unit_column}
-use Rattle.symmetry.proofs.LatticeLaws.{lattice-minus, lattice-plus}
+use Rattle.symmetry.proofs.LatticeLaws.{lattice-minus, lattice-plus, lattice-multiple}
 use Rattle.symmetry.proofs.VectorLaws.{dot-multiple, dot-plus, minus-plus}
 use Rattle.motions.specs.Views.{parts}
 use Rattle.closure.specs.declared.lattice.Lattice.{Lattice}
 use Rattle.closure.specs.Lattices.{IsLatticeOf, residues_of}
 use Rattle.closure.specs.Residues.{IsResidue, IsWhole, residue}
-use Rattle.closure.specs.Laws.Remainders.{Divides-add, Divides-multiple, Divides-self}
+use Rattle.integers.proofs.Remainders.{Divides-add, Divides-multiple, Divides-self}
 use Rattle.closure.specs.Laws.ResidueLaws.{residue-parts, whole-minus_residue}
-use Rattle.closure.proofs.Spans.{lattice-multiple, lattice-whole}
+use Rattle.closure.proofs.Spans.{lattice-whole}
 use Rattle.surveys.proofs.ShiftLists.{period_again}
-use Rattle.surveys.proofs.Divisors.{divided_by_size, greatest_combined}
 
 -- ---- what a period says
 

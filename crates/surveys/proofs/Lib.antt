@@ -1,5 +1,4 @@
 pub mod Equivalence
-pub mod Divisors
 pub mod Greatest
 pub mod GreaterImages
 pub mod RowSizes

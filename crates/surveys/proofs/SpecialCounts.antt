@@ -15,7 +15,7 @@ use Rattle.symmetry.specs.Frames.{IsPeriod, IsSpecial}
 use Rattle.symmetry.specs.Scans.{IsInPeriod}
 use Rattle.symmetry.proofs.PlaneRows.{special_by_row}
 use Rattle.symmetry.proofs.VectorLaws.{dot-multiple, dot-plus, minus-plus, plus-minus_first}
-use Rattle.closure.proofs.Spans.{lattice-multiple}
+use Rattle.symmetry.proofs.LatticeLaws.{lattice-multiple}
 use Rattle.scanning.specs.Levels.{IsInTwoPeriods, IsLevel, IsTurned}
 use Rattle.scanning.proofs.HeightNumbers.{height_below, height_from, level_below, level_from}
 use Rattle.scanning.proofs.MadeHeights.{level_of_form}

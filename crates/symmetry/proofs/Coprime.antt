@@ -1,20 +1,14 @@
 -- Coprime rows.
-use Rattle.std.proofs.Common.{◌≡◌, ℕ, ℤ, pos, negsuc, nat_abs, ◌*ℤ◌, sym, ◌∙◌, ap, subst, arith}
-use Rattle.std.specs.Prelude.{unsigned_abs}
-use Rattle.std.specs.Int.{◌∣◌}
+use Rattle.std.proofs.Common.{◌≡◌, ℤ, pos, negsuc, ◌+ℤ◌, ◌*ℤ◌, sym, ◌∙◌, ap, subst, arith}
+use Rattle.std.proofs.Math.Nat.{eq-one_of_dvd-one}
 use Rattle.std.proofs.lemmas.Int.{ints}
-use native.Mathlib.Nat.{dvd-mul_left}
 use Rattle.integers.specs.Size.{Divides}
-use Rattle.integers.proofs.Ring.{abs-mul, mul_one}
-use Rattle.integers.proofs.Divisors.{bezout}
+use Rattle.integers.proofs.Ring.{mul_one}
+use Rattle.integers.proofs.Divisors.{bezout, Divides-combined, divided_by_size, size_divided}
+use Rattle.integers.proofs.Remainders.{Divides-add}
 use Rattle.symmetry.specs.Vectors.{Vector, multiple, opposite, dot}
 use Rattle.symmetry.specs.Planes.{IsCoprime}
 use Rattle.symmetry.proofs.VectorLaws.{multiple-dot, multiple-one}
-
--- a divisor of a whole number divides its size
-size_divided : (g : ℕ) (a : ℤ) → Divides g a → g ∣ unsigned_abs a
-size_divided g a d =
-    subst (λ n. g ∣ n) (sym (ap nat_abs d.is ∙ abs-mul d.times (pos g))) (dvd-mul_left g (nat_abs d.times))
 
 -- some column gives 1 under a coprime row
 pub unit_column : (r : Vector) → IsCoprime r → (u : Vector) × (dot r u ≡ pos 1)
@@ -34,3 +28,14 @@ multiple_cancel r d e coprime same =
 pub not_opposite : (r : Vector) → IsCoprime r → r ≡ opposite r → ⊥
 not_opposite r coprime same =
     let apart : pos 1 ≡ negsuc 0 = multiple_cancel r (pos 1) (negsuc 0) coprime (multiple-one r ∙ same) in absurd (omega (arith, ints))
+
+-- a row that gives 1 at a column is coprime
+pub coprime_by_column : (r u : Vector) → dot r u ≡ pos 1 → IsCoprime r
+unfolding dot
+coprime_by_column r u one = λ d x y z.
+    let first = Divides-combined d r.x r.y u.x u.y (divided_by_size d r.x x) (divided_by_size d r.y y) in
+    let last = Divides-combined d r.z r.z u.z (pos 0) (divided_by_size d r.z z) (divided_by_size d r.z z) in
+    eq-one_of_dvd-one (size_divided d (pos 1) (subst (Divides d) (ending (r.x *ℤ u.x +ℤ r.y *ℤ u.y) (r.z *ℤ u.z) r.z ∙ one) (Divides-add d _ _ first last)))
+  where
+    ending : (a b c : ℤ) → a +ℤ (b +ℤ c *ℤ pos 0) ≡ a +ℤ b
+    ending a b c = omega (arith, ints)

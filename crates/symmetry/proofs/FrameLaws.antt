@@ -7,7 +7,7 @@ use Rattle.fractions.specs.declared.part.TheConstants.{UNIT}
 use Rattle.integers.proofs.Order.{least_multiple, mul_right_cancel_pos}
 use Rattle.integers.proofs.Ring.{zero_mul, one_mul}
 use Rattle.integers.proofs.Spread.{spread}
-use Rattle.symmetry.specs.Vectors.{Vector, plus, multiple, opposite, minus, dot, cross, row_times}
+use Rattle.symmetry.specs.Vectors.{Vector, origin, plus, multiple, opposite, minus, dot, cross, row_times}
 use Rattle.symmetry.specs.Motions.{Motion}
 use Rattle.symmetry.specs.Planes.{Height, IsHeight, IsCoprime}
 use Rattle.symmetry.specs.Groups.{Listing, IsInLattice, IsGroup}
@@ -16,6 +16,15 @@ use Rattle.symmetry.proofs.VectorLaws.{vector_path, dot-plus, dot-multiple, minu
 use Rattle.symmetry.proofs.PlaneRows.{special_by_row}
 
 -- ---- combinations
+
+pub combination-origin : (f : Basis) → combination f origin ≡ origin
+unfolding plus multiple
+combination-origin f = vector_path (omega (arith, ints)) (omega (arith, ints)) (omega (arith, ints))
+
+pub combination-plus : (f : Basis) (c c' : Vector) → combination f (plus c c') ≡ plus (combination f c) (combination f c')
+unfolding plus multiple
+combination-plus f c c' =
+    vector_path (simp spread (omega (arith, ints))) (simp spread (omega (arith, ints))) (simp spread (omega (arith, ints)))
 
 pub combination-minus : (f : Basis) (c c' : Vector) → combination f (minus c c') ≡ minus (combination f c) (combination f c')
 unfolding plus multiple

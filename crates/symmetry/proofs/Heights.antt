@@ -4,6 +4,7 @@ use Rattle.std.proofs.Common.{◌≡◌, ℕ, zero, suc, ◌<◌, ℤ, pos, negs
 use Rattle.std.specs.Prelude.{All, AllPairs}
 use Rattle.std.proofs.lemmas.Int.{ints}
 use Rattle.std.proofs.lemmas.List.{length-map}
+use lib.IntN.{*ℤ_comm}
 use Rattle.fractions.specs.Fraction.{SameFraction}
 use Rattle.fractions.specs.declared.part.TheConstants.{UNIT}
 use Rattle.integers.proofs.Order.{mul-le-mul_right, mul_left_cancel_pos, small_multiple, zero-le-mul}
@@ -53,11 +54,8 @@ once u d p q p' q' k p'' q'' l hu h h' h'' from' below' from'' below'' e e' =
     let none : k -ℤ l ≡ pos 0 = small_multiple (d *ℤ q' *ℤ q'') (k -ℤ l) (omega (arith, ints)) (omega (arith, ints)) in
     let zero : d *ℤ q' *ℤ q'' *ℤ (k -ℤ l) ≡ pos 0 = ap (λ z. d *ℤ q' *ℤ q'' *ℤ z) none ∙ mul_zero (d *ℤ q' *ℤ q'') in record {
       periods = omega (arith, ints);
-      height = mul_left_cancel_pos u _ _ hu (flipped u (p' *ℤ q'') ∙ omega (arith, ints) ∙ sym (flipped u (p'' *ℤ q')));
+      height = mul_left_cancel_pos u _ _ hu (*ℤ_comm u (p' *ℤ q'') ∙ omega (arith, ints) ∙ sym (*ℤ_comm u (p'' *ℤ q')));
     }
-  where
-    flipped : (a b : ℤ) → a *ℤ b ≡ b *ℤ a
-    flipped a b = omega (arith, ints)
 
 -- a height that is k periods above p/q, the half of t parts, is the half of t and 2 k periods, and the other way round
 module _ (u p q t : ℤ) (h : pos 1 ≤ℤ q) (level : q *ℤ t ≡ pos 2 *ℤ p *ℤ u) (d k P Q : ℤ) where

@@ -4,36 +4,18 @@ use Rattle.std.proofs.lemmas.Int.{ints}
 use Rattle.integers.proofs.Division.{floor, fractional_parts}
 use Rattle.integers.proofs.Order.{mul_left_cancel_pos, one-le-mul}
 use Rattle.integers.proofs.Ring.{neg_as_mul}
-use Rattle.integers.proofs.Spread.{spread}
 use Rattle.symmetry.specs.Vectors.{Vector, origin, plus, minus, multiple, dot, cross, row_times}
 use Rattle.symmetry.specs.Motions.{Motion}
 use Rattle.symmetry.specs.Planes.{Height, IsCoprime, IsHeight}
 use Rattle.symmetry.specs.Groups.{IsGroup, InStabiliser, InRowStabiliser, SameModulo, Listing}
 use Rattle.symmetry.specs.Frames.{Basis, combination, IsFrame, DiffersInPlane, InPlaneLattice, IsAtHome}
 use Rattle.symmetry.specs.Lists.{HasOneAtHome}
-use Rattle.symmetry.proofs.VectorLaws.{dot-minus_same, vector_path, minus-plus, origin-plus, multiple-dot}
+use Rattle.symmetry.proofs.VectorLaws.{dot-minus_same, vector_path, minus-plus, origin-plus, multiple-dot, minus-minus, multiple-minus, multiples-minus}
 use Rattle.symmetry.proofs.PlaneLattice.{differs_sym, differs_trans}
 use Rattle.symmetry.proofs.MotionLaws.{motion_path}
 use Rattle.symmetry.proofs.Coprime.{not_opposite}
 use Rattle.symmetry.proofs.PlaneRows.{stabiliser_by_row}
-use Rattle.symmetry.proofs.FrameLaws.{cramer, combination-minus, combination-multiple, plane_lattice}
-
-minus-minus : (v w : Vector) → minus v (minus v w) ≡ w
-unfolding plus multiple
-minus-minus v w = vector_path (omega (arith, ints)) (omega (arith, ints)) (omega (arith, ints))
-
-multiple-minus : (k : ℤ) (v w : Vector) → multiple k (minus v w) ≡ minus (multiple k v) (multiple k w)
-unfolding plus multiple
-multiple-minus k v w = vector_path (simp spread (omega (arith, ints))) (simp spread (omega (arith, ints))) (simp spread (omega (arith, ints)))
-
-combination-origin : (f : Basis) → combination f origin ≡ origin
-unfolding plus multiple
-combination-origin f = vector_path (omega (arith, ints)) (omega (arith, ints)) (omega (arith, ints))
-
--- o' (o v) - o (o' w) is o o' (v - w)
-multiples-minus : (o o' : ℤ) (v w : Vector) → minus (multiple o' (multiple o v)) (multiple o (multiple o' w)) ≡ multiple (o *ℤ o') (minus v w)
-unfolding plus multiple
-multiples-minus o o' v w = vector_path (simp spread (omega (arith, ints))) (simp spread (omega (arith, ints))) (simp spread (omega (arith, ints)))
+use Rattle.symmetry.proofs.FrameLaws.{cramer, combination-minus, combination-multiple, plane_lattice, combination-origin}
 
 -- where two vectors with fractional parts over o and o' differ by a whole vector, its coordinates are 0
 whole_difference : (o o' : ℤ) (v w c : Vector) → minus (multiple o' v) (multiple o w) ≡ multiple (o *ℤ o') c

@@ -1,10 +1,10 @@
 -- The lattice is a group of vectors, and sameness modulo it an equivalence.
-use Rattle.std.proofs.Common.{◌≡◌, refl, sym, ◌∙◌, ap, subst}
+use Rattle.std.proofs.Common.{◌≡◌, zero, suc, ℤ, pos, negsuc, refl, sym, ◌∙◌, ap, subst}
 use Rattle.std.specs.Prelude.{Contains}
-use Rattle.symmetry.specs.Vectors.{Vector, Matrix, origin, plus, minus, opposite, image, product}
+use Rattle.symmetry.specs.Vectors.{Vector, Matrix, origin, plus, minus, multiple, opposite, image, product}
 use Rattle.symmetry.specs.Motions.{Motion, followed_by}
 use Rattle.symmetry.specs.Groups.{Listing, Generates, IsInLattice, zero_vector, added, subtracted, SameModulo, IsMember}
-use Rattle.symmetry.proofs.VectorLaws.{plus_assoc, plus_comm, plus-origin, origin-plus, opposite-origin, opposite-plus, opposite-minus, minus-same, minus-plus-minus, minus-exchange}
+use Rattle.symmetry.proofs.VectorLaws.{multiple-zero, multiple-suc, multiple-negsuc_suc, plus_assoc, plus_comm, plus-origin, origin-plus, opposite-origin, opposite-plus, opposite-minus, minus-same, minus-plus-minus, minus-exchange}
 use Rattle.symmetry.proofs.MatrixLaws.{image-plus, image-minus, image-origin}
 
 -- ---- the lattice
@@ -22,6 +22,15 @@ lattice-opposite g _ (subtracted t v k made) =
 
 pub lattice-minus : (g : Listing) (s t : Vector) → IsInLattice g s → IsInLattice g t → IsInLattice g (minus s t)
 lattice-minus g s t h k = lattice-plus g s (opposite t) h (lattice-opposite g t k)
+
+-- whole multiples of members are members
+pub lattice-multiple : (g : Listing) (c : ℤ) (v : Vector) → IsInLattice g v → IsInLattice g (multiple c v)
+lattice-multiple g (pos zero) v h = subst (IsInLattice g) (sym (multiple-zero v)) zero_vector
+lattice-multiple g (pos (suc n)) v h =
+    subst (IsInLattice g) (sym (multiple-suc n v)) (lattice-plus g (multiple (pos n) v) v (lattice-multiple g (pos n) v h) h)
+lattice-multiple g (negsuc zero) v h = lattice-opposite g v h
+lattice-multiple g (negsuc (suc n)) v h =
+    subst (IsInLattice g) (sym (multiple-negsuc_suc n v)) (lattice-minus g (multiple (negsuc n) v) v (lattice-multiple g (negsuc n) v h) h)
 
 -- a vector that the lattice is made of is in it
 pub lattice-made : (g : Listing) (v : Vector) → Generates g v → IsInLattice g v

@@ -1,15 +1,8 @@
 -- A list that is chosen operation by operation is the list of its set.
 use Rattle.std.proofs.Common.{◌≡◌, ℕ, zero, suc, ◌<◌, List, ◌∷◌, length, Some, refl, sym, ap, ◌∙◌, subst, arith, ◌⊎◌, inl, inr}
+use Rattle.std.proofs.lemmas.Bool.{cases_order}
 use Rattle.symmetry.specs.Motions.{Motion}
 use Rattle.symmetry.specs.Lists.{motion_at, ExactlyOne, IsFirstPlace, IsListOf, AreDistinct, AreChosen, no_more, passed, taken, IsChoice, AreCovered, IsSameness}
-
--- of two numbers one is less, or they are equal
-lt_trichotomy : (j k : ℕ) → (j < k) ⊎ ((j ≡ k) ⊎ (k < j))
-lt_trichotomy zero zero = inr (inl refl)
-lt_trichotomy zero (suc k) = inl (omega arith)
-lt_trichotomy (suc j) zero = inr (inr (omega arith))
-lt_trichotomy (suc j) (suc k) =
-    elim (lt_trichotomy j k) [ inl l ↦ inl (omega arith) | inr (inl e) ↦ inr (inl (ap suc e)) | inr (inr l) ↦ inr (inr (omega arith)) ]
 
 module _ (Same : Motion → Motion → Type 0) (IsHome S : Motion → Type 0) where
   -- n is the choice of the operation at a place
@@ -92,9 +85,9 @@ module _ (Same : Motion → Motion → Type 0) (IsHome S : Motion → Type 0) wh
 
     compared : (j k : ℕ) → j < length out → k < length out → motion_at out k ≡ motion_at out j → k ≡ j
     compared j k hj hk e =
-        elim (lt_trichotomy k j) [
-          | inl l ↦ absurd (not_twice k j l hj e)
-          | inr (inl same) ↦ same
+        elim (cases_order k j) [
+          | inl same ↦ same
+          | inr (inl l) ↦ absurd (not_twice k j l hj e)
           | inr (inr l) ↦ absurd (not_twice j k l hk (sym e))
         ]
 

@@ -9,12 +9,13 @@ use Rattle.symmetry.specs.Planes.{IsCoprime}
 use Rattle.symmetry.specs.Groups.{Listing, SameModulo, IsMember, IsGroup}
 use Rattle.symmetry.specs.Frames.{KeepsOrientation, sign_at, total_up}
 use Rattle.symmetry.specs.Lists.{motion_at, ExactlyOne, AreScanning}
+use Rattle.symmetry.specs.HeightMotions.{IsSign}
 use Rattle.symmetry.proofs.VectorLaws.{column_path, dot-origin, dot-plus, dot-multiple, multiple-multiple}
 use Rattle.symmetry.proofs.MatrixLaws.{image-multiple, image-product, row_times-dot, row_times-unit, row_times-product, row_times-multiple}
 use Rattle.symmetry.proofs.MotionLaws.{followed_by-assoc, followed_by-identity}
 use Rattle.symmetry.proofs.LatticeLaws.{same_refl, same_sym, same-followed_by}
 use Rattle.symmetry.proofs.GroupLaws.{member_keeps}
-use Rattle.symmetry.proofs.Signs.{IsSign, sign-mul, sign_twice, sign_is, row_sign, keeps_by_sign, row_times-followed_by}
+use Rattle.symmetry.proofs.Signs.{sign-mul, sign_twice, sign_is, row_sign, keeps_by_sign, row_times-followed_by}
 
 -- ---- what the mean sums
 

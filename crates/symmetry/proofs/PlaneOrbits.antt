@@ -19,18 +19,9 @@ use Rattle.symmetry.proofs.MatrixLaws.{row_times-dot, row_times-multiple, row_ti
 use Rattle.symmetry.proofs.PlaneImages.{image_by_row}
 use Rattle.symmetry.proofs.PlaneRows.{member_invertible, special_by_row, turned_is_moved}
 use Rattle.symmetry.proofs.FrameLaws.{lattice_periods, tau_multiple}
+use Rattle.symmetry.proofs.Signs.{sign-square, sign-mul}
 
 -- ---- a sign, and the row that a motion has by it
-
-pub sign-square : (e : ℤ) → IsSign e → e *ℤ e ≡ pos 1
-sign-square e (inl p) = ap (λ x. x *ℤ x) p
-sign-square e (inr p) = ap (λ x. x *ℤ x) p
-
-pub sign-times : (e f : ℤ) → IsSign e → IsSign f → IsSign (e *ℤ f)
-sign-times e f (inl p) (inl q) = inl (λ i. p i *ℤ q i)
-sign-times e f (inl p) (inr q) = inr (λ i. p i *ℤ q i)
-sign-times e f (inr p) (inl q) = inr (λ i. p i *ℤ q i)
-sign-times e f (inr p) (inr q) = inl (λ i. p i *ℤ q i)
 
 -- the row of a product: (hkl) (W V)
 row_times-followed_by : (r : Vector) (m n : Motion) (e f : ℤ) → row_times r m.matrix ≡ multiple e r → row_times r n.matrix ≡ multiple f r
@@ -40,7 +31,7 @@ row_times-followed_by r m n e f p q =
     ∙ ap (multiple f) p ∙ multiple-multiple f e r ∙ ap (λ x. multiple x r) (*ℤ_comm f e)
 
 -- and its (hkl).w
-dot-followed_by : (r : Vector) (m n : Motion) (f : ℤ) → row_times r n.matrix ≡ multiple f r
+pub dot-followed_by : (r : Vector) (m n : Motion) (f : ℤ) → row_times r n.matrix ≡ multiple f r
     → dot r (followed_by m n).shift ≡ f *ℤ dot r m.shift +ℤ dot r n.shift
 dot-followed_by r m n f q =
     dot-plus r (image n.matrix m.shift) n.shift
@@ -135,7 +126,7 @@ module _ (g : Listing) (r : Vector) (group : IsGroup g) (coprime : IsCoprime r) 
 
   moves_on : (s t u : Height) → IsHeight t → MovesByRow g r s t → MovesByRow g r t u → MovesByRow g r s u
   moves_on s t u high (m, e, member, sign, p) (n, f, member', sign', q) =
-      (followed_by m n, e *ℤ f, group.products m n member member', sign-times e f sign sign', MovesRow-product r s t u e f m n high p q)
+      (followed_by m n, e *ℤ f, group.products m n member member', sign-mul e f sign sign', MovesRow-product r s t u e f m n high p q)
 
   -- to be in one orbit is an equivalence
   pub orbit_refl : (s : Height) → IsHeight s → AreInOneOrbit g r s s

@@ -1,27 +1,24 @@
 -- The sign of a motion that keeps the orientation.
-use Rattle.std.proofs.Common.{◌≡◌, ◌⊎◌, inl, inr, ℤ, pos, negsuc, ◌*ℤ◌, refl, sym, ◌∙◌, ap, arith, Bool, true, false, ◌&&◌, cond}
+use Rattle.std.proofs.Common.{◌≡◌, inl, inr, ℤ, pos, negsuc, ◌*ℤ◌, refl, sym, ◌∙◌, ap, arith, Bool, true, false, ◌&&◌, cond}
 use Rattle.std.proofs.lemmas.Bool.Decides.{Decides-int_eq}
 use Rattle.symmetry.specs.Vectors.{Vector, multiple, row_times}
 use Rattle.symmetry.specs.Motions.{Motion, followed_by}
 use Rattle.symmetry.specs.Planes.{IsCoprime}
 use Rattle.symmetry.specs.Frames.{same_vector, sign_at, KeepsOrientation}
+use Rattle.symmetry.specs.HeightMotions.{IsSign}
 use Rattle.symmetry.proofs.VectorLaws.{vector_path, multiple-one, multiple-multiple}
 use Rattle.symmetry.proofs.MatrixLaws.{row_times-product, row_times-multiple}
 use Rattle.symmetry.proofs.Coprime.{not_opposite}
 
-same_true : (v w : Vector) → same_vector v w ≡ true → v ≡ w
+pub same_true : (v w : Vector) → same_vector v w ≡ true → v ≡ w
 same_true v w e = vector_path (grind (arith, Decides-int_eq)) (grind (arith, Decides-int_eq)) (grind (arith, Decides-int_eq))
 
-true_same : (v w : Vector) → v ≡ w → same_vector v w ≡ true
+pub true_same : (v w : Vector) → v ≡ w → same_vector v w ≡ true
 true_same v w e =
     let x = (Decides-int_eq v.x w.x).1 (ap (λ (u : Vector). u.x) e) in
     let y = (Decides-int_eq v.y w.y).1 (ap (λ (u : Vector). u.y) e) in
     let z = (Decides-int_eq v.z w.z).1 (ap (λ (u : Vector). u.z) e) in
     λ i. x i && y i && z i
-
--- 1 or -1
-abbrev pub IsSign : ℤ → Type 0
-IsSign e = (e ≡ pos 1) ⊎ (e ≡ negsuc 0)
 
 pub sign-square : (e : ℤ) → IsSign e → e *ℤ e ≡ pos 1
 sign-square e (inl p) = ap (λ x. x *ℤ x) p

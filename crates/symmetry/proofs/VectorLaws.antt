@@ -1,5 +1,5 @@
 -- The laws of vectors: sums, multiples, and a row times a column.
-use Rattle.std.proofs.Common.{◌≡◌, ℤ, pos, negsuc, ◌+ℤ◌, ◌*ℤ◌, refl, sym, ◌∙◌, arith}
+use Rattle.std.proofs.Common.{◌≡◌, ℕ, suc, ℤ, pos, negsuc, ◌+ℤ◌, ◌*ℤ◌, refl, sym, ◌∙◌, arith}
 use Rattle.std.proofs.lemmas.Int.{ints}
 use Rattle.integers.proofs.Ring.{mul_assoc}
 use Rattle.integers.proofs.Spread.{spread}
@@ -64,6 +64,32 @@ pub multiple-multiple : (c d : ℤ) (v : Vector) → multiple c (multiple d v) �
 unfolding multiple
 multiple-multiple c d v = vector_path (sym (mul_assoc c d v.x)) (sym (mul_assoc c d v.y)) (sym (mul_assoc c d v.z))
 
+pub multiple-zero : (v : Vector) → multiple (pos 0) v ≡ origin
+unfolding multiple
+multiple-zero v = vector_path (omega (arith, ints)) (omega (arith, ints)) (omega (arith, ints))
+
+-- one more, and one less
+pub multiple-suc : (n : ℕ) (v : Vector) → multiple (pos (suc n)) v ≡ plus (multiple (pos n) v) v
+unfolding plus multiple
+multiple-suc n v = vector_path (omega (arith, ints)) (omega (arith, ints)) (omega (arith, ints))
+
+pub multiple-negsuc_suc : (n : ℕ) (v : Vector) → multiple (negsuc (suc n)) v ≡ minus (multiple (negsuc n) v) v
+unfolding plus multiple
+multiple-negsuc_suc n v = vector_path (omega (arith, ints)) (omega (arith, ints)) (omega (arith, ints))
+
+pub plus-multiple : (c d : ℤ) (v : Vector) → multiple (c +ℤ d) v ≡ plus (multiple c v) (multiple d v)
+unfolding plus multiple
+plus-multiple c d v = vector_path (simp spread (omega (arith, ints))) (simp spread (omega (arith, ints))) (simp spread (omega (arith, ints)))
+
+pub multiple-minus : (c : ℤ) (v w : Vector) → multiple c (minus v w) ≡ minus (multiple c v) (multiple c w)
+unfolding plus multiple
+multiple-minus c v w = vector_path (simp spread (omega (arith, ints))) (simp spread (omega (arith, ints))) (simp spread (omega (arith, ints)))
+
+-- d (c v) - c (d w) is c d (v - w)
+pub multiples-minus : (c d : ℤ) (v w : Vector) → minus (multiple d (multiple c v)) (multiple c (multiple d w)) ≡ multiple (c *ℤ d) (minus v w)
+unfolding plus multiple
+multiples-minus c d v w = vector_path (simp spread (omega (arith, ints))) (simp spread (omega (arith, ints))) (simp spread (omega (arith, ints)))
+
 pub opposite-origin : opposite origin ≡ origin
 unfolding multiple
 opposite-origin = refl
@@ -88,6 +114,10 @@ origin-plus v = vector_path (omega (arith, ints)) (omega (arith, ints)) (omega (
 
 -- ---- differences
 
+pub minus-origin : (v : Vector) → minus v origin ≡ v
+unfolding plus multiple
+minus-origin v = vector_path (omega (arith, ints)) (omega (arith, ints)) (omega (arith, ints))
+
 pub minus-same : (v : Vector) → minus v v ≡ origin
 unfolding plus multiple
 minus-same v = vector_path (omega (arith, ints)) (omega (arith, ints)) (omega (arith, ints))
@@ -104,6 +134,14 @@ minus-plus v w = vector_path (omega (arith, ints)) (omega (arith, ints)) (omega 
 pub plus-minus_first : (v w : Vector) → minus (plus v w) v ≡ w
 unfolding plus multiple
 plus-minus_first v w = vector_path (omega (arith, ints)) (omega (arith, ints)) (omega (arith, ints))
+
+pub plus-minus_last : (v w : Vector) → minus (plus v w) w ≡ v
+unfolding plus multiple
+plus-minus_last v w = vector_path (omega (arith, ints)) (omega (arith, ints)) (omega (arith, ints))
+
+pub minus-minus : (v w : Vector) → minus v (minus v w) ≡ w
+unfolding plus multiple
+minus-minus v w = vector_path (omega (arith, ints)) (omega (arith, ints)) (omega (arith, ints))
 
 -- from u to v and on to w
 pub minus-plus-minus : (u v w : Vector) → plus (minus u v) (minus v w) ≡ minus u w

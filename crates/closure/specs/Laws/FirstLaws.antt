@@ -10,20 +10,14 @@ use Rattle.std.specs.Ordering.{is_lt, ordering_reverse}
 use Rattle.std.proofs.lemmas.List.Elements.{Contains-get_or, All-contains}
 use Rattle.std.proofs.lemmas.List.MinMax.{IsFirstBest-from_best_of}
 use Rattle.std.proofs.lemmas.List.Sorted.{ranks_by}
-use Rattle.std.proofs.lemmas.Int.{ints}
-use Rattle.symmetry.specs.Vectors.{Vector, origin, plus, minus, multiple, opposite}
-use Rattle.symmetry.proofs.VectorLaws.{vector_path, minus-plus, minus-same, opposite-minus, minus-plus-minus}
+use Rattle.symmetry.specs.Vectors.{Vector, origin, plus, minus, opposite}
+use Rattle.symmetry.proofs.VectorLaws.{minus-plus, minus-same, opposite-minus, minus-plus-minus, plus-minus_last}
 use Rattle.closure.specs.Laws.ListLaws.{Contains-map, Contains-from_map}
 use Rattle.closure.specs.Residues.{residue, has_residue, vector_cmp, is_before, IsResidueGroup}
 use Rattle.closure.specs.Laws.ResidueLaws.{residue-residue, residue-plus, has_residue-is}
 use Rattle.closure.specs.Laws.VectorOrder.{vector_cmp_total, vector_cmp_equal}
 use Rattle.closure.specs.Spans.{coset}
 use Rattle.closure.specs.Lattices.{first_with}
-
--- a sum without the last
-without_last : (v w : Vector) → minus (plus v w) w ≡ v
-unfolding plus multiple
-without_last v w = vector_path (omega (arith, ints)) (omega (arith, ints)) (omega (arith, ints))
 
 -- u - v is u - w and w - v
 between : (u v w : Vector) → plus (minus u w) (minus w v) ≡ minus u v
@@ -55,7 +49,7 @@ module _ (rs : List Vector) (group : IsResidueGroup rs) (reduced : All (λ r. re
       let r = Contains-from_map (λ r. residue (plus r v)) rs w is in (
         ap residue (sym r.2) ∙ residue-residue (plus r.0 v) ∙ r.2,
         in_by_residue r.0 (minus w v)
-            (ap residue (sym (without_last r.0 v)) ∙ residue-plus (plus r.0 v) w (opposite v) (sym (residue-residue (plus r.0 v)) ∙ ap residue r.2))
+            (ap residue (sym (plus-minus_last r.0 v)) ∙ residue-plus (plus r.0 v) w (opposite v) (sym (residue-residue (plus r.0 v)) ∙ ap residue r.2))
             (in_listed r.0 r.1),
       )
 

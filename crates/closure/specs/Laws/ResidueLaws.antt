@@ -15,7 +15,7 @@ use Rattle.fractions.specs.declared.part.Part.{Part}
 use Rattle.motions.specs.Views.{parts, part_at}
 use Rattle.motions.specs.Laws.MotionLaws.{same_vector-is}
 use Rattle.closure.specs.Residues.{IsWhole, residue, has_residue, IsResidue}
-use Rattle.closure.specs.Laws.Remainders.{rem-same, same_rem, minus-rem, rem-small, Divides-zero, Divides-add, Divides-multiple}
+use Rattle.integers.proofs.Remainders.{rem-same, same_rem, minus-rem, rem-small, Divides-zero, Divides-add, Divides-multiple}
 
 -- the parts of an edge
 abbrev edge : ℕ

@@ -12,7 +12,7 @@ use Rattle.symmetry.specs.Frames.{Basis, combination}
 use Rattle.symmetry.proofs.VectorLaws.{vector_path, dot-plus, plus_comm, minus-same, opposite-plus_same}
 use Rattle.symmetry.proofs.MatrixLaws.{image-plus, image-multiple, image-unit, product-unit_left, product-unit_right}
 use Rattle.symmetry.proofs.MotionLaws.{motion_path}
-use Rattle.symmetry.proofs.FrameLaws.{combination-multiple}
+use Rattle.symmetry.proofs.FrameLaws.{combination-multiple, combination-origin, combination-plus}
 use Rattle.motions.specs.declared.motion.Motion3.{Motion3}
 use Rattle.motions.specs.Views.{motion_of, parts}
 use Rattle.plane_lattice.specs.Coordinates.{volume, scaled, IsPlaneCombination}
@@ -28,15 +28,6 @@ scaled-combination f c =
 pub scaled-plus : (f : Basis) (v w : Vector) → scaled f (plus v w) ≡ plus (scaled f v) (scaled f w)
 unfolding plus
 scaled-plus f v w = vector_path (dot-plus (cross f.b f.tau) v w) (dot-plus (cross f.tau f.a) v w) (dot-plus (cross f.a f.b) v w)
-
-pub combination-origin : (f : Basis) → combination f origin ≡ origin
-unfolding plus multiple
-combination-origin f = vector_path (omega (arith, ints)) (omega (arith, ints)) (omega (arith, ints))
-
-pub combination-plus : (f : Basis) (c c' : Vector) → combination f (plus c c') ≡ plus (combination f c) (combination f c')
-unfolding plus multiple
-combination-plus f c c' =
-    vector_path (simp spread (omega (arith, ints))) (simp spread (omega (arith, ints))) (simp spread (omega (arith, ints)))
 
 -- ---- quotients rounded down
 

@@ -5,7 +5,7 @@ use Rattle.std.proofs.lemmas.Int.{to_z-of_z}
 use Rattle.integers.proofs.Coded.{again}
 use Rattle.motions.specs.declared.motion.Sign.{Sign}
 use Rattle.motions.specs.declared.motion.Sign.TheVariants.{Plus, Minus}
-use Rattle.scanning.proofs.Remainders.{rem_between}
+use Rattle.integers.proofs.Remainders.{rem_between}
 use Rattle.scanning.proofs.Shifts.{period_is}
 use Rattle.scanning.proofs.turned.turned_level.Goals as goal
 

@@ -5,7 +5,7 @@ use Rattle.std.proofs.lemmas.Int.{to_z-of_z}
 use Rattle.integers.proofs.Coded.{again}
 use Rattle.motions.specs.declared.motion.Sign.{Sign}
 use Rattle.motions.specs.declared.motion.Sign.TheVariants.{Plus, Minus}
-use Rattle.scanning.proofs.Remainders.{rem_between}
+use Rattle.integers.proofs.Remainders.{rem_between}
 use Rattle.surveys.proofs.ShiftLists.{period_again}
 use Rattle.surveys.proofs.shifts.turned_shift.Goals as goal
 

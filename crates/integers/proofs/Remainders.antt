@@ -1,12 +1,12 @@
 -- Multiples of a number, and what is left of a whole number without the multiples of another in it.
 use native.Mathlib.Nat.{mod-lt, div-add-mod'}
-use Rattle.std.proofs.Common.{◌≡◌, ℕ, zero, suc, ◌+◌, ◌-◌, ◌*◌, ◌/◌, ◌%◌, ◌<◌, [], ◌∷◌, arith, refl, sym, ap, subst, ◌∙◌, ℤ, pos, negsuc, ◌+ℤ◌, ◌-ℤ◌, ◌*ℤ◌, ◌≤ℤ◌, ◌<ℤ◌}
+use Rattle.std.proofs.Common.{◌≡◌, ℕ, zero, suc, ◌+◌, ◌-◌, ◌*◌, ◌/◌, ◌%◌, ◌<◌, [], ◌∷◌, arith, refl, sym, ap, subst, ◌∙◌, ℤ, pos, negsuc, ◌+ℤ◌, ◌-ℤ◌, ◌*ℤ◌, ◌≤ℤ◌, ◌<ℤ◌, neg_ℤ}
 use Rattle.std.proofs.Math.Nat.{mod-eq_of_lt}
-use Rattle.std.specs.Int.{int_rem_euclid}
+use Rattle.std.specs.Int.{int_div_euclid, int_rem_euclid}
 use Rattle.std.proofs.lemmas.Int.{ints}
 use Rattle.integers.specs.Size.{Divides}
 use Rattle.integers.proofs.Ring.{add_mul, mul_assoc}
-use Rattle.integers.proofs.Solver.{Expr.{var, num, ◌⊕◌, ◌⊝◌, ◌⊗◌}, linear, given}
+use Rattle.integers.proofs.Solver.{Expr.{var, num, neg, ◌⊕◌, ◌⊝◌, ◌⊗◌}, linear, given}
 
 -- a number as multiples of d and a rest below d
 pub record Divided (d : ℕ) (z : ℤ) : Type 0 where
@@ -88,6 +88,36 @@ rem-below d h x = let p = divided d h x in let l = p.below in subst (λ z. z <�
 pub rem-small : (d : ℕ) → 0 < d → (x : ℤ) → pos 0 ≤ℤ x → x <ℤ pos d → int_rem_euclid x (pos d) ≡ x
 rem-small d h (pos a) low high = ap pos (mod-eq_of_lt {n = a} {m = d} (omega (arith, ints)))
 rem-small d h (negsuc a) low high = absurd (omega (arith, ints))
+
+-- the remainder from 0 to below d
+pub rem_euclid_is : (z d : ℤ) → pos 1 ≤ℤ d → (pos 0 ≤ℤ int_rem_euclid z d) × (int_rem_euclid z d <ℤ d) × ((k : ℤ) × (int_rem_euclid z d ≡ z +ℤ k *ℤ d))
+rem_euclid_is z (negsuc n) h = absurd (omega (arith, ints))
+rem_euclid_is z (pos n) h =
+    let by = divided n (omega (arith, ints)) z in
+    let below = by.below in (
+      subst (λ x. pos 0 ≤ℤ x) (sym by.rem) (omega (arith, ints)),
+      subst (λ x. x <ℤ pos n) (sym by.rem) (omega (arith, ints)),
+      (
+        neg_ℤ by.times,
+        by.rem ∙ linear (z ∷ by.times ∷ pos n ∷ pos by.rest ∷ []) (var 3) (var 0 ⊕ neg (var 1) ⊗ var 2)
+            (given (num (negsuc 0)) (var 0) (var 1 ⊗ var 2 ⊕ var 3) ∷ []) tt (by.is, tt),
+      ),
+    )
+
+-- the same of numbers that the code has read again
+pub rem_between : (z' d' z d t : ℤ) → z' ≡ z → d' ≡ d → t ≡ int_rem_euclid z' d' → pos 1 ≤ℤ d
+    → (pos 0 ≤ℤ t) × (t <ℤ d) × ((k : ℤ) × (t ≡ z +ℤ k *ℤ d))
+rem_between z' d' z d t of_z of_d is h =
+    let e : t ≡ int_rem_euclid z d = is ∙ (λ i. int_rem_euclid (of_z i) (of_d i)) in
+    let P : ℤ → Type 0 = λ x. (pos 0 ≤ℤ x) × (x <ℤ d) × ((k : ℤ) × (x ≡ z +ℤ k *ℤ d)) in
+    subst P (sym e) (rem_euclid_is z d h)
+
+-- with the quotient
+pub rem_euclid-div_euclid : (z e : ℤ) → pos 1 ≤ℤ e → z ≡ int_rem_euclid z e +ℤ int_div_euclid z e *ℤ e
+rem_euclid-div_euclid z (negsuc n) h = absurd (omega (arith, ints))
+rem_euclid-div_euclid z (pos zero) h = absurd (omega (arith, ints))
+rem_euclid-div_euclid (pos a) (pos (suc b)) h = omega (arith, ints)
+rem_euclid-div_euclid (negsuc a) (pos (suc b)) h = omega (arith, ints)
 
 -- ---- multiples of d
 
