@@ -1,8 +1,8 @@
 -- What words behind `layers` ask for, word after word.
 use Rattle.std.proofs.Common.{◌≡◌, ◌<◌, ℕ, List, [], ◌∷◌, length, map, Option, Some, Result, refl, ap, sym, subst, arith}
 use Rattle.std.specs.Prelude.{option_and_then, option_map}
-use Rattle.requests.specs.declared.form.Form.{Form}
-use Rattle.requests.specs.declared.format.Format.{Format}
+use Rattle.requests.specs.declared.request.Form.{Form}
+use Rattle.requests.specs.declared.request.Format.{Format}
 use Rattle.requests.specs.declared.refusal.Refusal.{Refusal}
 use Rattle.requests.specs.Questions.{Asked}
 use Rattle.requests.specs.Words.{at_end, form_first, format_first, frame_first, FrameWords, Indices, indices_first}

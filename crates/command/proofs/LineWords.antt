@@ -1,7 +1,7 @@
 -- Words behind `rod` with more of them than a line.
 use Rattle.std.proofs.Common.{◌≡◌, ◌≤◌, ℕ, List, [], ◌∷◌, length, map, Some, None, refl, subst, arith}
 use Rattle.std.specs.Prelude.{option_and_then, option_map}
-use Rattle.requests.specs.declared.format.Format.{Format}
+use Rattle.requests.specs.declared.request.Format.{Format}
 use Rattle.requests.specs.RodLimits.{LineWords}
 use Rattle.requests.specs.Words.{at_end, format_first}
 use Rattle.command.specs.Rods.{line_first, rod_asked, rod_words}

@@ -1,7 +1,7 @@
 -- `at`: the operations that map one plane to itself.
 use Rattle.std.specs.Prelude.{ℕ, List, Option, Some, Result, option_and_then, option_map}
 use Rattle.fractions.specs.Fraction.{Fraction}
-use Rattle.requests.specs.declared.format.Format.{Format}
+use Rattle.requests.specs.declared.request.Format.{Format}
 use Rattle.requests.specs.declared.refusal.Refusal.{Refusal}
 use Rattle.requests.specs.Words.{at_end, first_word, format_first, frame_first, FrameWords, Indices, ratio_to_end, three_indices}
 use Rattle.requests.specs.Limits.{within_limits}

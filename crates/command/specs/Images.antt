@@ -1,6 +1,6 @@
 -- `images`: the images of an orientation.
 use Rattle.std.specs.Prelude.{ℕ, List, Option, None, Result, option_and_then, option_map}
-use Rattle.requests.specs.declared.format.Format.{Format}
+use Rattle.requests.specs.declared.request.Format.{Format}
 use Rattle.requests.specs.declared.refusal.Refusal.{Refusal}
 use Rattle.requests.specs.Words.{at_end, format_first, Indices, three_indices}
 use Rattle.requests.specs.Limits.{within_limits}

@@ -1,7 +1,7 @@
 -- `layers`: the report of all heights of an orientation.
 use Rattle.std.specs.Prelude.{ℕ, List, Option, None, Result, option_and_then, option_map}
-use Rattle.requests.specs.declared.form.Form.{Form}
-use Rattle.requests.specs.declared.format.Format.{Format}
+use Rattle.requests.specs.declared.request.Form.{Form}
+use Rattle.requests.specs.declared.request.Format.{Format}
 use Rattle.requests.specs.declared.refusal.Refusal.{Refusal}
 use Rattle.requests.specs.Words.{at_end, form_first, format_first, frame_first, FrameWords, Indices, indices_first}
 use Rattle.requests.specs.Limits.{within_limits}

@@ -1,7 +1,7 @@
 -- `lines`: the frieze groups of all lines of a plane group.
 use Rattle.std.specs.Prelude.{ℕ, List, Option, None, Result, option_and_then, option_map}
 use Rattle.triplets.specs.declared.notation.Notation.TheVariants.{Pairs}
-use Rattle.requests.specs.declared.format.Format.TheVariants.{GroupText}
+use Rattle.requests.specs.declared.request.Format.TheVariants.{GroupText}
 use Rattle.requests.specs.declared.refusal.Refusal.{Refusal}
 use Rattle.requests.specs.Words.{at_end, Indices, two_indices}
 use Rattle.requests.specs.Limits.{within_limits}

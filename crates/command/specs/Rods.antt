@@ -1,6 +1,6 @@
 -- `rod`: the operations that map one line to itself, and their rod type.
 use Rattle.std.specs.Prelude.{ℕ, List, Option, Result, option_and_then, option_map}
-use Rattle.requests.specs.declared.format.Format.{Format}
+use Rattle.requests.specs.declared.request.Format.{Format}
 use Rattle.requests.specs.declared.refusal.Refusal.{Refusal}
 use Rattle.requests.specs.Words.{at_end, format_first}
 use Rattle.requests.specs.RodWords.{direction_first, point_first, rod_frame_first}

@@ -1,6 +1,6 @@
 -- `slab`: the operations that map a slab to itself.
 use Rattle.std.specs.Prelude.{ℕ, List, Option, Result, option_and_then, option_map}
-use Rattle.requests.specs.declared.format.Format.{Format}
+use Rattle.requests.specs.declared.request.Format.{Format}
 use Rattle.requests.specs.declared.refusal.Refusal.{Refusal}
 use Rattle.requests.specs.Words.{at_end, format_first, frame_first, three_indices}
 use Rattle.requests.specs.RodWords.{ratio_first}

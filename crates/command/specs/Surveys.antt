@@ -1,7 +1,7 @@
 -- `survey`: one orientation of each class of equivalent ones.
 use Rattle.std.specs.Prelude.{ℕ, ℤ, pos, List, if◌then◌else◌, Option, Some, None, Result, Ok, option_and_then, option_map, codes}
 use Rattle.std.specs.Str.{bytes_eq}
-use Rattle.requests.specs.declared.format.Format.{Format}
+use Rattle.requests.specs.declared.request.Format.{Format}
 use Rattle.requests.specs.declared.refusal.Refusal.{Refusal}
 use Rattle.requests.specs.Words.{at_end, first_word, format_first}
 use Rattle.requests.specs.Questions.{Asked, about, survey_within}

@@ -1,8 +1,8 @@
 -- `types`: the table of a type, which needs no input.
 use Rattle.std.specs.Prelude.{ℕ, List, [], ◌∷◌, if◌then◌else◌, Option, Some, None, Result, Ok, option_and_then, option_map, codes}
 use Rattle.std.specs.Str.{bytes_eq}
-use Rattle.report.specs.declared.kind.Kind.{Kind}
-use Rattle.report.specs.declared.kind.Kind.TheVariants.{Layer, Rod, Frieze}
+use Rattle.report.specs.declared.types.Kind.{Kind}
+use Rattle.report.specs.declared.types.Kind.TheVariants.{Layer, Rod, Frieze}
 use Rattle.report.specs.TypeNumbers.{type_count}
 use Rattle.requests.specs.declared.refusal.Refusal.{Refusal}
 use Rattle.command.specs.Numbers.{number_word}

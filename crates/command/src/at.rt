@@ -13,8 +13,10 @@ use requests::{
 
 /// What the words behind `at` ask for, or the first limit that they pass: `h k l s`, behind it a frame, and last `--cif`.
 pub fn read_at(arguments: &[String]) -> Option<Result<Request, Refusal>>
-    ensures is { option_map (λ read. result_map asked_of read) result ≡ at_words (map string_bytes arguments.now) }
-    ensures range { IfSome result (λ read. IfOk read (λ request. IsAskedInRange (asked_of request))) }
+    ensures is { option_map (λ read. result_map asked_of read) result
+        ≡ at_words (map string_bytes arguments.now) }
+    ensures range { IfSome result
+        (λ read. IfOk read (λ request. IsAskedInRange (asked_of request))) }
 {
     let (indices, others) = split_three_indices(arguments)?;
     let (s, others) = split_ratio(others)?;

@@ -11,8 +11,10 @@ use requests::{
 
 /// What the words behind `images` ask for, or the first limit that they pass: `h k l`, and last `--cif`.
 pub fn read_images(arguments: &[String]) -> Option<Result<Request, Refusal>>
-    ensures is { option_map (λ read. result_map asked_of read) result ≡ images_words (map string_bytes arguments.now) }
-    ensures range { IfSome result (λ read. IfOk read (λ request. IsAskedInRange (asked_of request))) }
+    ensures is { option_map (λ read. result_map asked_of read) result
+        ≡ images_words (map string_bytes arguments.now) }
+    ensures range { IfSome result
+        (λ read. IfOk read (λ request. IsAskedInRange (asked_of request))) }
 {
     let (indices, others) = split_three_indices(arguments)?;
     let (format, others) = split_format(others);

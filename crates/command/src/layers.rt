@@ -12,8 +12,10 @@ use requests::{
 /// What the words behind `layers` ask for, or the first limit that they pass: `h k l` or `h k i l`, behind it a frame,
 /// `--json` and `--cif`, in this order and each or none.
 pub fn read_layers(arguments: &[String]) -> Option<Result<Request, Refusal>>
-    ensures is { option_map (λ read. result_map asked_of read) result ≡ layers_words (map string_bytes arguments.now) }
-    ensures range { IfSome result (λ read. IfOk read (λ request. IsAskedInRange (asked_of request))) }
+    ensures is { option_map (λ read. result_map asked_of read) result
+        ≡ layers_words (map string_bytes arguments.now) }
+    ensures range { IfSome result
+        (λ read. IfOk read (λ request. IsAskedInRange (asked_of request))) }
 {
     let (indices, others) = split_indices(arguments)?;
     let (frame, others) = split_frame(others)?;
@@ -32,7 +34,8 @@ fn heights_request(
     form: Form,
     format: Format,
 ) -> Result<Request, Refusal>
-    ensures is { result_map asked_of result ≡ layers_asked (indices_of indices) (option_map frame_of frame) form format }
+    ensures is { result_map asked_of result
+        ≡ layers_asked (indices_of indices) (option_map frame_of frame) form format }
     ensures range { IfOk result (λ request. IsAskedInRange (asked_of request)) }
 {
     let Planes { plane, basis } = within_limits(PlaneWords {

@@ -10,8 +10,10 @@ use requests::{
 
 /// What the words behind `lines` ask for, or the first limit that they pass: `h k`. The group is listed by pairs.
 pub fn read_lines(arguments: &[String]) -> Option<Result<Request, Refusal>>
-    ensures is { option_map (λ read. result_map asked_of read) result ≡ lines_words (map string_bytes arguments.now) }
-    ensures range { IfSome result (λ read. IfOk read (λ request. IsAskedInRange (asked_of request))) }
+    ensures is { option_map (λ read. result_map asked_of read) result
+        ≡ lines_words (map string_bytes arguments.now) }
+    ensures range { IfSome result
+        (λ read. IfOk read (λ request. IsAskedInRange (asked_of request))) }
 {
     let (indices, others) = split_two_indices(arguments)?;
     match others {

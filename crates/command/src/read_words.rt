@@ -17,8 +17,10 @@ use requests::{Refusal, Request};
 
 /// What the words of a command ask for, or the first limit that they pass. `None` where they are no command.
 fn read_command(words: &[String]) -> Option<Result<Request, Refusal>>
-    ensures is { option_map (λ read. result_map asked_of read) result ≡ command_words (map string_bytes words.now) }
-    ensures range { IfSome result (λ read. IfOk read (λ request. IsAskedInRange (asked_of request))) }
+    ensures is { option_map (λ read. result_map asked_of read) result
+        ≡ command_words (map string_bytes words.now) }
+    ensures range { IfSome result
+        (λ read. IfOk read (λ request. IsAskedInRange (asked_of request))) }
 {
     match words {
         [name, arguments @ ..] => match name.as_str() {

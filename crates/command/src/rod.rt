@@ -28,8 +28,10 @@ fn split_line(words: &[String]) -> Option<(LineWords, &[String])>
 
 /// What the words behind `rod` ask for, or the first limit that they pass: a line, and last `--cif`.
 pub fn read_rod(arguments: &[String]) -> Option<Result<Request, Refusal>>
-    ensures is { option_map (λ read. result_map asked_of read) result ≡ rod_words (map string_bytes arguments.now) }
-    ensures range { IfSome result (λ read. IfOk read (λ request. IsAskedInRange (asked_of request))) }
+    ensures is { option_map (λ read. result_map asked_of read) result
+        ≡ rod_words (map string_bytes arguments.now) }
+    ensures range { IfSome result
+        (λ read. IfOk read (λ request. IsAskedInRange (asked_of request))) }
 {
     let (line, others) = split_line(arguments)?;
     let (format, others) = split_format(others);

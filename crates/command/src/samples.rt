@@ -12,8 +12,10 @@ const MOST_GROUPS: u16 = 400;
 
 /// What the words behind `sample` ask for: a number of groups.
 pub fn read_sample(arguments: &[String]) -> Option<Result<Request, Refusal>>
-    ensures is { option_map (λ read. result_map asked_of read) result ≡ sample_words (map string_bytes arguments.now) }
-    ensures range { IfSome result (λ read. IfOk read (λ request. IsAskedInRange (asked_of request))) }
+    ensures is { option_map (λ read. result_map asked_of read) result
+        ≡ sample_words (map string_bytes arguments.now) }
+    ensures range { IfSome result
+        (λ read. IfOk read (λ request. IsAskedInRange (asked_of request))) }
 {
     match arguments {
         [number] => {

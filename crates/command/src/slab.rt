@@ -29,8 +29,10 @@ fn split_slab(words: &[String]) -> Option<(SlabWords, &[String])>
 
 /// What the words behind `slab` ask for, or the first limit that they pass: a slab, and last `--cif`.
 pub fn read_slab(arguments: &[String]) -> Option<Result<Request, Refusal>>
-    ensures is { option_map (λ read. result_map asked_of read) result ≡ slab_words (map string_bytes arguments.now) }
-    ensures range { IfSome result (λ read. IfOk read (λ request. IsAskedInRange (asked_of request))) }
+    ensures is { option_map (λ read. result_map asked_of read) result
+        ≡ slab_words (map string_bytes arguments.now) }
+    ensures range { IfSome result
+        (λ read. IfOk read (λ request. IsAskedInRange (asked_of request))) }
 {
     let (slab, others) = split_slab(arguments)?;
     let (format, others) = split_format(others);

@@ -39,8 +39,10 @@ fn split_size(words: &[String]) -> Option<(i64, &[String])>
 
 /// What the words behind `survey` ask for: the most that an index may be, 1 to 5, and last `--cif`.
 pub fn read_survey(arguments: &[String]) -> Option<Result<Request, Refusal>>
-    ensures is { option_map (λ read. result_map asked_of read) result ≡ survey_words (map string_bytes arguments.now) }
-    ensures range { IfSome result (λ read. IfOk read (λ request. IsAskedInRange (asked_of request))) }
+    ensures is { option_map (λ read. result_map asked_of read) result
+        ≡ survey_words (map string_bytes arguments.now) }
+    ensures range { IfSome result
+        (λ read. IfOk read (λ request. IsAskedInRange (asked_of request))) }
 {
     let (n, others) = split_size(arguments)?;
     let (format, others) = split_format(others);

@@ -44,8 +44,10 @@ fn read_type_number(kind: Kind, word: &str) -> Option<u8>
 
 /// What the words behind `types` ask for: a kind, and a number of a type of that kind.
 pub fn read_types(arguments: &[String]) -> Option<Result<Request, Refusal>>
-    ensures is { option_map (λ read. result_map asked_of read) result ≡ types_words (map string_bytes arguments.now) }
-    ensures range { IfSome result (λ read. IfOk read (λ request. IsAskedInRange (asked_of request))) }
+    ensures is { option_map (λ read. result_map asked_of read) result
+        ≡ types_words (map string_bytes arguments.now) }
+    ensures range { IfSome result
+        (λ read. IfOk read (λ request. IsAskedInRange (asked_of request))) }
 {
     match arguments {
         [kind, number] => {

@@ -60,13 +60,18 @@ impl Source for BytesSource {
     /// the piece and the number of bytes left. The number of the call stays at 2^64 - 1.
     fn next(&mut self, buf: &mut [u8]) -> Result<usize, Failed>
         ensures listed { IsErr result ↔ Contains self.old.failing (next_count self.old.calls) }
-        ensures amount { IfOk result (λ n. n ≡ least (length buf.old) self.old.piece (length self.old.left)) }
+        ensures amount { IfOk result
+            (λ n. n ≡ least (length buf.old) self.old.piece (length self.old.left)) }
         ensures front { IfOk result (λ n. buf.new ≡ take n self.old.left ++ drop n buf.old) }
         ensures rest { IfOk result (λ n.
-            self.new ≡ record self.old { left = drop n self.old.left; calls = next_count self.old.calls }) }
+            self.new
+            ≡ record self.old { left = drop n self.old.left; calls = next_count self.old.calls }) }
         ensures untouched { OnErr result (buf.new ≡ buf.old) }
         ensures fault { OnErr result
-            (self.new ≡ record self.old { calls = next_count self.old.calls; faults = next_count self.old.faults }) }
+            (self.new ≡ record self.old {
+              calls = next_count self.old.calls;
+              faults = next_count self.old.faults;
+            }) }
         ensures end { IfOk result (λ n. n ≡ 0 → 0 < length buf.new → self.new.left ≡ []) }
         ensures most { IsCount self.old.faults × IsCount self.new.faults }
     {

@@ -15,7 +15,8 @@ pub fn put_all<K: Sink>(out: &mut K, text: &[u8]) -> Result<(), Failed>
     ensures failed { OnErr result (Rose (K.faults out.old) (K.faults out.new)) }
     ensures steady { (n : ℕ) → K.Takes out.old n → length text.now ≤ n →
         IsOk result × K.Takes out.new (n - length text.now) }
-    ensures offers_all { OnOk result (Offers K.IsPut text.now out.old (Some (length text.now)) out.new) }
+    ensures offers_all { OnOk result
+        (Offers K.IsPut text.now out.old (Some (length text.now)) out.new) }
     ensures offers_front { OnErr result (Offers K.IsPut text.now out.old None out.new) }
 {
     let mut taken = 0;

@@ -10,7 +10,7 @@ use crate::traits::{Failed, Source};
 use std::alloc::{AllocError, Global};
 
 // A call of `next` is asked for at most so many bytes.
-const PIECE: usize = 16_384;
+const READ_PIECE: usize = 16_384;
 
 /// What a source gave up to its end.
 #[derive(Debug, PartialEq, Eq, Drop)]
@@ -58,15 +58,17 @@ pub fn read_all<S: Source>(alloc: Global, source: &mut S, limit: usize) -> Resul
         (IfSome (S.left source.old) (λ all. limit < length all))) }
     ensures within { ReadsWithin (S.left source.old) (S.left source.new) (limit + 1) }
     ensures unfailed { (result ≢ Err ReadFault.Failed) → S.faults source.new ≡ S.faults source.old }
-    ensures failed { IsErrOf result ReadFault.Failed → Rose (S.faults source.old) (S.faults source.new) }
-    ensures steady { S.NeverFails source.old → (result ≢ Err ReadFault.Failed) × S.NeverFails source.new }
+    ensures failed { IsErrOf result ReadFault.Failed →
+        Rose (S.faults source.old) (S.faults source.new) }
+    ensures steady { S.NeverFails source.old → (result ≢ Err ReadFault.Failed)
+        × S.NeverFails source.new }
 {
     // Memory that is not written costs nothing, and bytes that are not moved are held once.
     let mut bytes = Vec::with_capacity(alloc, limit)?;
-    let mut piece = [0; PIECE];
+    let mut piece = [0; READ_PIECE];
     loop {
         let room = limit - bytes.len();
-        let wanted = room.min(PIECE - 1) + 1;
+        let wanted = room.min(READ_PIECE - 1) + 1;
         let given = source.next(&mut piece[..wanted])?;
         if given == 0 {
             return Ok(Input::Whole(bytes));

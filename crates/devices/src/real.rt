@@ -40,7 +40,8 @@ impl<R: Read> Source for RealSource<R> {
     /// Each error of the reader is a fault.
     fn next(&mut self, buf: &mut [u8]) -> Result<usize, Failed>
         ensures fits { IfOk result (λ n. n ≤ length buf.new) }
-        ensures bytes { ReadConsumes (R.remaining (reader_of self.old)) (R.remaining (reader_of self.new)) result buf.new }
+        ensures bytes { ReadConsumes (R.remaining (reader_of self.old))
+            (R.remaining (reader_of self.new)) result buf.new }
         ensures unfailed { OnOk result (source_faults self.new ≡ source_faults self.old) }
         ensures failed { OnErr result (Rose (source_faults self.old) (source_faults self.new)) }
         ensures most { IsCount (source_faults self.old) × IsCount (source_faults self.new) }
@@ -86,7 +87,8 @@ impl<W: Write> Sink for RealSink<W> {
         ensures fits { IfOk result (λ n. n ≤ length piece.now) }
         ensures some { IfOk result (λ n. 0 < length piece.now → 0 < n) }
         ensures bytes { IfOk result (λ n.
-            Appends (W.contents (writer_of self.old)) (W.contents (writer_of self.new)) (take n piece.now)) }
+            Appends (W.contents (writer_of self.old)) (W.contents (writer_of self.new))
+            (take n piece.now)) }
         ensures unfailed { OnOk result (sink_faults self.new ≡ sink_faults self.old) }
         ensures failed { OnErr result (Rose (sink_faults self.old) (sink_faults self.new)) }
         ensures most { IsCount (sink_faults self.old) × IsCount (sink_faults self.new) }
@@ -101,7 +103,8 @@ impl<W: Write> Sink for RealSink<W> {
 // A writer that keeps bytes back would lose them, or hide its error, where the program ends: so each write is flushed.
 fn write_through<W: Write>(writer: &mut W, piece: &[u8]) -> io::Result<usize>
     ensures fits { WritesAtMost result piece.now }
-    ensures bytes { IfOk result (λ n. Appends (W.contents writer.old) (W.contents writer.new) (take n piece.now)) }
+    ensures bytes { IfOk result
+        (λ n. Appends (W.contents writer.old) (W.contents writer.new) (take n piece.now)) }
 {
     let taken = writer.write(piece)?;
     writer.flush()?;

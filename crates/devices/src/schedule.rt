@@ -28,7 +28,8 @@ impl Schedule {
 
     /// Counts a call, which fails where its number is listed.
     pub(crate) fn begin(&mut self) -> Result<(), Failed>
-        ensures listed { IsErr result ↔ Contains self.old.failing.items (next_count self.old.calls) }
+        ensures listed { IsErr result
+            ↔ Contains self.old.failing.items (next_count self.old.calls) }
         ensures calls { self.new.calls ≡ next_count self.old.calls }
         ensures failing { self.new.failing ≡ self.old.failing }
         ensures risen { OnErr result (self.new.faults.count ≡ next_count self.old.faults.count) }

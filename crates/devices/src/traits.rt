@@ -22,7 +22,8 @@ pub trait Source {
     /// not empty is the end of the input. `Failed` comes only where the count of faults rose.
     fn next(&mut self, buf: &mut [u8]) -> Result<usize, Failed>
         ensures fits { IfOk result (λ n. n ≤ length buf.new) }
-        ensures given { IfOk result (λ n. left self.old ≡ prepend_known (take n buf.new) (left self.new)) }
+        ensures given { IfOk result
+            (λ n. left self.old ≡ prepend_known (take n buf.new) (left self.new)) }
         ensures end { IfOk result (λ n. n ≡ 0 → 0 < length buf.new → IsAtEnd (left self.new)) }
         ensures kept { OnErr result (left self.new ≡ left self.old) }
         ensures unfailed { OnOk result (faults self.new ≡ faults self.old) }
@@ -50,7 +51,8 @@ pub trait Sink {
     fn put(&mut self, piece: &[u8]) -> Result<usize, Failed>
         ensures fits { IfOk result (λ n. n ≤ length piece.now) }
         ensures some { IfOk result (λ n. 0 < length piece.now → 0 < n) }
-        ensures taken { IfOk result (λ n. held self.new ≡ append_known (held self.old) (take n piece.now)) }
+        ensures taken { IfOk result
+            (λ n. held self.new ≡ append_known (held self.old) (take n piece.now)) }
         ensures kept { OnErr result (held self.new ≡ held self.old) }
         ensures unfailed { OnOk result (faults self.new ≡ faults self.old) }
         ensures failed { OnErr result (Rose (faults self.old) (faults self.new)) }
@@ -58,5 +60,6 @@ pub trait Sink {
         ensures steady { (n : ℕ) → Takes self.old n → length piece.now ≤ n →
             IsOkAnd result (λ k. Takes self.new (n - k)) }
         ensures put { MatchResult result
-            (λ n. IsPut self.old piece.now (Some n) self.new) (λ _. IsPut self.old piece.now None self.new) };
+            (λ n. IsPut self.old piece.now (Some n) self.new)
+            (λ _. IsPut self.old piece.now None self.new) };
 }

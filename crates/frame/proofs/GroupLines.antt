@@ -4,14 +4,15 @@ use Rattle.symmetry.specs.Vectors.{Vector}
 use Rattle.symmetry.specs.Groups.{Listing}
 use Rattle.closure.specs.declared.group.Group.{Group}
 use Rattle.closure.specs.Groups.{IsGroupOf}
-use Rattle.requests.specs.declared.format.Format.{Format}
+use Rattle.requests.specs.declared.request.Format.{Format}
 use Rattle.requests.specs.declared.obstacle.Obstacle.{Obstacle}
 use Rattle.requests.specs.declared.obstacle.Obstacle.TheVariants as obstacles
 use Rattle.requests.specs.declared.refusal.Refusal.{Refusal}
 use Rattle.requests.specs.Inputs.{IsGroupOfInput}
 use Rattle.frame.specs.Answers.{IsFrameAnswer}
-use Rattle.frame.specs.Causes.{HasAnswer, IsGroupsObstacle, IsObstacle}
-use Rattle.frame.specs.Runs.{AsksRow}
+use Rattle.requests.specs.Causes.{IsObstacle}
+use Rattle.frame.specs.Causes.{HasAnswer, IsGroupsObstacle}
+use Rattle.frame.specs.Runs.{AsksRow, IsCause}
 
 module _ (read : Result (Vector × Format) Refusal) (row : Vector) (format : Format) (asks : AsksRow read row format) (left : Option (List ℕ))
     (group : Group) (is_of : (input : List ℕ) → left ≡ Some input → IsGroupOfInput format input group) where
@@ -29,7 +30,7 @@ module _ (read : Result (Vector × Format) Refusal) (row : Vector) (format : For
   answered (Err o) answers = tt
 
   pub kept_from_answer : (result : Result (Vec ℕ Global) Obstacle) (faults faults' : ℕ) → faults' ≡ faults
-      → IfErr result (IsGroupsObstacle group row) → IfErr result (IsObstacle read left faults faults')
+      → IfErr result (IsGroupsObstacle group row) → IfErr result (IsObstacle (IsCause read left) faults faults')
   kept_from_answer (Ok text) faults faults' same o = tt
   kept_from_answer (Err (obstacles.Refused r)) faults faults' same o = (
     inr (row, format, asks, λ input is. let of = is_of input is in inr (of.short, of.some, λ g lists. o g (of.is_of g lists))),

@@ -2,20 +2,20 @@
 use Rattle.std.proofs.Common.{◌≡◌, ℕ, List, sym, subst, inl, inr, Option, Some, Result}
 use Rattle.symmetry.specs.Vectors.{Vector}
 use Rattle.symmetry.specs.Groups.{Listing}
-use Rattle.requests.specs.declared.format.Format.{Format}
+use Rattle.requests.specs.declared.request.Format.{Format}
 use Rattle.requests.specs.declared.refusal.Refusal.{Refusal}
 use Rattle.requests.specs.declared.obstacle.Obstacle.{Obstacle}
 use Rattle.requests.specs.declared.obstacle.Obstacle.TheVariants as obstacles
 use Rattle.requests.specs.declared.outcome.Outcome.{Outcome}
-use Rattle.requests.specs.Causes.{IsRefusedOr}
+use Rattle.requests.specs.Causes.{IsObstacle, IsRefusedOr}
 use Rattle.requests.specs.Inputs.{IsRefusedInput, IsShort, ListsGroup}
-use Rattle.requests.specs.Questions.{image_rows}
+use Rattle.requests.specs.Questions.{image_rows, IsWordsRefusal}
 use Rattle.requests.specs.Runs.{Refuses}
 use Rattle.requests.proofs.OneAnswer.{one_refusal}
 use Rattle.requests.proofs.OneCause.{no_group_and_cause}
 use Rattle.frame.specs.Answers.{AnswersInput, RefusesInput, RefusesReduced}
-use Rattle.frame.specs.Causes.{HasAnswer, IsObstacle}
-use Rattle.frame.specs.Runs.{AsksRow, GivesFrame, IsCause, RefusesWords}
+use Rattle.frame.specs.Causes.{HasAnswer}
+use Rattle.frame.specs.Runs.{AsksRow, GivesFrame, IsCause}
 
 -- an input that lists a group is not refused before its frame is
 module _ (format : Format) (input : List ℕ) (g : Listing) (short : IsShort format input) (lists : ListsGroup format input g) where
@@ -31,7 +31,7 @@ one_reason : (format : Format) (row : Vector) (input : List ℕ) (r r' : Refusal
 one_reason format row input r r' (inl p) q = one_refusal format (image_rows row) input r r' (inl p) (inl q)
 one_reason format row input r r' (inr (short, (g, lists), p)) q = absurd (group_and_refusal format input g short lists r' q)
 
-not_refused : (read : Result (Vector × Format) Refusal) (row : Vector) (format : Format) (r : Refusal) → AsksRow read row format → RefusesWords read r → ⊥
+not_refused : (read : Result (Vector × Format) Refusal) (row : Vector) (format : Format) (r : Refusal) → AsksRow read row format → IsWordsRefusal read r → ⊥
 not_refused read row format r p q = cc
 
 -- what holds of any row of the words and its format holds of this
@@ -49,9 +49,9 @@ module _ (read : Result (Vector × Format) Refusal) (left : Option (List ℕ)) (
       group_and_refusal format input answer.group answer.short answer.lists refusal p
 
   module _ (faults faults' : ℕ) (r : Refusal) (obstacle : Obstacle) (told : obstacle ≡ obstacles.Refused r)
-      (kept : IsObstacle read left faults faults' obstacle) where
+      (kept : IsObstacle (IsCause read left) faults faults' obstacle) where
     cause : IsCause read left r
-    cause = (subst (IsObstacle read left faults faults') told kept).0
+    cause = (subst (IsObstacle (IsCause read left) faults faults') told kept).0
 
     -- the words are not refused, so that the input is
     from_input : IsCause read left r → RefusesInput format row input r

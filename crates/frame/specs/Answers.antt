@@ -8,7 +8,7 @@ use Rattle.reduction.specs.ReducedFrames.{IsInRange, IsReductionFault}
 use Rattle.reduction.specs.declared.reduced.ReductionFault.{ReductionFault}
 use Rattle.reduction.specs.declared.reduced.ReductionFault.TheVariants.{OutOfRange, Skewed}
 use Rattle.report.specs.Texts.{frame_line}
-use Rattle.requests.specs.declared.format.Format.{Format}
+use Rattle.requests.specs.declared.request.Format.{Format}
 use Rattle.requests.specs.declared.refusal.Refusal.{Refusal}
 use Rattle.requests.specs.declared.refusal.Refusal.TheVariants.{FrameLimit, SkewFrame}
 use Rattle.requests.specs.Inputs.{IsRefusedInput, IsShort, ListsGroup, ListsSome}

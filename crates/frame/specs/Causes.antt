@@ -2,15 +2,14 @@
 use Rattle.std.specs.Prelude.{◌≡◌, ℕ, List, Option, Some, Result}
 use Rattle.symmetry.specs.Vectors.{Vector}
 use Rattle.symmetry.specs.Groups.{Listing}
-use Rattle.devices.specs.Calls.{Rose}
 use Rattle.closure.specs.declared.group.Group.{Group}
 use Rattle.closure.specs.Groups.{IsGroupOf}
-use Rattle.requests.specs.declared.format.Format.{Format}
+use Rattle.requests.specs.declared.request.Format.{Format}
 use Rattle.requests.specs.declared.obstacle.Obstacle.{Obstacle}
 use Rattle.requests.specs.declared.obstacle.Obstacle.TheVariants as obstacles
 use Rattle.requests.specs.declared.refusal.Refusal.{Refusal}
 use Rattle.frame.specs.Answers.{AnswersInput, RefusesReduced}
-use Rattle.frame.specs.Runs.{AsksRow, IsCause}
+use Rattle.frame.specs.Runs.{AsksRow}
 
 -- what keeps the group from a frame, as each listing of it tells
 abbrev pub IsGroupsObstacle : Group → Vector → Obstacle → Type 0
@@ -24,9 +23,3 @@ pub record HasAnswer (read : Result (Vector × Format) Refusal) (left : Option (
   pub format : Format
   pub asks : AsksRow read row format
   pub answers : (input : List ℕ) → left ≡ Some input → AnswersInput format row input text
-
--- what keeps the words from a frame; the count of faults rose where the source failed alone
-abbrev pub IsObstacle : Result (Vector × Format) Refusal → Option (List ℕ) → ℕ → ℕ → Obstacle → Type 0
-IsObstacle read left faults faults' (obstacles.Refused refusal) = IsCause read left refusal × (faults' ≡ faults)
-IsObstacle read left faults faults' obstacles.ReadFault = Rose faults faults'
-IsObstacle read left faults faults' obstacles.NoMemory = faults' ≡ faults

@@ -3,7 +3,7 @@ use Rattle.std.specs.Prelude.{ℕ, List, Option, None, Result, Err, option_and_t
 use Rattle.symmetry.specs.Vectors.{Vector}
 use Rattle.motions.specs.Views.{row_of}
 use Rattle.motions.specs.declared.miller.Miller.{Miller}
-use Rattle.requests.specs.declared.format.Format.{Format}
+use Rattle.requests.specs.declared.request.Format.{Format}
 use Rattle.requests.specs.declared.refusal.Refusal.{Refusal}
 use Rattle.requests.specs.declared.refusal.Refusal.TheVariants.{Usage}
 use Rattle.requests.specs.Words.{at_end, format_first, Indices, indices_first}

@@ -24,7 +24,8 @@ fn plane_of_indices(indices: IndexWords, format: Format) -> Result<(Miller, Form
 /// The orientation of the words `h k l` or `h k i l`, with the format by `--cif` behind them, or the first limit that they
 /// pass. `None` where they are no such words.
 fn plane_of_words(words: &[String]) -> Option<Result<(Miller, Format), Refusal>>
-    ensures { option_map (λ read. result_map said_of read) result ≡ row_words (map string_bytes words.now) }
+    ensures { option_map (λ read. result_map said_of read) result
+        ≡ row_words (map string_bytes words.now) }
 {
     let (indices, others) = split_indices(words)?;
     let (format, others) = split_format(others);

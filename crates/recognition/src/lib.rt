@@ -44,6 +44,7 @@ pub use laws::{agreement_by_tests, carries_by_tests};
 pub use origins::{first_origin, fits};
 pub use recognise::{NoMemory, layer_type};
 pub use rod_laws::carries_by_listed;
+pub use rod_matrices::{determinant, hand};
 pub use rod_origins::least_origin;
 pub use rod_pairs::carries;
 pub use rods::rod_type;

@@ -65,7 +65,7 @@ pub(crate) fn is_product(left: &[[i64; 2]; 2], right: &[[i64; 2]; 2], other: &[[
 }
 
 /// The determinant, which of the plane vectors of a change is their cross number.
-pub(crate) fn determinant(p: &[[i64; 2]; 2]) -> i64
+pub fn determinant(p: &[[i64; 2]; 2]) -> i64
     requires { IsMatrix2Within 500 (matrix2_of p.now) }
     ensures { result ≡ determinant2 (matrix2_of p.now) }
 {
@@ -73,7 +73,7 @@ pub(crate) fn determinant(p: &[[i64; 2]; 2]) -> i64
 }
 
 /// How a change turns the axis: 1, or -1 where its cross number is negative.
-pub(crate) fn hand(p: &[[i64; 2]; 2]) -> i64
+pub fn hand(p: &[[i64; 2]; 2]) -> i64
     requires { IsMatrix2Within 500 (matrix2_of p.now) }
     ensures is { result ≡ hand (matrix2_of p.now) }
     ensures small { IsWithin 1 result }

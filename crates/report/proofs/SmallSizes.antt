@@ -21,7 +21,7 @@ use Rattle.scanning.specs.HeightView.{IsInHalves, special_of}
 use Rattle.scanning.proofs.MadeHeights.{in_halves}
 use Rattle.scanning.proofs.Shifts.{period_within}
 use Rattle.report.specs.declared.report.Report.{Report}
-use Rattle.report.specs.declared.section.HeightSection.{HeightSection}
+use Rattle.report.specs.declared.report.HeightSection.{HeightSection}
 use Rattle.report.specs.Reports.{HeightBlock}
 use Rattle.report.specs.SectionView.{block_of}
 use Rattle.report.specs.SmallHeights.{IsSmallHeight}

@@ -2,7 +2,7 @@
 use Rattle.std.specs.Prelude.{ℕ, Option}
 use Rattle.recognition.specs.declared.found.Found.{Found}
 use Rattle.scanning.specs.declared.height.Height.{Height}
-use Rattle.report.specs.declared.section.HeightSection.{HeightSection}
+use Rattle.report.specs.declared.report.HeightSection.{HeightSection}
 
 -- the number and what was found
 abbrev pub NumberAndType : Type 0

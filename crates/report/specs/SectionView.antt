@@ -5,8 +5,8 @@ use Rattle.symmetry.specs.Planes.{Height}
 use Rattle.motions.specs.Views.{motion_of}
 use Rattle.recognition.specs.Search.{change_of}
 use Rattle.report.specs.Reports.{HeightBlock, block_heights, Section as SectionOfPlane}
-use Rattle.report.specs.declared.section.HeightSection.{HeightSection}
-use Rattle.report.specs.declared.section.Section.{Section}
+use Rattle.report.specs.declared.report.HeightSection.{HeightSection}
+use Rattle.report.specs.declared.report.Section.{Section}
 
 -- the operations and what was found
 abbrev pub section_of : Section → SectionOfPlane

@@ -1,7 +1,7 @@
 -- The numbers of types.
 use Rattle.std.specs.Prelude.{ℕ, ◌≤◌}
-use Rattle.report.specs.declared.kind.Kind.{Kind}
-use Rattle.report.specs.declared.kind.Kind.TheVariants.{Layer, Rod, Frieze}
+use Rattle.report.specs.declared.types.Kind.{Kind}
+use Rattle.report.specs.declared.types.Kind.TheVariants.{Layer, Rod, Frieze}
 
 -- how many types there are of a kind
 abbrev pub type_count : Kind → ℕ

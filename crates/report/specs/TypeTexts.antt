@@ -14,8 +14,8 @@ use Rattle.line_types.specs.declared.rods.RodType.{RodType}
 use Rattle.line_types.specs.Friezes.{IsFriezeType}
 use Rattle.line_types.specs.Rods.{IsRodType}
 use Rattle.report.specs.Texts.{operation_line}
-use Rattle.report.specs.declared.kind.Kind.{Kind}
-use Rattle.report.specs.declared.kind.Kind.TheVariants.{Layer, Rod, Frieze}
+use Rattle.report.specs.declared.types.Kind.{Kind}
+use Rattle.report.specs.declared.types.Kind.TheVariants.{Layer, Rod, Frieze}
 
 -- the number and the symbol of a type
 abbrev pub type_line : List ℕ → ℕ → List ℕ → List ℕ

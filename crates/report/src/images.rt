@@ -20,7 +20,8 @@ pub fn images_text(alloc: Global, images: &[[i64; 3]]) -> Result<Vec<u8>, NoMemo
 }
 
 fn write_image(text: &mut String, image: &[i64; 3]) -> Result<(), NoMemory>
-    ensures { OnOk result (string_bytes text.new ≡ string_bytes text.old ++ image_line (vector_of image.now)) }
+    ensures { OnOk result
+        (string_bytes text.new ≡ string_bytes text.old ++ image_line (vector_of image.now)) }
 {
     let indices = Indices::of(image);
     write!(text, "image{indices}\n")

@@ -16,8 +16,7 @@ ghost use Rattle.report.specs.WrittenView.{directed_of, edges_of, parts_of};
 
 use crate::at::NoMemory;
 use crate::named::{TypeBasis, origin_at_height, origin_in_plane, symbol};
-use crate::report::Report;
-use crate::section::HeightSection;
+use crate::report::{HeightSection, Report};
 use crate::written::{Directed, InEdges, InParts};
 use fractions::{Part, Ratio};
 use motions::{Miller, Motion3};
@@ -110,7 +109,9 @@ fn general_type_value(
     report: &Report,
     found: &Option<Found>,
 ) -> Result<Value, NoMemory>
-    ensures { IfOk result (λ value. view value ≡ general_type_data (report_of report.now) (option_map change_of found.now)) }
+    ensures { IfOk result
+        (λ value. view value
+        ≡ general_type_data (report_of report.now) (option_map change_of found.now)) }
 {
     match found {
         None => Ok(Value::Null),
@@ -141,7 +142,8 @@ fn heights_value(
 #[tactic(auto, unfolding(crate::specs::Values::height_data))]
 fn height_value(alloc: Global, report: &Report, height: &HeightSection) -> Result<Value, NoMemory>
     requires { IsSmallHeight (fraction_of height.now.s) }
-    ensures { IfOk result (λ value. view value ≡ height_data (report_of report.now) (block_of height.now)) }
+    ensures { IfOk result
+        (λ value. view value ≡ height_data (report_of report.now) (block_of height.now)) }
 {
     let s = height.s;
     json!(in alloc; {
@@ -199,7 +201,8 @@ fn named_value(
     origin: InEdges,
 ) -> Result<Value, NoMemory>
     ensures { IfOk result (λ value. view value
-        ≡ named_data (basis_of_frame frame.now) (fractions_of frame.now.c) (edges_of origin) (change_of found.now)) }
+        ≡ named_data (basis_of_frame frame.now) (fractions_of frame.now.c) (edges_of origin)
+        (change_of found.now)) }
 {
     let basis = TypeBasis::of(frame, found);
     json!(in alloc; {

@@ -28,8 +28,8 @@ ghost use Rattle.report.specs.WrittenGenerators.{IsFriezeGenerator, IsLayerGener
 /// Every height is in one class of a report, and what the report gives as the operations at a height are, once each modulo
 /// the translations of the plane, exactly those that map the plane to itself.
 pub fn report_says()
-    ensures { (g : Listing) (r : Vector) (f : Basis) (report : Report) → IsGroup g → IsCoprime r → IsFrame g r f →
-        IsReport g r f report → ReportSays g r f report }
+    ensures { (g : Listing) (r : Vector) (f : Basis) (report : Report) → IsGroup g →
+        IsCoprime r → IsFrame g r f → IsReport g r f report → ReportSays g r f report }
 {}
 
 /// Listings of one group have the same reports.
@@ -41,9 +41,11 @@ pub fn alike_reports()
 /// What `rod_at` gives in a rod frame of a group is, of each listing of the group, the report of the line: a rod frame that is not
 /// skewed, a' and b' in it, and the operations along the line with the first change of their section onto a rod type.
 pub fn rod_says()
-    ensures { (g : Listing) (group : Group) (direction : Direction) (basis : RodBasis) (frame : RodFrame) (point : List Part)
-        (rod : Rod) → IsGroupOf g group → IsRodFrameOf group direction basis frame → IsRodOf group frame point rod →
-        IsRodReport g (direction_of direction) (parts basis.a) (parts basis.b) (parts point) (rod_report_of rod) }
+    ensures { (g : Listing) (group : Group) (direction : Direction) (basis : RodBasis)
+        (frame : RodFrame) (point : List Part) (rod : Rod) →
+        IsGroupOf g group → IsRodFrameOf group direction basis frame → IsRodOf group frame point rod →
+        IsRodReport g (direction_of direction) (parts basis.a) (parts basis.b) (parts point)
+        (rod_report_of rod) }
 {}
 
 /// Each generator that a table of types writes is a triplet of the grammar of group texts, or a pair for a frieze type, and

@@ -12,7 +12,9 @@ use triplets::Triplet;
 
 /// A line for each operation.
 pub(crate) fn write_operations(text: &mut String, ops: &[Motion3]) -> Result<(), NoMemory>
-    ensures { OnOk result (string_bytes text.new ≡ string_bytes text.old ++ flat_map operation_line (map motion_of ops.now)) }
+    ensures { OnOk result
+        (string_bytes text.new ≡ string_bytes text.old
+        ++ flat_map operation_line (map motion_of ops.now)) }
 {
     for m in ops {
         write_operation(text, m)?;
@@ -22,7 +24,8 @@ pub(crate) fn write_operations(text: &mut String, ops: &[Motion3]) -> Result<(),
 
 /// The line of an operation.
 pub(crate) fn write_operation(text: &mut String, m: &Motion3) -> Result<(), NoMemory>
-    ensures { OnOk result (string_bytes text.new ≡ string_bytes text.old ++ operation_line (motion_of m.now)) }
+    ensures { OnOk result
+        (string_bytes text.new ≡ string_bytes text.old ++ operation_line (motion_of m.now)) }
 {
     let triplet = Triplet(m);
     write!(text, "op {triplet}\n")

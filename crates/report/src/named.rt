@@ -9,8 +9,6 @@ ghost use Rattle.symmetry.specs.Sizes.{IsVectorWithin};
 ghost use Rattle.symmetry.specs.Vectors.{multiple, plus};
 ghost use Rattle.layer_types.specs.Rows.{layer_row};
 ghost use Rattle.motions.specs.PlaneMatrices.{determinant2};
-ghost use Rattle.motions.specs.PlaneSizes.{IsMatrix2Within};
-ghost use Rattle.motions.specs.PlaneViews.{matrix2_of};
 ghost use Rattle.plane_lattice.specs.Bounds.{largest_entry, largest_period};
 ghost use Rattle.plane_lattice.specs.FrameView.{basis_of_frame};
 ghost use Rattle.recognition.specs.Grid.{grid};
@@ -23,7 +21,7 @@ use crate::written::{Directed, InEdges, InParts};
 use fractions::{Part, Ratio, UNIT};
 use layer_types::layer;
 use plane_lattice::Frame;
-use recognition::{Found, GRID};
+use recognition::{Found, GRID, determinant};
 
 // An origin x a + y b of the grid, with a and b in parts, is counted in cell edges over this.
 const OVER: i64 = GRID as i64 * UNIT;
@@ -49,9 +47,12 @@ pub(crate) struct TypeBasis {
 impl TypeBasis {
     /// The basis by the change that was found.
     pub(crate) fn of(frame: &Frame, found: &Found) -> TypeBasis
-        ensures first { parts_of result.first ≡ first_vector (basis_of_frame frame.now) (change_of found.now) }
-        ensures second { parts_of result.second ≡ second_vector (basis_of_frame frame.now) (change_of found.now) }
-        ensures third { directed_of result.third ≡ third_vector (fractions_of frame.now.c) (change_of found.now) }
+        ensures first { parts_of result.first
+            ≡ first_vector (basis_of_frame frame.now) (change_of found.now) }
+        ensures second { parts_of result.second
+            ≡ second_vector (basis_of_frame frame.now) (change_of found.now) }
+        ensures third { directed_of result.third
+            ≡ third_vector (fractions_of frame.now.c) (change_of found.now) }
     {
         TypeBasis {
             first: in_plane(frame, found.p[0][0], found.p[1][0]),
@@ -71,17 +72,10 @@ fn is_turned(found: &Found) -> bool
     determinant(&found.p) < 0
 }
 
-/// The determinant of the matrix of a change.
-pub(crate) fn determinant(p: &[[i64; 2]; 2]) -> i64
-    requires { IsMatrix2Within 2 (matrix2_of p.now) }
-    ensures { result ≡ determinant2 (matrix2_of p.now) }
-{
-    p[0][0] * p[1][1] - p[0][1] * p[1][0]
-}
-
 /// The origin (x/grid) a + (y/grid) b of a change, in lowest terms.
 pub(crate) fn origin_in_plane(frame: &Frame, found: &Found) -> InEdges
-    ensures { edges_of result ≡ lowest_point (origin_in_plane (basis_of_frame frame.now) (change_of found.now)) }
+    ensures { edges_of result
+        ≡ lowest_point (origin_in_plane (basis_of_frame frame.now) (change_of found.now)) }
 {
     let v = grid_vector(frame, found);
     InEdges {
@@ -95,7 +89,8 @@ pub(crate) fn origin_in_plane(frame: &Frame, found: &Found) -> InEdges
 pub(crate) fn origin_at_height(frame: &Frame, s: Ratio, found: &Found) -> InEdges
     requires { IsSmallHeight (fraction_of s) }
     ensures { edges_of result
-        ≡ lowest_point (origin_at_height frame.now.period.0 (fraction_of s) (basis_of_frame frame.now) (change_of found.now)) }
+        ≡ lowest_point (origin_at_height
+        frame.now.period.0 (fraction_of s) (basis_of_frame frame.now) (change_of found.now)) }
 {
     let v = grid_vector(frame, found);
     InEdges {
@@ -157,7 +152,8 @@ pub(crate) fn lowest(num: i64, den: i64) -> Ratio
 
 // x a + y b, for the origin (x, y) of the grid.
 fn grid_vector(frame: &Frame, found: &Found) -> InParts
-    ensures is { parts_of result ≡ (origin_in_plane (basis_of_frame frame.now) (change_of found.now)).at }
+    ensures is { parts_of result
+        ≡ (origin_in_plane (basis_of_frame frame.now) (change_of found.now)).at }
     ensures small { IsVectorWithin (2 * (grid * largest_entry)) (parts_of result) }
 {
     in_plane(frame, i64::from(found.x), i64::from(found.y))
@@ -167,7 +163,8 @@ fn grid_vector(frame: &Frame, found: &Found) -> InParts
 fn in_plane(frame: &Frame, x: i64, y: i64) -> InParts
     requires x { IsWithin grid x }
     requires y { IsWithin grid y }
-    ensures is { parts_of result ≡ plus (multiple x (basis_of_frame frame.now).a) (multiple y (basis_of_frame frame.now).b) }
+    ensures is { parts_of result
+        ≡ plus (multiple x (basis_of_frame frame.now).a) (multiple y (basis_of_frame frame.now).b) }
     ensures small { IsVectorWithin (2 * (grid * largest_entry)) (parts_of result) }
 {
     InParts {

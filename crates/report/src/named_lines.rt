@@ -22,7 +22,8 @@ pub(crate) fn write_named(
     behind: &str,
 ) -> Result<(), NoMemory>
     ensures { OnOk result (string_bytes text.new ≡ string_bytes text.old
-        ++ named_lines (basis_of_frame frame.now) (fractions_of frame.now.c) (edges_of origin) behind.now (change_of found.now)) }
+        ++ named_lines (basis_of_frame frame.now) (fractions_of frame.now.c)
+        (edges_of origin) behind.now (change_of found.now)) }
 {
     write_number(text, found.number, symbol(found))?;
     write_basis(text, frame, found)?;
@@ -32,7 +33,8 @@ pub(crate) fn write_named(
 /// The line of the number and the symbol of a type.
 #[tactic(auto, unfolding(crate::specs::Texts::number_line))]
 pub(crate) fn write_number(text: &mut String, number: u8, symbol: &str) -> Result<(), NoMemory>
-    ensures { OnOk result (string_bytes text.new ≡ string_bytes text.old ++ number_line number symbol.now) }
+    ensures { OnOk result
+        (string_bytes text.new ≡ string_bytes text.old ++ number_line number symbol.now) }
 {
     write!(text, "type {number} {symbol}\n")
 }
@@ -41,7 +43,8 @@ fn write_basis(text: &mut String, frame: &Frame, found: &Found) -> Result<(), No
     ensures { let c = change_of found.now in
         let f = basis_of_frame frame.now in
         OnOk result (string_bytes text.new ≡ string_bytes text.old
-        ++ basis_line (first_vector f c) (second_vector f c) (third_vector (fractions_of frame.now.c) c)) }
+        ++ basis_line (first_vector f c) (second_vector f c)
+        (third_vector (fractions_of frame.now.c) c)) }
 {
     write_vectors(text, TypeBasis::of(frame, found))
 }
@@ -62,7 +65,9 @@ fn write_vectors(text: &mut String, basis: TypeBasis) -> Result<(), NoMemory>
 /// The line of an origin, with what stands behind it.
 #[tactic(auto, unfolding(crate::specs::Texts::origin_line))]
 pub(crate) fn write_origin(text: &mut String, origin: InEdges, behind: &str) -> Result<(), NoMemory>
-    ensures { OnOk result (string_bytes text.new ≡ string_bytes text.old ++ origin_line (edges_of origin) behind.now) }
+    ensures { OnOk result
+        (string_bytes text.new ≡ string_bytes text.old
+        ++ origin_line (edges_of origin) behind.now) }
 {
     write!(text, "origin {origin}{behind}\n")
 }

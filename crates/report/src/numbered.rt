@@ -4,7 +4,7 @@ ghost use Rattle.std.specs.List.{zip};
 ghost use Rattle.report.specs.Numbered.{numbered};
 
 use crate::at::NoMemory;
-use crate::section::{HeightSection, Section};
+use crate::report::{HeightSection, Section};
 use recognition::Found;
 use scanning::Height;
 use std::alloc::Global;
@@ -16,7 +16,9 @@ pub(crate) fn numbered(
     orbits: Vec<u32>,
     types: Vec<Option<Found>>,
 ) -> Result<Vec<HeightSection>, NoMemory>
-    ensures { IfOk result (λ sections. sections.items ≡ map numbered (zip special.items (zip orbits.items types.items))) }
+    ensures { IfOk result
+        (λ sections. sections.items
+        ≡ map numbered (zip special.items (zip orbits.items types.items))) }
 {
     special
         .into_iter()

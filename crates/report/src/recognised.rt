@@ -37,9 +37,11 @@ pub(crate) fn general_type<L: Ledger>(
     steps: &mut Steps<L>,
 ) -> Result<Option<Found>, NoMemory>
     requires made { IsMadeFor group.now frame.now }
-    requires ops { IsGeneralList (group_listing group.now) (row_of frame.now.plane) (basis_of_frame frame.now) (map motion_of ops.now) }
+    requires ops { IsGeneralList (group_listing group.now) (row_of frame.now.plane)
+        (basis_of_frame frame.now) (map motion_of ops.now) }
     ensures { IfOk result (λ found.
-        IsGeneralType (group_listing group.now) (row_of frame.now.plane) (basis_of_frame frame.now) (option_map change_of found)) }
+        IsGeneralType (group_listing group.now) (row_of frame.now.plane) (basis_of_frame frame.now)
+        (option_map change_of found)) }
 {
     let section = seen(alloc, group, frame, ops, 0)?;
     layer_type(alloc, &section, steps)
@@ -55,9 +57,11 @@ pub(crate) fn special_types<L: Ledger>(
 ) -> Result<Vec<Option<Found>>, NoMemory>
     requires made { IsMadeFor group.now frame.now }
     requires small { All (λ h. IsSmallHeight (fraction_of h.s)) special.now }
-    requires special { All (λ h. IsSpecialList (group_listing group.now) (row_of frame.now.plane) (basis_of_frame frame.now) (special_of h)) special.now }
+    requires special { All (λ h. IsSpecialList (group_listing group.now) (row_of frame.now.plane)
+        (basis_of_frame frame.now) (special_of h)) special.now }
     ensures { IfOk result (λ types. AllZip (λ h found.
-        IsTypeAt (group_listing group.now) (row_of frame.now.plane) (basis_of_frame frame.now) (fraction_of h.s) (option_map change_of found))
+        IsTypeAt (group_listing group.now) (row_of frame.now.plane) (basis_of_frame frame.now)
+        (fraction_of h.s) (option_map change_of found))
         special.now types.items) }
 {
     let mut types = Vec::new(alloc);
@@ -76,8 +80,10 @@ fn special_type<L: Ledger>(
 ) -> Result<Option<Found>, NoMemory>
     requires made { IsMadeFor group.now frame.now }
     requires small { IsSmallHeight (fraction_of height.now.s) }
-    requires height { IsSpecialList (group_listing group.now) (row_of frame.now.plane) (basis_of_frame frame.now) (special_of height.now) }
-    ensures { IfOk result (λ found. IsTypeAt (group_listing group.now) (row_of frame.now.plane) (basis_of_frame frame.now)
+    requires height { IsSpecialList (group_listing group.now) (row_of frame.now.plane)
+        (basis_of_frame frame.now) (special_of height.now) }
+    ensures { IfOk result (λ found.
+        IsTypeAt (group_listing group.now) (row_of frame.now.plane) (basis_of_frame frame.now)
         (fraction_of height.now.s) (option_map change_of found)) }
 {
     let step = step_of(height.s, frame.period);
@@ -113,9 +119,11 @@ fn seen(
     requires from { pos 0 ≤ℤ step }
     requires below { step <ℤ (pos 2 *ℤ UNIT) }
     requires ops { let r = row_of frame.now.plane in
-        All (IsOnPlane (group_listing group.now) r (basis_of_frame frame.now) (height_in_steps (dot r (parts frame.now.tau)) step))
+        All (IsOnPlane (group_listing group.now) r (basis_of_frame frame.now)
+        (height_in_steps (dot r (parts frame.now.tau)) step))
         (map motion_of ops.now) }
-    ensures seen { IfOk result (λ section. AllZip (IsSeen (group_listing group.now) (row_of frame.now.plane) (basis_of_frame frame.now) step)
+    ensures seen { IfOk result (λ section. AllZip
+        (IsSeen (group_listing group.now) (row_of frame.now.plane) (basis_of_frame frame.now) step)
         (map motion_of ops.now) section.items) }
     ensures small { IfOk result (λ section. All IsSmallMotion section.items) }
 {
@@ -131,8 +139,10 @@ fn seen_motion(group: &Group, frame: &Frame, m: &Motion3, step: i64) -> LayerMot
     requires from { pos 0 ≤ℤ step }
     requires below { step <ℤ (pos 2 *ℤ UNIT) }
     requires motion { let r = row_of frame.now.plane in
-        IsOnPlane (group_listing group.now) r (basis_of_frame frame.now) (height_in_steps (dot r (parts frame.now.tau)) step) (motion_of m.now) }
-    ensures seen { IsSeen (group_listing group.now) (row_of frame.now.plane) (basis_of_frame frame.now) step (motion_of m.now) result }
+        IsOnPlane (group_listing group.now) r (basis_of_frame frame.now)
+        (height_in_steps (dot r (parts frame.now.tau)) step) (motion_of m.now) }
+    ensures seen { IsSeen (group_listing group.now) (row_of frame.now.plane)
+        (basis_of_frame frame.now) step (motion_of m.now) result }
     ensures small { IsSmallMotion result }
 {
     let Some(n) = frame.section(group, m, step) else {

@@ -11,19 +11,18 @@ ghost use Rattle.line_types.specs.RodRows.{rod_row};
 ghost use Rattle.motions.specs.Views.{parts};
 ghost use Rattle.plane_lattice.specs.Bounds.{largest_entry};
 ghost use Rattle.recognition.specs.declared.found_rod.TheConstants.{ROD_GRID};
-ghost use Rattle.recognition.specs.RodChanges.{hand};
 ghost use Rattle.recognition.specs.RodTypes.{change_of};
 ghost use Rattle.penetration.specs.RodOperations.{AreAcrossFractions, IsAcrossFraction, vector_across};
 ghost use Rattle.report.specs.RodTexts.{combined_fraction, combined_fractions, first_across, origin_along, second_across, third_along};
 ghost use Rattle.report.specs.TypeVectors.{lowest_point};
 ghost use Rattle.report.specs.WrittenView.{edges_of, parts_of};
 
-use crate::named::{determinant, lowest};
+use crate::named::lowest;
 use crate::written::{InEdges, InParts};
 use fractions::{Part, Ratio, UNIT};
 use line_types::rod;
 use penetration::{Rod, RodFrame};
-use recognition::{FoundRod, ROD_GRID};
+use recognition::{FoundRod, ROD_GRID, hand};
 
 /// The symbol of the type.
 pub(crate) fn symbol(found: &FoundRod) -> &'static str
@@ -58,27 +57,22 @@ impl RodTypeBasis {
     /// The basis by the change that was found.
     pub(crate) fn of(frame: &RodFrame, found: &FoundRod) -> RodTypeBasis
         ensures first { edges_of result.first
-            ≡ first_across (vector_across frame.now.across 0) (vector_across frame.now.across 1) (change_of found.now) }
+            ≡ first_across (vector_across frame.now.across 0) (vector_across frame.now.across 1)
+            (change_of found.now) }
         ensures second { edges_of result.second
-            ≡ second_across (vector_across frame.now.across 0) (vector_across frame.now.across 1) (change_of found.now) }
-        ensures third { parts_of result.third ≡ third_along (parts frame.now.axis) (change_of found.now) }
+            ≡ second_across (vector_across frame.now.across 0) (vector_across frame.now.across 1)
+            (change_of found.now) }
+        ensures third { parts_of result.third
+            ≡ third_along (parts frame.now.axis) (change_of found.now) }
     {
         let a = InEdges::of(&across_at(frame, 0));
         let b = InEdges::of(&across_at(frame, 1));
         RodTypeBasis {
             first: combined(found.p[0][0], found.p[1][0], a, b),
             second: combined(found.p[0][1], found.p[1][1], a, b),
-            third: directed(&frame.axis, hand(found)),
+            third: directed(&frame.axis, hand(&found.p)),
         }
     }
-}
-
-// 1, or -1 where the determinant of the matrix is negative.
-fn hand(found: &FoundRod) -> i64
-    ensures is { result ≡ hand (change_of found.now).matrix }
-    ensures small { IsWithin 1 result }
-{
-    if determinant(&found.p) < 0 { -1 } else { 1 }
 }
 
 // A multiple of a vector.
@@ -154,7 +148,8 @@ fn denominator(v: Ratio, w: Ratio) -> i64
 pub(crate) fn origin_along(rod: &Rod, found: &FoundRod) -> InEdges
     requires { IsVectorWithin largest_entry (parts rod.now.point) }
     ensures { edges_of result
-        ≡ lowest_point (origin_along (parts rod.now.point) (parts rod.now.frame.axis) (change_of found.now)) }
+        ≡ lowest_point
+        (origin_along (parts rod.now.point) (parts rod.now.frame.axis) (change_of found.now)) }
 {
     let z = i64::from(found.z);
     let axis = &rod.frame.axis;
@@ -169,7 +164,8 @@ fn origin_entry(point: Part, axis: Part, z: i64) -> Ratio
     requires point { IsWithin largest_entry point.0 }
     requires axis { IsWithin largest_entry axis.0 }
     requires z { IsWithin 96 z }
-    ensures { fraction_of result ≡ lowest_terms (ROD_GRID *ℤ point.0 +ℤ z *ℤ axis.0) (ROD_GRID *ℤ UNIT) }
+    ensures { fraction_of result
+        ≡ lowest_terms (ROD_GRID *ℤ point.0 +ℤ z *ℤ axis.0) (ROD_GRID *ℤ UNIT) }
 {
     lowest(ROD_GRID * point.0 + z * axis.0, ROD_GRID * UNIT)
 }

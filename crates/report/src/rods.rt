@@ -41,7 +41,8 @@ pub fn rod_text(alloc: Global, rod: &Rod) -> Result<Vec<u8>, NoMemory>
 
 // The lines of the direction, the point, the axis and the vectors a' and b'.
 fn write_line(text: &mut String, rod: &Rod) -> Result<(), NoMemory>
-    ensures { OnOk result (string_bytes text.new ≡ string_bytes text.old ++ line_text (rod_report_of rod.now)) }
+    ensures { OnOk result
+        (string_bytes text.new ≡ string_bytes text.old ++ line_text (rod_report_of rod.now)) }
 {
     let frame = &rod.frame;
     write_direction(text, &frame.direction)?;
@@ -54,7 +55,8 @@ fn write_line(text: &mut String, rod: &Rod) -> Result<(), NoMemory>
 
 fn write_direction(text: &mut String, direction: &Direction) -> Result<(), NoMemory>
     ensures { OnOk result (string_bytes text.new
-        ≡ string_bytes text.old ++ (codes "line" ++ indices_text (direction_of direction.now) ++ codes "\n")) }
+        ≡ string_bytes text.old
+        ++ (codes "line" ++ indices_text (direction_of direction.now) ++ codes "\n")) }
 {
     let indices = Indices::of_direction(direction);
     write!(text, "line{indices}\n")
@@ -64,7 +66,8 @@ fn write_direction(text: &mut String, direction: &Direction) -> Result<(), NoMem
 fn write_across(text: &mut String, name: &str, frame: &RodFrame, i: usize) -> Result<(), NoMemory>
     requires { i < 2 }
     ensures { OnOk result (string_bytes text.new
-        ≡ string_bytes text.old ++ name.now ++ fractions_text (vector_across frame.now.across i) ++ codes "\n") }
+        ≡ string_bytes text.old ++ name.now ++ fractions_text (vector_across frame.now.across i)
+        ++ codes "\n") }
 {
     let v = across_at(frame, i);
     write_edges(text, name, &v)

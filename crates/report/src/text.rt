@@ -13,8 +13,7 @@ use crate::at::NoMemory;
 use crate::lines::{write_edges, write_operations, write_vector};
 use crate::named::{origin_at_height, origin_in_plane};
 use crate::named_lines::write_named;
-use crate::report::Report;
-use crate::section::HeightSection;
+use crate::report::{HeightSection, Report};
 use crate::written::Indices;
 use fractions::{Part, Ratio};
 use motions::Miller;
@@ -47,7 +46,8 @@ impl Report {
 
 // The lines of the orientation, the period and the vectors.
 fn write_frame(text: &mut String, report: &Report) -> Result<(), NoMemory>
-    ensures { OnOk result (string_bytes text.new ≡ string_bytes text.old ++ frame_text (report_of report.now)) }
+    ensures { OnOk result
+        (string_bytes text.new ≡ string_bytes text.old ++ frame_text (report_of report.now)) }
 {
     let frame = &report.frame;
     write_plane(text, &frame.plane)?;
@@ -61,7 +61,8 @@ fn write_frame(text: &mut String, report: &Report) -> Result<(), NoMemory>
 
 fn write_plane(text: &mut String, plane: &Miller) -> Result<(), NoMemory>
     ensures { OnOk result (string_bytes text.new
-        ≡ string_bytes text.old ++ (codes "plane" ++ indices_text (row_of plane.now) ++ codes "\n")) }
+        ≡ string_bytes text.old
+        ++ (codes "plane" ++ indices_text (row_of plane.now) ++ codes "\n")) }
 {
     let indices = Indices::of_plane(plane);
     write!(text, "plane{indices}\n")
@@ -76,7 +77,8 @@ fn write_period(text: &mut String, period: Part) -> Result<(), NoMemory>
 
 // The block of the general planes.
 fn write_general(text: &mut String, report: &Report) -> Result<(), NoMemory>
-    ensures { OnOk result (string_bytes text.new ≡ string_bytes text.old ++ general_text (report_of report.now)) }
+    ensures { OnOk result
+        (string_bytes text.new ≡ string_bytes text.old ++ general_text (report_of report.now)) }
 {
     let planes = report.planes;
     write!(text, "general planes {planes}\n")?;
@@ -90,7 +92,8 @@ fn write_general_type(
     found: &Option<Found>,
 ) -> Result<(), NoMemory>
     ensures { OnOk result (string_bytes text.new
-        ≡ string_bytes text.old ++ general_type_lines (report_of report.now) (option_map change_of found.now)) }
+        ≡ string_bytes text.old
+        ++ general_type_lines (report_of report.now) (option_map change_of found.now)) }
 {
     match found {
         None => text.push_str("type unrecognised\n"),
@@ -109,7 +112,8 @@ fn write_heights(
 ) -> Result<(), NoMemory>
     requires { All (λ h. IsSmallHeight (fraction_of h.s)) heights.now }
     ensures { OnOk result (string_bytes text.new
-        ≡ string_bytes text.old ++ flat_map (height_text (report_of report.now)) (map block_of heights.now)) }
+        ≡ string_bytes text.old
+        ++ flat_map (height_text (report_of report.now)) (map block_of heights.now)) }
 {
     for height in heights {
         write_height(text, report, height)?;
@@ -119,7 +123,9 @@ fn write_heights(
 
 fn write_height(text: &mut String, report: &Report, height: &HeightSection) -> Result<(), NoMemory>
     requires { IsSmallHeight (fraction_of height.now.s) }
-    ensures { OnOk result (string_bytes text.new ≡ string_bytes text.old ++ height_text (report_of report.now) (block_of height.now)) }
+    ensures { OnOk result
+        (string_bytes text.new ≡ string_bytes text.old
+        ++ height_text (report_of report.now) (block_of height.now)) }
 {
     let s = height.s;
     let orbit = height.orbit;
@@ -136,7 +142,8 @@ fn write_type(
 ) -> Result<(), NoMemory>
     requires { IsSmallHeight (fraction_of s) }
     ensures { OnOk result (string_bytes text.new
-        ≡ string_bytes text.old ++ type_lines (report_of report.now) (fraction_of s) (option_map change_of found.now)) }
+        ≡ string_bytes text.old
+        ++ type_lines (report_of report.now) (fraction_of s) (option_map change_of found.now)) }
 {
     match found {
         None => text.push_str("type unrecognised\n"),

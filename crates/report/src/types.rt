@@ -5,15 +5,22 @@ ghost use Rattle.motions.specs.Layers.{HasHalfPart, planar_of};
 ghost use Rattle.report.specs.Texts.{operation_line};
 ghost use Rattle.report.specs.TypeNumbers.{IsTypeNumber};
 ghost use Rattle.report.specs.TypeTexts.{block_of_layer, block_of_rod, centring_line, frieze_line, IsTypeText};
-ghost use Rattle.report.specs.declared.kind.Kind.TheVariants.{Layer, Rod, Frieze};
+ghost use Rattle.report.specs.declared.types.Kind.TheVariants.{Layer, Rod, Frieze};
 
 use crate::at::NoMemory;
-use crate::kind::Kind;
 use crate::lines::write_operation;
 use layer_types::layer;
 use line_types::{frieze, rod};
 use motions::{FriezeMotion, LayerMotion, RodMotion};
 use std::alloc::Global;
+
+/// A kind of types that the program can print: layer, rod and frieze group types (International Tables, Volume E).
+#[derive(Clone, Copy, PartialEq, Eq, Debug)]
+pub enum Kind {
+    Layer,
+    Rod,
+    Frieze,
+}
 
 /// The text of a type: its kind, number and symbol, for a centred layer type the centring vector, a line `op` for each
 /// operation in the order of the table, and `end`.
@@ -98,7 +105,8 @@ fn write_layer_operations(text: &mut String, ops: &[LayerMotion]) -> Result<(), 
 
 fn write_layer_operation(text: &mut String, m: &LayerMotion) -> Result<(), NoMemory>
     requires { ¬ HasHalfPart (planar_of m.now) }
-    ensures { OnOk result (string_bytes text.new ≡ string_bytes text.old ++ operation_line (block_of_layer m.now)) }
+    ensures { OnOk result
+        (string_bytes text.new ≡ string_bytes text.old ++ operation_line (block_of_layer m.now)) }
 {
     let Some(block) = m.triple() else {
         unreachable!()
@@ -117,7 +125,9 @@ fn write_rod_operations(text: &mut String, ops: &[RodMotion]) -> Result<(), NoMe
 }
 
 fn write_frieze_operations(text: &mut String, ops: &[FriezeMotion]) -> Result<(), NoMemory>
-    ensures { OnOk result (string_bytes text.new ≡ string_bytes text.old ++ flat_map frieze_line (map frieze_of ops.now)) }
+    ensures { OnOk result
+        (string_bytes text.new ≡ string_bytes text.old
+        ++ flat_map frieze_line (map frieze_of ops.now)) }
 {
     for m in ops {
         write_frieze_operation(text, m)?;
@@ -126,7 +136,8 @@ fn write_frieze_operations(text: &mut String, ops: &[FriezeMotion]) -> Result<()
 }
 
 fn write_frieze_operation(text: &mut String, m: &FriezeMotion) -> Result<(), NoMemory>
-    ensures { OnOk result (string_bytes text.new ≡ string_bytes text.old ++ frieze_line (frieze_of m.now)) }
+    ensures { OnOk result
+        (string_bytes text.new ≡ string_bytes text.old ++ frieze_line (frieze_of m.now)) }
 {
     let parts = triplets::Frieze(m);
     write!(text, "op {parts}\n")

@@ -10,7 +10,7 @@ use Rattle.cif_symops.proofs.OneAnswer.{one_answer}
 use Rattle.closure.specs.GroupErrors.{IsWithinLimits}
 use Rattle.closure.specs.Groups.{IsGroupOf}
 use Rattle.closure.specs.declared.group.Group.{Group}
-use Rattle.requests.specs.declared.format.Format.TheVariants.{Cif}
+use Rattle.requests.specs.declared.request.Format.TheVariants.{Cif}
 use Rattle.requests.specs.declared.obstacle.Obstacle.TheVariants as obstacles
 use Rattle.requests.specs.declared.refusal.Refusal.{Refusal}
 use Rattle.requests.specs.Obstacles.{obstacle_of_cif}

@@ -28,7 +28,7 @@ use Rattle.report.specs.Texts.{at_text}
 use Rattle.report.specs.Reports.{IsReport, Report}
 use Rattle.report.proofs.Says.{report_says}
 use Rattle.requests.specs.Obstacles.{IsFairFrame, obstacle_of_height, obstacle_of_orbits}
-use Rattle.requests.specs.declared.form.Form.{Form}
+use Rattle.requests.specs.declared.request.Form.{Form}
 use Rattle.requests.specs.Layers.{written_report}
 use Rattle.requests.specs.Limits.{IsHeightInRange}
 use Rattle.requests.specs.Questions.{at_height, all_heights, image_rows}

@@ -11,7 +11,7 @@ use Rattle.closure.proofs.OneGroup.{group_of_derived}
 use Rattle.triplets.specs.declared.notation.Notation.{Notation}
 use Rattle.triplets.specs.Texts.{IsGroupText}
 use Rattle.triplets.proofs.OneFault.{one_flag, one_listing}
-use Rattle.requests.specs.declared.format.Format.TheVariants.{GroupText}
+use Rattle.requests.specs.declared.request.Format.TheVariants.{GroupText}
 use Rattle.requests.specs.Inputs.{IsGeneratedBy, IsGroupOfInput, IsShort}
 
 module _ (nt : Notation) (input : List ℕ) (group : Group) (short : IsShort (GroupText nt) input) where

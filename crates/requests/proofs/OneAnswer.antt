@@ -7,7 +7,7 @@ use Rattle.motions.specs.declared.basis.FrameFault.{FrameFault}
 use Rattle.motions.specs.declared.basis.FrameFault.TheVariants as frames
 use Rattle.plane_lattice.specs.FrameOf.{IsFrameFault}
 use Rattle.plane_lattice.proofs.FrameListings.{one_frame_fault}
-use Rattle.requests.specs.declared.format.Format.{Format}
+use Rattle.requests.specs.declared.request.Format.{Format}
 use Rattle.requests.specs.declared.refusal.Refusal.{Refusal}
 use Rattle.requests.specs.declared.obstacle.Obstacle.TheVariants as obstacles
 use Rattle.requests.specs.Obstacles.{IsFairFrame, RefusesFrame, refusal_of_frame}

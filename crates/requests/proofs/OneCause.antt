@@ -16,8 +16,8 @@ use Rattle.closure.proofs.OneError.{one_group_error, no_group_and_error}
 use Rattle.triplets.specs.declared.notation.Notation.{Notation}
 use Rattle.triplets.specs.Texts.{IsGroupText}
 use Rattle.triplets.proofs.OneFault.{one_flag, one_listing, one_fault, no_listing_and_fault}
-use Rattle.requests.specs.declared.format.Format.{Format}
-use Rattle.requests.specs.declared.format.Format.TheVariants.{GroupText, Cif}
+use Rattle.requests.specs.declared.request.Format.{Format}
+use Rattle.requests.specs.declared.request.Format.TheVariants.{GroupText, Cif}
 use Rattle.requests.specs.declared.refusal.Refusal.{Refusal}
 use Rattle.requests.specs.declared.obstacle.Obstacle.TheVariants as obstacles
 use Rattle.requests.specs.Obstacles.{obstacle_of_generators, obstacle_of_group}

@@ -10,7 +10,7 @@ use Rattle.triplets.specs.declared.text.LineReader.{LineReader}
 use Rattle.triplets.specs.declared.notation.Notation.{Notation}
 use Rattle.triplets.specs.TextReading.{Stands, bytes_fed, fault_answered}
 use Rattle.triplets.specs.TextAnswers.{IsAnswer, IsFaultOf}
-use Rattle.requests.specs.declared.format.Format.TheVariants.{GroupText}
+use Rattle.requests.specs.declared.request.Format.TheVariants.{GroupText}
 use Rattle.requests.specs.Inputs.{IsShort}
 
 -- the text that the source gave was fed, and the reader stands behind it, unless memory ran out

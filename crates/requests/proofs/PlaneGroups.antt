@@ -7,7 +7,7 @@ use Rattle.plane_groups.proofs.FlatGroups.{derived_flat, group_flat, listing_fla
 use Rattle.triplets.specs.declared.notation.Notation.{Notation}
 use Rattle.triplets.specs.declared.notation.Notation.TheVariants.{Triplets, Pairs}
 use Rattle.triplets.specs.FlatTexts.{IsListedIn}
-use Rattle.requests.specs.declared.format.Format.TheVariants.{GroupText}
+use Rattle.requests.specs.declared.request.Format.TheVariants.{GroupText}
 use Rattle.requests.specs.Inputs.{IsGroupIn}
 
 -- of a text that lists all operations

@@ -13,8 +13,8 @@ use Rattle.triplets.specs.Texts.{IsGroupText}
 use Rattle.triplets.specs.TextAnswers.{IsFaultOf}
 use Rattle.triplets.specs.declared.fault.TextFault.{TextFault}
 use Rattle.triplets.specs.declared.fault.TextFault.TheVariants as texts
-use Rattle.requests.specs.declared.format.Format.{Format}
-use Rattle.requests.specs.declared.format.Format.TheVariants.{GroupText}
+use Rattle.requests.specs.declared.request.Format.{Format}
+use Rattle.requests.specs.declared.request.Format.TheVariants.{GroupText}
 use Rattle.requests.specs.declared.obstacle.Obstacle.{Obstacle}
 use Rattle.requests.specs.declared.obstacle.Obstacle.TheVariants as obstacles
 use Rattle.closure.specs.Groups.{IsGroupOf}
@@ -23,6 +23,7 @@ use Rattle.requests.specs.declared.refusal.Refusal.{Refusal}
 use Rattle.requests.specs.Questions.{Asked, Question, about, IsRequest}
 use Rattle.requests.specs.Inputs.{of_text, of_group, of_generators, IsCause, IsGroupOfInput, IsRefusedInput, IsShort, ListsAll}
 use Rattle.requests.specs.Answers.{Answers}
+use Rattle.requests.specs.Runs as runs
 use Rattle.requests.specs.Causes.{HasAnswer, IsGroupsObstacle, IsObstacle, IsSourceObstacle}
 
 -- ---- the group of an input
@@ -78,7 +79,7 @@ module _ (read : Result Asked Refusal) (format : Format) (question : Question) (
   answered (Err o) answers = tt
 
   pub kept_from_answer : (result : Result (Vec ℕ Global) Obstacle) (faults faults' : ℕ) → faults' ≡ faults
-      → IfErr result (IsGroupsObstacle group question) → IfErr result (IsObstacle read left faults faults')
+      → IfErr result (IsGroupsObstacle group question) → IfErr result (IsObstacle (runs.IsCause read left) faults faults')
   kept_from_answer (Ok text) faults faults' same o = tt
   kept_from_answer (Err (obstacles.Refused r)) faults faults' same o = (
     inr (about format question, asks, λ input is. let of = is_of input is in inr (of.short, of.some, λ g lists. o g (of.is_of g lists))),

@@ -38,9 +38,9 @@ module _ (read : Result Asked Refusal) (left : Option (List ℕ)) where
 
     -- nor is one that has to be answered refused
     module _ (faults faults' : ℕ) (r : Refusal) (obstacle : Obstacle) (told : obstacle ≡ obstacles.Refused r)
-        (kept : IsObstacle read left faults faults' obstacle) where
+        (kept : IsObstacle (IsCause read left) faults faults' obstacle) where
       cause : IsCause read left r
-      cause = (subst (IsObstacle read left faults faults') told kept).0
+      cause = (subst (IsObstacle (IsCause read left) faults faults') told kept).0
 
       -- the cause of the refusal is one of the words, or of the input
       for_cause : {P : Type 0} → (IsInputRefusal asked input r → P) → IsCause read left r → P

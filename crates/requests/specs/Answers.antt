@@ -6,7 +6,7 @@ use Rattle.report.specs.TypeTexts.{IsTypeText}
 use Rattle.sample.specs.Counted.{counts_text}
 use Rattle.sample.specs.Samples.{IsSample}
 use Rattle.sample.specs.declared.counts.Counts.{Counts}
-use Rattle.requests.specs.declared.format.Format.{Format}
+use Rattle.requests.specs.declared.request.Format.{Format}
 use Rattle.requests.specs.declared.refusal.Refusal.{Refusal}
 use Rattle.requests.specs.declared.refusal.Refusal.TheVariants.{Wide}
 use Rattle.requests.specs.Questions.{Asked, Question, Table, about, tabulate, at_height, between_heights, all_heights, image_rows, survey_within, along_line, all_lines, of_type, of_sample}

@@ -3,7 +3,7 @@ use Rattle.std.specs.Prelude.{◌≡◌, ◌≢◌, ◌⊎◌, ℕ, List, Option
 use Rattle.symmetry.specs.Groups.{Listing}
 use Rattle.devices.specs.Calls.{Rose}
 use Rattle.closure.specs.declared.group.Group.{Group}
-use Rattle.requests.specs.declared.format.Format.{Format}
+use Rattle.requests.specs.declared.request.Format.{Format}
 use Rattle.requests.specs.declared.obstacle.Obstacle.{Obstacle}
 use Rattle.requests.specs.declared.obstacle.Obstacle.TheVariants as obstacles
 use Rattle.requests.specs.declared.outcome.Outcome.{Outcome}
@@ -14,16 +14,19 @@ use Rattle.requests.specs.Questions.{Asked, Question, IsRequest}
 use Rattle.requests.specs.Inputs.{IsRefusedInput}
 use Rattle.closure.specs.Groups.{IsGroupOf}
 use Rattle.requests.specs.Answers.{IsInput, IsOutput, RefusesQuestion}
-use Rattle.requests.specs.Runs.{IsCause}
+
+-- what keeps a step from what it makes: a refusal is explained, and the count of faults rose where the source failed alone
+abbrev pub IsObstacle : (Refusal → Type 0) → ℕ → ℕ → Obstacle → Type 0
+IsObstacle Explains faults faults' (obstacles.Refused refusal) = Explains refusal × (faults' ≡ faults)
+IsObstacle Explains faults faults' obstacles.ReadFault = Rose faults faults'
+IsObstacle Explains faults faults' obstacles.NoMemory = faults' ≡ faults
 
 -- ---- the group of an input
 
--- what keeps a source from a group; its count of faults rose where it failed alone
+-- what keeps a source from a group
 abbrev pub IsSourceObstacle : Format → Option (List ℕ) → ℕ → ℕ → Obstacle → Type 0
-IsSourceObstacle format left faults faults' (obstacles.Refused refusal) =
-    ((input : List ℕ) → left ≡ Some input → IsRefusedInput format input refusal) × (faults' ≡ faults)
-IsSourceObstacle format left faults faults' obstacles.ReadFault = Rose faults faults'
-IsSourceObstacle format left faults faults' obstacles.NoMemory = faults' ≡ faults
+IsSourceObstacle format left faults faults' obstacle =
+    IsObstacle (λ refusal. (input : List ℕ) → left ≡ Some input → IsRefusedInput format input refusal) faults faults' obstacle
 
 -- the source was read to its end before this came up
 abbrev pub IsReadWhole : {A : Type 0} → Result A Obstacle → Type 0
@@ -47,12 +50,6 @@ pub record HasAnswer (read : Result Asked Refusal) (left : Option (List ℕ)) (t
   pub asked : Asked
   pub asks : IsRequest read asked
   pub answers : (input : List ℕ) → IsInput asked left input → IsOutput asked input text
-
--- what keeps the words from an answer; the count of faults rose where the source failed alone
-abbrev pub IsObstacle : Result Asked Refusal → Option (List ℕ) → ℕ → ℕ → Obstacle → Type 0
-IsObstacle read left faults faults' (obstacles.Refused refusal) = IsCause read left refusal × (faults' ≡ faults)
-IsObstacle read left faults faults' obstacles.ReadFault = Rose faults faults'
-IsObstacle read left faults faults' obstacles.NoMemory = faults' ≡ faults
 
 -- this refusal, unless memory ran out for its line
 abbrev pub IsRefusedOr : Refusal → Outcome → Type 0

@@ -14,8 +14,8 @@ use Rattle.plane_groups.specs.PlaneGroups.{IsFlatGroup}
 use Rattle.closure.specs.declared.group_error.GroupError.{GroupError}
 use Rattle.closure.specs.declared.generated_error.GeneratedError.{GeneratedError}
 use Rattle.closure.specs.GroupErrors.{IsGroupError, IsWithinLimits}
-use Rattle.requests.specs.declared.format.Format.{Format}
-use Rattle.requests.specs.declared.format.Format.TheVariants.{GroupText, Cif}
+use Rattle.requests.specs.declared.request.Format.{Format}
+use Rattle.requests.specs.declared.request.Format.TheVariants.{GroupText, Cif}
 use Rattle.requests.specs.declared.refusal.Refusal.{Refusal}
 use Rattle.requests.specs.declared.refusal.Refusal.TheVariants.{TooLong, Text}
 use Rattle.requests.specs.declared.obstacle.Obstacle.{Obstacle}

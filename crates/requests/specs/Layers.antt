@@ -7,8 +7,8 @@ use Rattle.report.specs.Consequences.{ReportSays}
 use Rattle.report.specs.Reports.{IsReport, Report}
 use Rattle.report.specs.Texts.{report_text}
 use Rattle.report.specs.Values.{report_json}
-use Rattle.requests.specs.declared.form.Form.{Form}
-use Rattle.requests.specs.declared.form.Form.TheVariants as forms
+use Rattle.requests.specs.declared.request.Form.{Form}
+use Rattle.requests.specs.declared.request.Form.TheVariants as forms
 use Rattle.requests.specs.Obstacles.{IsFairFrame}
 
 -- a report in a form

@@ -5,10 +5,10 @@ use Rattle.symmetry.specs.Vectors.{Vector}
 use Rattle.symmetry.specs.Frames.{Basis}
 use Rattle.symmetry.specs.Sizes.{IsVectorWithin}
 use Rattle.plane_lattice.specs.Bounds.{largest_entry}
-use Rattle.report.specs.declared.kind.Kind.{Kind}
+use Rattle.report.specs.declared.types.Kind.{Kind}
 use Rattle.report.specs.TypeNumbers.{IsTypeNumber}
-use Rattle.requests.specs.declared.form.Form.{Form}
-use Rattle.requests.specs.declared.format.Format.{Format}
+use Rattle.requests.specs.declared.request.Form.{Form}
+use Rattle.requests.specs.declared.request.Format.{Format}
 use Rattle.requests.specs.declared.refusal.Refusal.{Refusal}
 use Rattle.requests.specs.Limits.{IsHeightInRange}
 use Rattle.requests.specs.SlabLimits.{IsSlabInRange}
@@ -69,7 +69,7 @@ abbrev pub IsRequest : Result Asked Refusal → Asked → Type 0
 IsRequest read asked = read ≡ Ok asked
 
 -- this is why the words are refused
-abbrev pub IsWordsRefusal : Result Asked Refusal → Refusal → Type 0
+abbrev pub IsWordsRefusal : {A : Type 0} → Result A Refusal → Refusal → Type 0
 IsWordsRefusal read refusal = read ≡ Err refusal
 
 -- the words ask about the group of an input

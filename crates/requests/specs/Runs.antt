@@ -1,4 +1,4 @@
--- What a run of the program does.
+-- What a run of a program does.
 use Rattle.std.specs.Prelude.{◌≡◌, ◌≢◌, ◌⊎◌, ℕ, ◌+◌, ◌≤◌, List, ◌++◌, length, codes, Option, Some, None, Result, Ok}
 use Rattle.std.specs.Io.KnownBytes.{append_known}
 use Rattle.devices.specs.Calls.{Rose}
@@ -20,7 +20,7 @@ exit_status ReadFault = 3
 exit_status WriteFault = 4
 exit_status NoMemory = 5
 
--- ---- what it leaves in its sinks
+-- ---- what it leaves in its sinks, where Of P says that the words are a request of whose answer P holds
 
 -- the words are a request, and P holds of its answer over the input
 pub record OfAnswer (read : Result Asked Refusal) (left : Option (List ℕ)) (P : List ℕ → Type 0) : Type 0 where
@@ -29,20 +29,20 @@ pub record OfAnswer (read : Result Asked Refusal) (left : Option (List ℕ)) (P 
   pub holds : (input : List ℕ) → IsInput asked left input → (text : List ℕ) × IsOutput asked input text × P text
 
 -- the sink holds the answer where the run is done, a front of it where the sink failed, and else it is as it was
-abbrev pub LeavesOut : {K : Type 0} → (K → Option (List ℕ)) → Outcome → Result Asked Refusal → Option (List ℕ) → K → K → Type 0
-LeavesOut held Done read left old new = OfAnswer read left (λ text. held new ≡ append_known (held old) text)
-LeavesOut held WriteFault read left old new = OfAnswer read left (HoldsFront (held old) (held new))
-LeavesOut held (Refused r) read left old new = new ≡ old
-LeavesOut held ReadFault read left old new = new ≡ old
-LeavesOut held NoMemory read left old new = new ≡ old
+abbrev pub LeavesOut : {K : Type 0} → (K → Option (List ℕ)) → Outcome → ((List ℕ → Type 0) → Type 0) → K → K → Type 0
+LeavesOut held Done Of old new = Of (λ text. held new ≡ append_known (held old) text)
+LeavesOut held WriteFault Of old new = Of (HoldsFront (held old) (held new))
+LeavesOut held (Refused r) Of old new = new ≡ old
+LeavesOut held ReadFault Of old new = new ≡ old
+LeavesOut held NoMemory Of old new = new ≡ old
 
 -- the sink was offered the answer, and in each call all that was left of it, up to its end where the run is done
-abbrev pub OffersOut : {K : Type 0} → (K → List ℕ → Option ℕ → K → Type 0) → Outcome → Result Asked Refusal → Option (List ℕ) → K → K → Type 0
-OffersOut IsPut Done read left old new = OfAnswer read left (λ text. Offers IsPut text old (Some (length text)) new)
-OffersOut IsPut WriteFault read left old new = OfAnswer read left (λ text. Offers IsPut text old None new)
-OffersOut IsPut (Refused r) read left old new = new ≡ old
-OffersOut IsPut ReadFault read left old new = new ≡ old
-OffersOut IsPut NoMemory read left old new = new ≡ old
+abbrev pub OffersOut : {K : Type 0} → (K → List ℕ → Option ℕ → K → Type 0) → Outcome → ((List ℕ → Type 0) → Type 0) → K → K → Type 0
+OffersOut IsPut Done Of old new = Of (λ text. Offers IsPut text old (Some (length text)) new)
+OffersOut IsPut WriteFault Of old new = Of (λ text. Offers IsPut text old None new)
+OffersOut IsPut (Refused r) Of old new = new ≡ old
+OffersOut IsPut ReadFault Of old new = new ≡ old
+OffersOut IsPut NoMemory Of old new = new ≡ old
 
 -- the line of a refusal, with its end
 abbrev pub refusal_line : Refusal → List ℕ
@@ -75,13 +75,13 @@ IsCause read left refusal =
     IsWordsRefusal read refusal
     ⊎ ((asked : Asked) × IsRequest read asked × ((input : List ℕ) → IsInput asked left input → IsInputRefusal asked input refusal))
 
--- a refusal has its cause, and a fault is of a device whose count rose. No other count rose
-abbrev pub HasCause : Outcome → Result Asked Refusal → Option (List ℕ) → ℕ → ℕ → ℕ → ℕ → Type 0
-HasCause Done read left faults faults' put put' = (faults' ≡ faults) × (put' ≡ put)
-HasCause (Refused r) read left faults faults' put put' = IsCause read left r × (faults' ≡ faults)
-HasCause ReadFault read left faults faults' put put' = Rose faults faults'
-HasCause WriteFault read left faults faults' put put' = (faults' ≡ faults) × Rose put put'
-HasCause NoMemory read left faults faults' put put' = faults' ≡ faults
+-- a refusal is explained, and a fault is of a device whose count rose. No other count rose
+abbrev pub HasCause : Outcome → (Refusal → Type 0) → ℕ → ℕ → ℕ → ℕ → Type 0
+HasCause Done Explains faults faults' put put' = (faults' ≡ faults) × (put' ≡ put)
+HasCause (Refused r) Explains faults faults' put put' = Explains r × (faults' ≡ faults)
+HasCause ReadFault Explains faults faults' put put' = Rose faults faults'
+HasCause WriteFault Explains faults faults' put put' = (faults' ≡ faults) × Rose put put'
+HasCause NoMemory Explains faults faults' put put' = faults' ≡ faults
 
 -- ---- what it has to do
 

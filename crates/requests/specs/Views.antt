@@ -7,7 +7,7 @@ use Rattle.motions.specs.Views.{parts, row_of}
 use Rattle.motions.specs.BasisView.{basis_of}
 use Rattle.penetration.specs.DirectionView.{direction_of}
 use Rattle.triplets.specs.declared.notation.Notation.TheVariants.{Pairs}
-use Rattle.requests.specs.declared.format.Format.TheVariants.{GroupText}
+use Rattle.requests.specs.declared.request.Format.TheVariants.{GroupText}
 use Rattle.requests.specs.declared.words.VectorWord.{VectorWord}
 use Rattle.requests.specs.declared.words.FrameWord.{FrameWord}
 use Rattle.requests.specs.declared.words.IndexWords.{IndexWords}

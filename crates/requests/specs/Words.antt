@@ -8,11 +8,11 @@ use Rattle.fractions.specs.Fraction.{Fraction}
 use Rattle.fractions.specs.LowestTerms.{lowest_terms}
 use Rattle.fractions.specs.WrittenRatio.{numerator, denominator, ratio_end, ratio_fault}
 use Rattle.symmetry.specs.Vectors.{Vector}
-use Rattle.requests.specs.declared.form.Form.{Form}
-use Rattle.requests.specs.declared.form.Form.TheVariants.{Text, Json}
+use Rattle.requests.specs.declared.request.Form.{Form}
+use Rattle.requests.specs.declared.request.Form.TheVariants.{Text, Json}
 use Rattle.triplets.specs.declared.notation.Notation.TheVariants.{Triplets}
-use Rattle.requests.specs.declared.format.Format.{Format}
-use Rattle.requests.specs.declared.format.Format.TheVariants.{GroupText, Cif}
+use Rattle.requests.specs.declared.request.Format.{Format}
+use Rattle.requests.specs.declared.request.Format.TheVariants.{GroupText, Cif}
 
 -- what three words say together, where each says something
 abbrev pub all_three : {A B C D : Type 0} → (A → B → C → D) → Option A → Option B → Option C → Option D

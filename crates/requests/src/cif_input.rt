@@ -2,7 +2,7 @@
 ghost use Rattle.std.specs.Prelude.{◌≡◌, ◌≢◌, ◌≤◌, ℕ, List, Err, IfErr, IfOk, OnOk, Some, length};
 ghost use Rattle.std.specs.Io.KnownBytes.{IsAtEnd};
 ghost use Rattle.devices.specs.Transfers.{ReadsWithin};
-ghost use Rattle.requests.specs.declared.format.Format.TheVariants.{Cif};
+ghost use Rattle.requests.specs.declared.request.Format.TheVariants.{Cif};
 ghost use Rattle.requests.specs.Causes.{IsReadWhole, IsSourceObstacle};
 ghost use Rattle.requests.specs.Inputs.{IsGroupOfInput};
 

@@ -6,8 +6,10 @@ ghost use Rattle.requests.specs.Questions.{Asked, IsRequest, IsWordsRefusal};
 
 /// Words ask for one thing, or are refused for one reason.
 pub fn one_request()
-    ensures asked { (read : Result Asked Refusal) (a b : Asked) → IsRequest read a → IsRequest read b → a ≡ b }
-    ensures refusal { (read : Result Asked Refusal) (r s : Refusal) → IsWordsRefusal read r → IsWordsRefusal read s → r ≡ s }
+    ensures asked { (read : Result Asked Refusal) (a b : Asked) → IsRequest read a →
+        IsRequest read b → a ≡ b }
+    ensures refusal { (read : Result Asked Refusal) (r s : Refusal) → IsWordsRefusal read r →
+        IsWordsRefusal read s → r ≡ s }
     ensures apart { (read : Result Asked Refusal) (asked : Asked) (refusal : Refusal) →
         IsRequest read asked → ¬ IsWordsRefusal read refusal }
 {}

@@ -10,8 +10,8 @@ ghost use Rattle.requests.specs.Causes.{IsGroupsObstacle};
 ghost use Rattle.requests.specs.Layers.{written_report};
 ghost use Rattle.requests.specs.Questions.{all_heights};
 
-use crate::form::Form;
 use crate::obstacle::Obstacle;
+use crate::request::Form;
 use closure::Group;
 use motions::{Basis, Miller};
 use plane_lattice::Frame;
@@ -38,7 +38,8 @@ pub fn heights_text(
 ) -> Result<Vec<u8>, Obstacle>
     ensures text { IfOk result (λ text. (g : Listing) → IsGroupOf g group.now →
         Answers g (all_heights (row_of plane) (basis_of basis) form) text.items) }
-    ensures obstacle { IfErr result (IsGroupsObstacle group.now (all_heights (row_of plane) (basis_of basis) form)) }
+    ensures obstacle { IfErr result
+        (IsGroupsObstacle group.now (all_heights (row_of plane) (basis_of basis) form)) }
 {
     let frame = Frame::make(group, plane, basis)?;
     let report = Report::make(alloc, group, &frame)?;

@@ -8,8 +8,6 @@
 mod at;
 mod cif_input;
 mod cif_kind;
-mod form;
-mod format;
 mod images;
 mod input;
 mod laws;
@@ -32,15 +30,13 @@ mod tables;
 mod words;
 
 pub use cif_kind::CifKind;
-pub use form::Form;
-pub use format::Format;
 pub use input::group_of;
 pub use laws::{one_answer, one_request};
 pub use limits::{PlaneWords, Planes, within_limits};
 pub use obstacle::Obstacle;
 pub use outcome::Outcome;
 pub use refusal::Refusal;
-pub use request::{Question, Request, Table};
+pub use request::{Form, Format, Question, Request, Table};
 pub use rod_limits::{Line, LineWords, within_line_limits};
 pub use rod_words::{DirectionWord, RodFrameWord, split_direction, split_point, split_rod_frame};
 pub use run::{carry_out, refuse};

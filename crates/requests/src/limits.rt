@@ -51,7 +51,8 @@ fn entry_in_parts(entry: Ratio) -> Option<Part>
 /// A frame vector in parts, if its entries are in range.
 pub fn vector_in_parts(v: &VectorWord) -> Option<[Part; 3]>
     ensures value { option_map parts result ≡ vector_parts (fractions_of v.now) }
-    ensures small { IfSome result (λ vector. IsVectorWithin (1000 * unsigned_abs UNIT) (parts vector)) }
+    ensures small { IfSome result
+        (λ vector. IsVectorWithin (1000 * unsigned_abs UNIT) (parts vector)) }
 {
     let x = entry_in_parts(v.x)?;
     let y = entry_in_parts(v.y)?;

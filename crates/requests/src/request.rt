@@ -1,10 +1,27 @@
 // What the words ask for, within the limits.
-use crate::form::Form;
-use crate::format::Format;
 use fractions::{Part, Ratio};
 use motions::{Basis, Miller};
 use penetration::{Direction, RodBasis};
 use report::Kind;
+use triplets::Notation;
+
+/// The format that an input is read in.
+#[derive(Clone, Copy, PartialEq, Eq, Debug)]
+pub enum Format {
+    /// A text of coordinate triplets, or of pairs.
+    GroupText(Notation),
+    /// A CIF file.
+    Cif,
+}
+
+/// The form that a report is written in.
+#[derive(Clone, Copy, PartialEq, Eq, Debug)]
+pub enum Form {
+    /// Lines of text.
+    Text,
+    /// One line with its value in JSON.
+    Json,
+}
 
 /// What is asked of a group.
 #[derive(Clone, Copy, Debug)]

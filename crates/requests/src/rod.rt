@@ -27,7 +27,9 @@ pub fn along_line_text(
 ) -> Result<Vec<u8>, Obstacle>
     requires { IsVectorWithin largest_entry (parts point) }
     ensures text { IfOk result (λ text. (g : Listing) → IsGroupOf g group.now →
-        Answers g (along_line (direction_of direction) (parts basis.a) (parts basis.b) (parts point)) text.items) }
+        Answers g
+        (along_line (direction_of direction) (parts basis.a) (parts basis.b) (parts point))
+        text.items) }
     ensures obstacle { IfErr result (IsGroupsObstacle group.now
         (along_line (direction_of direction) (parts basis.a) (parts basis.b) (parts point))) }
 {

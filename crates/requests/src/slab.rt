@@ -31,7 +31,9 @@ pub fn between_heights_text(
 ) -> Result<Vec<u8>, Obstacle>
     requires { IsSlabInRange (fraction_of low) (fraction_of high) }
     ensures text { IfOk result (λ text. (g : Listing) → IsGroupOf g group.now →
-        Answers g (between_heights (row_of plane) (basis_of basis) (fraction_of low) (fraction_of high)) text.items) }
+        Answers g
+        (between_heights (row_of plane) (basis_of basis) (fraction_of low) (fraction_of high))
+        text.items) }
     ensures obstacle { IfErr result (IsGroupsObstacle group.now
         (between_heights (row_of plane) (basis_of basis) (fraction_of low) (fraction_of high))) }
 {

@@ -41,7 +41,8 @@ fn is_empty_slab(low: Ratio, high: Ratio) -> bool
 /// The orientation and the frame of a slab, if the words are within the limits, else the first limit that they pass.
 pub fn within_slab_limits(words: SlabWords) -> Result<Planes, Refusal>
     ensures is { result_map planes_of result ≡ within_slab_limits (slab_words words) }
-    ensures range { IfOk result (λ _. IsSlabInRange (fraction_of words.low) (fraction_of words.high)) }
+    ensures range { IfOk result
+        (λ _. IsSlabInRange (fraction_of words.low) (fraction_of words.high)) }
 {
     let planes = within_limits(PlaneWords {
         indices: words.indices,

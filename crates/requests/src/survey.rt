@@ -15,7 +15,8 @@ use surveys::survey;
 /// The text of the survey of the orientations with indices at most n in size.
 pub fn orientations_within_text(alloc: Global, group: &Group, n: i64) -> Result<Vec<u8>, Obstacle>
     requires { IsSurveyInRange n }
-    ensures text { IfOk result (λ text. (g : Listing) → IsGroupOf g group.now → Answers g (survey_within n) text.items) }
+    ensures text { IfOk result
+        (λ text. (g : Listing) → IsGroupOf g group.now → Answers g (survey_within n) text.items) }
     ensures obstacle { IfErr result (IsGroupsObstacle group.now (survey_within n)) }
 {
     let list = survey(alloc, group, n)?;

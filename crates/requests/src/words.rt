@@ -5,8 +5,7 @@ ghost use Rattle.fractions.specs.FractionOf.{fraction_of};
 ghost use Rattle.requests.specs.Views.{fractions_of, frame_of, indices_of, placed};
 ghost use Rattle.requests.specs.Words.{first_word, form_first, format_first, frame_first, index_of, indices_first, ratio_at, ratio_before_comma, ratio_to_end, three_indices, three_vectors, two_indices, vector_word};
 
-use crate::form::Form;
-use crate::format::Format;
+use crate::request::{Form, Format};
 use fractions::{Ratio, read_ratio};
 use triplets::Notation;
 
@@ -15,7 +14,8 @@ const MOST_INDEX_DIGITS: usize = 9;
 
 /// Whether a word has no plus sign first, and at most nine bytes behind a hyphen.
 fn is_short(word: &[u8]) -> bool
-    ensures { IsTrue result ↔ ((slice_index word.now 0 ≢ 43) × (length (without_leading_sign word.now) ≤ 9)) }
+    ensures { IsTrue result
+        ↔ ((slice_index word.now 0 ≢ 43) × (length (without_leading_sign word.now) ≤ 9)) }
 {
     match word {
         [b'+', ..] => false,
@@ -229,7 +229,8 @@ pub fn split_form(words: &[String]) -> (Form, &[String])
 
 /// The format that the first word gives, `--cif`, or a group text, and the words behind it.
 pub fn split_format(words: &[String]) -> (Format, &[String])
-    ensures { (result.0, map string_bytes result.1.now) ≡ format_first (map string_bytes words.now) }
+    ensures { (result.0, map string_bytes result.1.now)
+        ≡ format_first (map string_bytes words.now) }
 {
     match words {
         [option, others @ ..] if option.as_str() == "--cif" => (Format::Cif, others),

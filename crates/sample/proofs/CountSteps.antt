@@ -8,7 +8,7 @@ use Rattle.recognition.specs.Order.{Change}
 use Rattle.recognition.specs.declared.found.Found.{Found}
 use Rattle.recognition.specs.Search.{change_of}
 use Rattle.report.specs.declared.report.Report.{Report}
-use Rattle.report.specs.declared.section.HeightSection.{HeightSection}
+use Rattle.report.specs.declared.report.HeightSection.{HeightSection}
 use Rattle.report.specs.Reports.{HeightBlock}
 use Rattle.report.specs.ReportView.{report_of}
 use Rattle.report.specs.SectionView.{block_of}

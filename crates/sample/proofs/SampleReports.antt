@@ -24,7 +24,7 @@ use Rattle.closure.specs.Groups.{IsGroupOf}
 use Rattle.plane_lattice.specs.declared.frame.Frame.{Frame}
 use Rattle.plane_lattice.specs.FrameOf.{IsFrameFault, IsFrameOf}
 use Rattle.report.specs.declared.report.Report.{Report}
-use Rattle.report.specs.declared.section.HeightSection.{HeightSection}
+use Rattle.report.specs.declared.report.HeightSection.{HeightSection}
 use Rattle.report.specs.Reports.{HeightBlock, IsReport, special_of_block}
 use Rattle.report.specs.ReportView.{IsReportOf, report_of}
 use Rattle.report.specs.SectionView.{block_of, levels_of_sections}

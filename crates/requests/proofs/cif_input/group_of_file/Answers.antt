@@ -2,7 +2,7 @@ use Rattle.std.proofs.Common.{Err, List, Ok, subst, ℕ}
 use Rattle.std.proofs.lemmas.Result.{err_from_is_err_and}
 use Rattle.motions.specs.Views.{listing_of}
 use Rattle.cif_symops.specs.Answers.{IsAnswer}
-use Rattle.requests.specs.declared.format.Format.TheVariants.{Cif}
+use Rattle.requests.specs.declared.request.Format.TheVariants.{Cif}
 use Rattle.requests.proofs.CifFiles as files
 use Rattle.requests.proofs.Reading.{group_obstacle}
 use Rattle.requests.proofs.cif_input.group_of_file.Goals as goal

@@ -2,7 +2,7 @@ use Rattle.std.proofs.Common.{◌≡◌, Bool, ℕ, List, Some, subst}
 use Rattle.std.proofs.lemmas.Result.{err_from_is_err_and}
 use Rattle.motions.specs.Views.{listing_of}
 use Rattle.triplets.specs.Texts.{IsGroupText}
-use Rattle.requests.specs.declared.format.Format.TheVariants.{GroupText}
+use Rattle.requests.specs.declared.request.Format.TheVariants.{GroupText}
 use Rattle.requests.specs.Inputs.{IsShort}
 use Rattle.requests.proofs.InputGroups.{group_listed, group_generated}
 use Rattle.requests.proofs.PlaneGroups.{generated_in, made_in}

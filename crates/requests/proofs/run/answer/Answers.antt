@@ -1,8 +1,8 @@
 use Rattle.std.proofs.Common.{rules}
 use Rattle.triplets.specs.declared.notation.Notation.TheVariants.{Pairs}
 use Rattle.motions.specs.Views.{row_of}
-use Rattle.requests.specs.declared.format.Format.{Format}
-use Rattle.requests.specs.declared.format.Format.TheVariants.{GroupText}
+use Rattle.requests.specs.declared.request.Format.{Format}
+use Rattle.requests.specs.declared.request.Format.TheVariants.{GroupText}
 use Rattle.requests.specs.Questions.{about, all_lines, IsRequest, result_map}
 use Rattle.requests.specs.Views.{asked_of, question_of}
 use Rattle.requests.proofs.Reading.{answered, kept_from_answer}
