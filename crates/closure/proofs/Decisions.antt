@@ -17,8 +17,8 @@ use Rattle.closure.specs.Laws.ShiftLaws.{modulo, keeps_is, first_is_home}
 module _ (lattice : Lattice) (m : Motion3) (now : List (List Part)) (is : map parts now ≡ residues_of lattice) where
   pub shift_decided : (b : Bool) → b ≡ has_residue (map parts now) (parts m.t) → (motion_of m).matrix ≡ unit_matrix → IsTrue b ↔ IsLatticeShift lattice m
   shift_decided b e matrix = (
-    λ t. record { matrix = matrix; shift = (has_residue-is (residues_of lattice) (parts m.t)).0 (sym told ∙ t) },
-    λ s. told ∙ (has_residue-is (residues_of lattice) (parts m.t)).1 s.shift,
+    λ t. record { matrix = matrix; translation = (has_residue-is (residues_of lattice) (parts m.t)).0 (sym told ∙ t) },
+    λ s. told ∙ (has_residue-is (residues_of lattice) (parts m.t)).1 s.translation,
   )
     where
       told : b ≡ has_residue (residues_of lattice) (parts m.t)

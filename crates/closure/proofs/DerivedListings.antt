@@ -46,7 +46,7 @@ module _ (g h : Listing) (invertible : AllInvertible g) (d : IsDerivedListing g 
         stands,
         record {
           matrix = sym e;
-          shift = (d.lattice (minus (followed_by m k).shift n.shift)).0 (difference_generated g invertible (followed_by m k) n in_k (is_generated n stands) (sym e));
+          translation = (d.lattice (minus (followed_by m k).translation n.translation)).0 (difference_generated g invertible (followed_by m k) n in_k (is_generated n stands) (sym e));
         },
       )
 

@@ -22,7 +22,7 @@ module _ (lattice : Lattice) (done others : List Motion) (m : Motion) (H : AreOt
   further_of n e = record { of = e.of; listed = Contains-append_left done (m ∷ []) e.of e.listed; other = e.other; matrix = e.matrix; home = e.home }
 
   -- one that is no translation
-  home_more : (n : Motion) → ¬ (m.matrix ≡ unit_matrix) → n.matrix ≡ m.matrix → IsHome lattice m.shift n.shift
+  home_more : (n : Motion) → ¬ (m.matrix ≡ unit_matrix) → n.matrix ≡ m.matrix → IsHome lattice m.translation n.translation
       → ((y : Motion) → Contains done y → ¬ (y.matrix ≡ m.matrix)) → AreOthersAtHome lattice (done ++ m ∷ []) (others ++ n ∷ [])
   home_more n other matrix home new_matrix = record {
     each = λ k is. elim (Contains-push_cases others n k is) [
@@ -58,7 +58,7 @@ module _ (lattice : Lattice) (list : List Motion3) (i : ℕ) (d : Motion3) (here
   longer = map_more motion_of list i d here
 
   pub homes_turn : AllPairs (λ m n. ¬ (m.matrix ≡ n.matrix)) (map motion_of list) → (n : Motion3) → ¬ ((motion_of (get_or list i d)).matrix ≡ unit_matrix)
-      → (motion_of n).matrix ≡ (motion_of (get_or list i d)).matrix → IsHome lattice (motion_of (get_or list i d)).shift (motion_of n).shift
+      → (motion_of n).matrix ≡ (motion_of (get_or list i d)).matrix → IsHome lattice (motion_of (get_or list i d)).translation (motion_of n).translation
       → (new : List Motion3) → new ≡ others ++ n ∷ [] → AreOthersAtHome lattice (map motion_of (take (i + 1) list)) (map motion_of new)
   homes_turn once n other matrix home new pushed =
       let more = home_more lattice (map motion_of (take i list)) (map motion_of others) (motion_of (get_or list i d)) H (motion_of n) other matrix home

@@ -23,8 +23,8 @@ pub difference_path : (v w u : Vector) → u.x ≡ v.x -ℤ w.x → u.y ≡ v.y 
 unfolding plus multiple
 difference_path v w u p q r = vector_path (omega (arith, ints)) (omega (arith, ints)) (omega (arith, ints))
 
-pub product_small : (m k p : Motion) → IsSmall m → IsSmall k → p ≡ followed_by m k → IsVectorWithin (2 ^ 52) p.shift
-product_small m k p h i e = subst (λ (n : Motion). IsVectorWithin (2 ^ 52) n.shift) (sym e) (followed_by_within m k h i)
+pub product_small : (m k p : Motion) → IsSmall m → IsSmall k → p ≡ followed_by m k → IsVectorWithin (2 ^ 52) p.translation
+product_small m k p h i e = subst (λ (n : Motion). IsVectorWithin (2 ^ 52) n.translation) (sym e) (followed_by_within m k h i)
 
 module _ (list : List Motion) (p : Motion) (v : List Part) (d : IsDifference list p v) where
   pub difference_same : (rs : List Vector) → IsInLattice (centrings_alone rs) (parts v) → HasSame list rs p
@@ -33,11 +33,11 @@ module _ (list : List Motion) (p : Motion) (v : List Part) (d : IsDifference lis
     d.listed,
     record {
       matrix = d.matrix;
-      shift = lattice-by_residue (centrings_alone rs) (minus p.shift d.of.shift) (parts v) (sym (ap residue d.is ∙ residue-residue (minus p.shift d.of.shift))) h;
+      translation = lattice-by_residue (centrings_alone rs) (minus p.translation d.of.translation) (parts v) (sym (ap residue d.is ∙ residue-residue (minus p.translation d.of.translation))) h;
     },
   )
 
   pub difference_inside : (g : Listing) → AllInvertible g → All (IsGenerated g) list → IsGenerated g p → InGeneratedLattice g (parts v)
   difference_inside g invertible all in_p =
       subst (InGeneratedLattice g) (sym d.is)
-      (in_generated_residue g (minus p.shift d.of.shift) (difference_generated g invertible p d.of in_p (All-contains (IsGenerated g) list d.of all d.listed) d.matrix))
+      (in_generated_residue g (minus p.translation d.of.translation) (difference_generated g invertible p d.of in_p (All-contains (IsGenerated g) list d.of all d.listed) d.matrix))

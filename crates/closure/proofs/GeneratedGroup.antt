@@ -56,12 +56,12 @@ module _ (g : Listing) where
         (n, factor_generated n (inverse f is (record { after = after; before = before })), after, before)
     factor_undone f (inverse k is back) = (k, factor_generated k (generator is), back.before, back.after)
     factor_undone f (shift (e, h)) =
-        let n = translation (opposite f.shift) in
-        let f_is : f ≡ translation f.shift = motion_path e refl in (
+        let n = translation (opposite f.translation) in
+        let f_is : f ≡ translation f.translation = motion_path e refl in (
           n,
-          generated_shift (opposite f.shift) (lattice-opposite (centrings_alone g.centrings) f.shift h),
-          ap (λ k. followed_by k n) f_is ∙ translations f.shift (opposite f.shift) ∙ ap translation (minus-same f.shift),
-          ap (followed_by n) f_is ∙ translations (opposite f.shift) f.shift ∙ ap translation (opposite-plus_same f.shift),
+          generated_shift (opposite f.translation) (lattice-opposite (centrings_alone g.centrings) f.translation h),
+          ap (λ k. followed_by k n) f_is ∙ translations f.translation (opposite f.translation) ∙ ap translation (minus-same f.translation),
+          ap (followed_by n) f_is ∙ translations (opposite f.translation) f.translation ∙ ap translation (opposite-plus_same f.translation),
         )
 
     -- each member has an inverse on both sides
@@ -79,12 +79,12 @@ module _ (g : Listing) where
         )
 
     -- two members with one matrix differ by a vector of L
-    pub difference_generated : (p n : Motion) → IsGenerated g p → IsGenerated g n → p.matrix ≡ n.matrix → InGeneratedLattice g (minus p.shift n.shift)
+    pub difference_generated : (p n : Motion) → IsGenerated g p → IsGenerated g n → p.matrix ≡ n.matrix → InGeneratedLattice g (minus p.translation n.translation)
     difference_generated p n in_p in_n e =
-        let v = minus p.shift n.shift in
+        let v = minus p.translation n.translation in
         let (a, in_a, after, before) = generated_inverse n in_n in
         let p_is : followed_by n (translation v) ≡ p =
-        followed_by-translation n v ∙ motion_path (sym e) (plus_comm n.shift v ∙ minus-plus p.shift n.shift) in
+        followed_by-translation n v ∙ motion_path (sym e) (plus_comm n.translation v ∙ minus-plus p.translation n.translation) in
         subst (IsGenerated g)
         (ap (followed_by a) (sym p_is) ∙ sym (followed_by-assoc a n (translation v)) ∙ ap (λ k. followed_by k (translation v)) before ∙ identity-followed_by (translation v))
         (generated_products g a p in_a in_p)
@@ -96,7 +96,7 @@ module _ (g : Listing) where
     pub image_generated : (m : Motion) (v : Vector) → IsGenerated g m → InGeneratedLattice g v → InGeneratedLattice g (image m.matrix v)
     image_generated m v in_m in_v =
         let moved : followed_by (translation v) m ≡ followed_by m (translation (image m.matrix v)) =
-        motion_path (product-unit_right m.matrix) (plus_comm (image m.matrix v) m.shift) ∙ sym (followed_by-translation m (image m.matrix v)) in
+        motion_path (product-unit_right m.matrix) (plus_comm (image m.matrix v) m.translation) ∙ sym (followed_by-translation m (image m.matrix v)) in
         let (a, in_a, after, before) = generated_inverse m in_m in
         subst (IsGenerated g)
         (ap (followed_by a) moved ∙ sym (followed_by-assoc a m (translation (image m.matrix v)))

@@ -128,12 +128,12 @@ module _ (g : Listing) where
               (same-followed_by h l f (followed_by i k) f (keeps_inverse k f is back) to_k (same_refl h f));
         }
     covered_factor l f c (shift (e, in_c)) =
-        let f_is : f ≡ translation f.shift = motion_path e refl in
-        let moved : followed_by l f ≡ record { matrix = l.matrix; shift = plus l.shift f.shift } =
-        ap (followed_by l) f_is ∙ followed_by-translation l f.shift in
+        let f_is : f ≡ translation f.translation = motion_path e refl in
+        let moved : followed_by l f ≡ record { matrix = l.matrix; translation = plus l.translation f.translation } =
+        ap (followed_by l) f_is ∙ followed_by-translation l f.translation in
         covered_same (followed_by l f) l
         (subst (λ k. SameModulo h k l) (sym moved)
-        (record { matrix = refl; shift = subst (IsInLattice h) (sym (plus-minus_first l.shift f.shift)) (L.centrings f.shift in_c) }))
+        (record { matrix = refl; translation = subst (IsInLattice h) (sym (plus-minus_first l.translation f.translation)) (L.centrings f.translation in_c) }))
         c
 
     pub covers : (m : Motion) → IsGenerated g m → Covered m
@@ -142,11 +142,11 @@ module _ (g : Listing) where
 
     pub within : (m : Motion) → Covered m → IsGenerated g m
     within m c =
-        let v = minus m.shift c.of.shift in
+        let v = minus m.translation c.of.translation in
         let is : followed_by c.of (translation v) ≡ m =
-        followed_by-translation c.of v ∙ motion_path (sym c.same.matrix) (plus_comm c.of.shift v ∙ minus-plus m.shift c.of.shift) in
+        followed_by-translation c.of v ∙ motion_path (sym c.same.matrix) (plus_comm c.of.translation v ∙ minus-plus m.translation c.of.translation) in
         subst (IsGenerated g) is
-        (generated_products c.of (translation v) (All-contains (IsGenerated g) list c.of C.inside c.listed) (L.inside v c.same.shift))
+        (generated_products c.of (translation v) (All-contains (IsGenerated g) list c.of C.inside c.listed) (L.inside v c.same.translation))
 
     pub generated_is_covered : (m : Motion) → IsGenerated g m ↔ Covered m
     generated_is_covered m = (covers m, within m)
@@ -159,4 +159,4 @@ module _ (g : Listing) where
         to p =
             let c = covers (translation v) p in
             let one : c.of ≡ identity = once_matrix list C.once c.of identity c.listed C.first (sym c.same.matrix) in
-            subst (IsInLattice h) (ap (λ (n : Motion). minus v n.shift) one ∙ minus-origin v) c.same.shift
+            subst (IsInLattice h) (ap (λ (n : Motion). minus v n.translation) one ∙ minus-origin v) c.same.translation

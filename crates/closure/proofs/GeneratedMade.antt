@@ -84,7 +84,7 @@ module _ (g : Listing) (list : List Motion) (C : IsMatrixClosed g list) where
         makes u (inr (inl is)) =
             (same u).0 (subst (Contains (residues_of lattice)) (sym (All-contains (λ r. residue r ≡ r) (residues_of lattice) u (residues-reduced lattice) is)) is)
         makes u (inr (inr is)) = elim (op_case (translation u) is) [
-          | inl e ↦ subst (IsInLattice h) (sym (ap (λ (m : Motion). m.shift) e)) zero_vector
+          | inl e ↦ subst (IsInLattice h) (sym (ap (λ (m : Motion). m.translation) e)) zero_vector
           | inr other ↦ absurd (not_unit (translation u) other refl)
         ]
 
@@ -97,10 +97,10 @@ module _ (g : Listing) (list : List Motion) (C : IsMatrixClosed g list) where
     -- ---- the members
 
     modulo_own : (m n : Motion) → SameModulo h m n → SameModulo D m n
-    modulo_own m n s = record { matrix = s.matrix; shift = (own_lattice (minus m.shift n.shift)).1 s.shift }
+    modulo_own m n s = record { matrix = s.matrix; translation = (own_lattice (minus m.translation n.translation)).1 s.translation }
 
     home_same : (n : Motion) (a : IsOtherAtHome lattice list n) → SameModulo h n a.of
-    home_same n a = record { matrix = a.matrix; shift = (same (minus n.shift a.of.shift)).0 a.home.same }
+    home_same n a = record { matrix = a.matrix; translation = (same (minus n.translation a.of.translation)).0 a.home.same }
 
     op_generated : (n : Motion) → Contains (map motion_of ops) n → IsGenerated g n
     op_generated n is = elim (op_case n is) [
@@ -132,7 +132,7 @@ module _ (g : Listing) (list : List Motion) (C : IsMatrixClosed g list) where
         from : IsMember D m → IsGenerated g m
         from p =
             let c = covers g list h C L p.of (op_generated p.of p.listed) in
-            let s : SameModulo h m p.of = record { matrix = p.same.matrix; shift = (own_lattice (minus m.shift p.of.shift)).0 p.same.shift } in
+            let s : SameModulo h m p.of = record { matrix = p.same.matrix; translation = (own_lattice (minus m.translation p.of.translation)).0 p.same.translation } in
             within g list h C L m (record { of = c.of; listed = c.listed; same = same_trans h m p.of c.of s c.same })
 
     pub is_group : IsGroup D
@@ -169,7 +169,7 @@ module _ (g : Listing) (list : List Motion) (C : IsMatrixClosed g list) where
             let a = O.at_home.each n is in
             let s = All-contains HasSmallEntries list a.of small a.listed in
             let matrix : IsMatrixWithin 50 n.matrix = subst (IsMatrixWithin 50) (sym a.matrix) s.matrix in
-            record { small = record { matrix = IsMatrixWithin-more matrix (lit≤ tt); shift = reduced_within n.shift a.home.reduced }; matrix = matrix }
+            record { small = record { matrix = IsMatrixWithin-more matrix (lit≤ tt); translation = reduced_within n.translation a.home.reduced }; matrix = matrix }
 
     -- ---- the derived list
 
@@ -187,19 +187,19 @@ module _ (g : Listing) (list : List Motion) (C : IsMatrixClosed g list) where
         let (k, stands, s) = op_of m is in
         (k, stands, s.matrix ∙ e)
 
-    least_other : (n : Motion) → Contains O.others n → IsLeast g n.shift
+    least_other : (n : Motion) → Contains O.others n → IsLeast g n.translation
     least_other n is =
         let a = O.at_home.each n is in record {
           reduced = a.home.reduced;
           first = λ u p e. a.home.first u
-              ((same (minus u a.of.shift)).1
-              (subst (IsInLattice h) (minus-plus-minus u n.shift a.of.shift)
-              (lattice-plus h (minus u n.shift) (minus n.shift a.of.shift) ((lattice_is g list h C L (minus u n.shift)).0 p) ((same (minus n.shift a.of.shift)).0 a.home.same)))) e;
+              ((same (minus u a.of.translation)).1
+              (subst (IsInLattice h) (minus-plus-minus u n.translation a.of.translation)
+              (lattice-plus h (minus u n.translation) (minus n.translation a.of.translation) ((lattice_is g list h C L (minus u n.translation)).0 p) ((same (minus n.translation a.of.translation)).0 a.home.same)))) e;
         }
 
-    least_op : (n : Motion) → Contains (map motion_of ops) n → IsLeast g n.shift
+    least_op : (n : Motion) → Contains (map motion_of ops) n → IsLeast g n.translation
     least_op n is = elim (op_case n is) [
-      | inl e ↦ subst (λ (m : Motion). IsLeast g m.shift) (sym e) (record { reduced = origin_reduced; first = λ u p r. not_before_origin u r })
+      | inl e ↦ subst (λ (m : Motion). IsLeast g m.translation) (sym e) (record { reduced = origin_reduced; first = λ u p r. not_before_origin u r })
       | inr other ↦ least_other n other
     ]
 
@@ -207,8 +207,8 @@ module _ (g : Listing) (list : List Motion) (C : IsMatrixClosed g list) where
     ordered = record {
       first = refl;
       falling = falls;
-      home = subst (All (λ m. IsLeast g m.shift)) O.is
-          (All-weaker (Contains (map motion_of ops)) (λ m. IsLeast g m.shift) least_op (map motion_of ops) (All-contains_itself (map motion_of ops)));
+      home = subst (All (λ m. IsLeast g m.translation)) O.is
+          (All-weaker (Contains (map motion_of ops)) (λ m. IsLeast g m.translation) least_op (map motion_of ops) (All-contains_itself (map motion_of ops)));
     }
       where
         falls : (i j : ℕ) (d : Motion) → 0 < i → i < j → j < length (identity ∷ O.others)

@@ -27,23 +27,23 @@ collects_none centrings vectors e = record {
 
 module _ (centrings : List Vector) (ops : List Motion) (vectors : List Vector) (m : Motion) (h : CollectsTranslations centrings ops vectors) where
   -- a translation is taken
-  pub collects_more : m.matrix ≡ unit_matrix → CollectsTranslations centrings (ops ++ m ∷ []) (vectors ++ m.shift ∷ [])
+  pub collects_more : m.matrix ≡ unit_matrix → CollectsTranslations centrings (ops ++ m ∷ []) (vectors ++ m.translation ∷ [])
   collects_more e = record { same = λ v. (to v, from v) }
     where
-      is_translation : m ≡ translation m.shift
+      is_translation : m ≡ translation m.translation
       is_translation = motion_path e refl
 
-      to : (v : Vector) → Contains (vectors ++ m.shift ∷ []) v → Contains centrings v ⊎ Contains (ops ++ m ∷ []) (translation v)
-      to v is = elim (Contains-push_cases vectors m.shift v is) [
+      to : (v : Vector) → Contains (vectors ++ m.translation ∷ []) v → Contains centrings v ⊎ Contains (ops ++ m ∷ []) (translation v)
+      to v is = elim (Contains-push_cases vectors m.translation v is) [
         | inl old ↦ elim ((h.same v).0 old) [ inl c ↦ inl c | inr o ↦ inr (Contains-append_left ops (m ∷ []) (translation v) o) ]
         | inr new ↦ inr (subst (Contains (ops ++ m ∷ [])) (is_translation ∙ ap translation new) (Contains-push ops m))
       ]
 
-      from : (v : Vector) → Contains centrings v ⊎ Contains (ops ++ m ∷ []) (translation v) → Contains (vectors ++ m.shift ∷ []) v
-      from v (inl c) = Contains-append_left vectors (m.shift ∷ []) v ((h.same v).1 (inl c))
+      from : (v : Vector) → Contains centrings v ⊎ Contains (ops ++ m ∷ []) (translation v) → Contains (vectors ++ m.translation ∷ []) v
+      from v (inl c) = Contains-append_left vectors (m.translation ∷ []) v ((h.same v).1 (inl c))
       from v (inr o) = elim (Contains-push_cases ops m (translation v) o) [
-        | inl old ↦ Contains-append_left vectors (m.shift ∷ []) v ((h.same v).1 (inr old))
-        | inr new ↦ subst (Contains (vectors ++ m.shift ∷ [])) (ap (λ (k : Motion). k.shift) new) (Contains-push vectors m.shift)
+        | inl old ↦ Contains-append_left vectors (m.translation ∷ []) v ((h.same v).1 (inr old))
+        | inr new ↦ subst (Contains (vectors ++ m.translation ∷ [])) (ap (λ (k : Motion). k.translation) new) (Contains-push vectors m.translation)
       ]
 
   -- another motion is passed over

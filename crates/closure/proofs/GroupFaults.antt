@@ -69,7 +69,7 @@ module _ (g : Listing) (lattice : Lattice) (h : IsLatticeOf g lattice) (ops : Li
       let back = inverse_by n.matrix m in
       let near : SameModulo g back n = record {
         matrix = refl;
-        shift = subst (IsInLattice g) (taken_back (image n.matrix m.shift) n.shift) (lattice-opposite g (minus (plus (image n.matrix m.shift) n.shift) origin) a.shift);
+        translation = subst (IsInLattice g) (taken_back (image n.matrix m.translation) n.translation) (lattice-opposite g (minus (plus (image n.matrix m.translation) n.translation) origin) a.translation);
       } in (
         back,
         same_member g back n near (listed_member g n (Contains-from_firsts g.ops ops f n i.listed)),

@@ -42,12 +42,12 @@ use Rattle.closure.proofs.Members.{same_modulo, group_is}
 
 -- what the quotient asks of the listed motions
 pub moves_little : (bound : ℕ) (list : List Motion3) → All (λ m. IsSmallWithin bound (motion_of m)) list
-    → All (λ m. IsVectorWithin (2 ^ 52) m.shift) (map motion_of list)
-moves_little bound list h = All-map (λ m. IsVectorWithin (2 ^ 52) m.shift) motion_of list (λ k d l. IsVectorWithin-more (h k d l).small.shift (lit≤ tt))
+    → All (λ m. IsVectorWithin (2 ^ 52) m.translation) (map motion_of list)
+moves_little bound list h = All-map (λ m. IsVectorWithin (2 ^ 52) m.translation) motion_of list (λ k d l. IsVectorWithin-more (h k d l).small.translation (lit≤ tt))
 
-pub moves_little_after : (ops now : List Motion3) → now ≡ ops → All HasSmallEntries (map motion_of ops) → All (λ m. IsVectorWithin (2 ^ 52) m.shift) (map motion_of now)
-moves_little_after ops now read small = subst (λ l. All (λ m. IsVectorWithin (2 ^ 52) m.shift) (map motion_of l)) (sym read)
-    (All-weaker HasSmallEntries (λ m. IsVectorWithin (2 ^ 52) m.shift) (λ m s. IsVectorWithin-more s.small.shift (lit≤ tt)) (map motion_of ops) small)
+pub moves_little_after : (ops now : List Motion3) → now ≡ ops → All HasSmallEntries (map motion_of ops) → All (λ m. IsVectorWithin (2 ^ 52) m.translation) (map motion_of now)
+moves_little_after ops now read small = subst (λ l. All (λ m. IsVectorWithin (2 ^ 52) m.translation) (map motion_of l)) (sym read)
+    (All-weaker HasSmallEntries (λ m. IsVectorWithin (2 ^ 52) m.translation) (λ m s. IsVectorWithin-more s.small.translation (lit≤ tt)) (map motion_of ops) small)
 
 module _ (bound : ℕ) (g : Listing) (ops : List Motion) (f : AreFirst (SameModulo g) g.ops ops) (h : All (IsSmallWithin bound) g.ops) where
   pub firsts_within : All (IsSmallWithin bound) ops

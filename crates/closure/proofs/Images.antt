@@ -49,7 +49,7 @@ pub more_then : (old mid new : List Vector) → IsMoreThan old mid → IsMoreTha
 more_then old mid new p q v h = q v (p v h)
 
 pub still_same : (list : List Motion) (old new : List Vector) → IsMoreThan old new → (p : Motion) → HasSame list old p → HasSame list new p
-still_same list old new more p (n, is, same) = (n, is, record { matrix = same.matrix; shift = more _ same.shift })
+still_same list old new more p (n, is, same) = (n, is, record { matrix = same.matrix; translation = more _ same.translation })
 
 -- one more listed operation
 pub same_more : (list : List Motion) (old new : List Vector) → IsMoreThan old new → (m : Motion) (done : List Motion) (k : Motion)

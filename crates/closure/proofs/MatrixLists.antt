@@ -13,7 +13,7 @@ use Rattle.motions.specs.Laws.MotionLaws.{same_motion-is}
 use Rattle.closure.specs.ClosedLists.{HasMatrixOf}
 use Rattle.closure.specs.Laws.ListLaws.{Contains-map}
 
-pub same_matrix_test : (a b : Motion) (v w : Matrix) → a ≡ record { matrix = v; shift = origin } → b ≡ record { matrix = w; shift = origin }
+pub same_matrix_test : (a b : Motion) (v w : Matrix) → a ≡ record { matrix = v; translation = origin } → b ≡ record { matrix = w; translation = origin }
     → (r : Bool) → r ≡ same_motion a b → IsTrue r ↔ (v ≡ w)
 same_matrix_test a b v w p q r e = (
   λ t. ap (λ (m : Motion). m.matrix) (sym p ∙ (same_motion-is a b).0 (sym e ∙ t) ∙ q),

@@ -16,8 +16,8 @@ use Rattle.closure.specs.Laws.ShiftLaws.{modulo, same_is, keeps_vectors}
 module _ (g : Listing) (lattice : Lattice) (h : IsLatticeOf g lattice) where
   pub same_modulo : (m n : Motion) → IsSame (modulo lattice) m n ↔ SameModulo g m n
   same_modulo m n = (
-    λ s. let p = (same_is lattice m n).0 s in record { matrix = p.0; shift = (h (minus m.shift n.shift)).0 p.1 },
-    λ s. (same_is lattice m n).1 (s.matrix, (h (minus m.shift n.shift)).1 s.shift),
+    λ s. let p = (same_is lattice m n).0 s in record { matrix = p.0; translation = (h (minus m.translation n.translation)).0 p.1 },
+    λ s. (same_is lattice m n).1 (s.matrix, (h (minus m.translation n.translation)).1 s.translation),
   )
 
   pub member_is : (m : Motion) → IsListed (modulo lattice) g.ops m ↔ IsMember g m

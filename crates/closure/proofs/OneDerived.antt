@@ -122,12 +122,12 @@ module _ (g : Listing) (invertible : AllInvertible g) (xs ys : List Motion) (d :
       let (n, stands, same) = e.covers m.matrix (d.matrices m is) in
       let in_m = All-contains (IsGenerated g) xs m d.inside is in
       let in_n = All-contains (IsGenerated g) ys n e.inside stands in
-      let least_m = All-contains (λ (m : Motion). IsLeast g m.shift) xs m d.order.home is in
-      let least_n = All-contains (λ (m : Motion). IsLeast g m.shift) ys n e.order.home stands in
-      let shift : n.shift ≡ m.shift =
-      one_least n.shift m.shift
-      (least_m.first n.shift (difference_generated g invertible n m in_n in_m same) least_n.reduced)
-      (least_n.first m.shift (difference_generated g invertible m n in_m in_n (sym same)) least_m.reduced) in
+      let least_m = All-contains (λ (m : Motion). IsLeast g m.translation) xs m d.order.home is in
+      let least_n = All-contains (λ (m : Motion). IsLeast g m.translation) ys n e.order.home stands in
+      let shift : n.translation ≡ m.translation =
+      one_least n.translation m.translation
+      (least_m.first n.translation (difference_generated g invertible n m in_n in_m same) least_n.reduced)
+      (least_n.first m.translation (difference_generated g invertible m n in_m in_n (sym same)) least_m.reduced) in
       subst (Contains ys) (motion_path same shift) stands
 
 module _ (xs ys : List Motion) (a : IsHeaded xs) (b : IsHeaded ys) (to : (z : Motion) → Contains xs z → Contains ys z) where

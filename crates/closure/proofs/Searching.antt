@@ -52,13 +52,13 @@ still_has old new p m (n, stands, e) = (n, still_contained old new p n stands, e
 
 -- ---- one more motion
 
-pub generated_residue : (g : Listing) (m n : Motion) → IsGenerated g m → n.matrix ≡ m.matrix → n.shift ≡ residue m.shift → IsGenerated g n
+pub generated_residue : (g : Listing) (m n : Motion) → IsGenerated g m → n.matrix ≡ m.matrix → n.translation ≡ residue m.translation → IsGenerated g n
 generated_residue g m n p e f =
-    let v : Vector = minus (residue m.shift) m.shift in
+    let v : Vector = minus (residue m.translation) m.translation in
     let whole : IsInLattice (centrings_alone g.centrings) v =
-    lattice-whole (centrings_alone g.centrings) v (subst IsWhole (opposite-minus m.shift (residue m.shift)) (whole-opposite (minus m.shift (residue m.shift)) (whole-minus_residue m.shift))) in
+    lattice-whole (centrings_alone g.centrings) v (subst IsWhole (opposite-minus m.translation (residue m.translation)) (whole-opposite (minus m.translation (residue m.translation)) (whole-minus_residue m.translation))) in
     let is : followed_by m (translation v) ≡ n =
-    followed_by-translation m v ∙ motion_path (sym e) (plus_comm m.shift v ∙ minus-plus (residue m.shift) m.shift ∙ sym f) in
+    followed_by-translation m v ∙ motion_path (sym e) (plus_comm m.translation v ∙ minus-plus (residue m.translation) m.translation ∙ sym f) in
     subst (IsGenerated g) is (further m (translation v) p (shift (refl, whole)))
 
 -- what was found, as matrices
@@ -107,16 +107,16 @@ module _ (old new : List Motion3) (n : Motion3) (pushed : new ≡ old ++ n ∷ [
   pushed_motion = ap (map motion_of) pushed ∙ map-append motion_of old (n ∷ [])
 
   pub push_small : All HasSmallEntries (map motion_of old) → IsMatrixWithin 50 (motion_of n).matrix
-      → IsVectorWithin (2 ^ 40) (motion_of n).shift → All HasSmallEntries (map motion_of new)
+      → IsVectorWithin (2 ^ 40) (motion_of n).translation → All HasSmallEntries (map motion_of new)
   push_small all matrix short =
       subst (All HasSmallEntries) (sym pushed_motion)
-      (All-push HasSmallEntries (map motion_of old) (motion_of n) all (record { small = record { matrix = IsMatrixWithin-more matrix (lit≤ tt); shift = short }; matrix = matrix }))
+      (All-push HasSmallEntries (map motion_of old) (motion_of n) all (record { small = record { matrix = IsMatrixWithin-more matrix (lit≤ tt); translation = short }; matrix = matrix }))
 
   module _ (m : Motion) (matrix : (motion_of n).matrix ≡ m.matrix) where
     pub push_has : HasMatrixOf (map motion_of new) m
     push_has = (motion_of n, subst (λ l. Contains l (motion_of n)) (sym pushed_motion) (Contains-push (map motion_of old) (motion_of n)), matrix)
 
-    pub push_found : (motion_of n).shift ≡ residue m.shift → ¬ HasMatrixOf (map motion_of old) m → (g : Listing) → AreFound g (map motion_of old)
+    pub push_found : (motion_of n).translation ≡ residue m.translation → ¬ HasMatrixOf (map motion_of old) m → (g : Listing) → AreFound g (map motion_of old)
         → IsGenerated g m → IsGeneratedMatrix g m.matrix → AreFound g (map motion_of new)
     push_found moved none g F p q =
         subst (AreFound g) (sym pushed_motion)
@@ -199,7 +199,7 @@ one_small list e = subst (All HasSmallEntries) (sym e) (All-cons HasSmallEntries
     unit b l = record { first = row b 1 0 0 l (omega arith) (omega arith); second = row b 0 1 0 (omega arith) l (omega arith); third = row b 0 0 1 (omega arith) (omega arith) l }
 
     small : HasSmallEntries identity
-    small = record { small = record { matrix = unit 500 (lit≤ tt); shift = row (2 ^ 40) 0 0 0 (lit≤ tt) (lit≤ tt) (lit≤ tt) }; matrix = unit 50 (lit≤ tt) }
+    small = record { small = record { matrix = unit 500 (lit≤ tt); translation = row (2 ^ 40) 0 0 0 (lit≤ tt) (lit≤ tt) (lit≤ tt) }; matrix = unit 50 (lit≤ tt) }
 
 -- the motion at an index
 pub item_at : (items : List Motion3) (i : ℕ) (m : Motion3) → i < length items → m ≡ get_or items i m → get_or (map motion_of items) i (motion_of m) ≡ motion_of m

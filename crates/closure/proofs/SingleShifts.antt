@@ -44,8 +44,8 @@ module _ (g : Listing) where
   to_single _ (further l f p (generator c)) = further l f (to_single l p) (generator c)
   to_single _ (further l f p (inverse k c i)) = further l f (to_single l p) (inverse k c (record { after = i.after; before = i.before }))
   to_single _ (further l f p (shift (e, h))) =
-      let f_is : f ≡ translation f.shift = motion_path e refl in
-      single_products l f (to_single l p) (subst Single (sym f_is) (by_lattice f.shift h))
+      let f_is : f ≡ translation f.translation = motion_path e refl in
+      single_products l f (to_single l p) (subst Single (sym f_is) (by_lattice f.translation h))
 
   shift_in : (f : Motion) (v : Vector) → IsEdgeOrCentring g v → (f ≡ translation v) ⊎ (f ≡ translation (opposite v)) → (generating_kind g).IsShift f
   shift_in f v made (inl e) = subst (generating_kind g).IsShift (sym e) (refl, made_in v made)

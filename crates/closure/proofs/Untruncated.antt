@@ -35,13 +35,13 @@ module _ (g : Listing) (lattice : Lattice) (h : IsLatticeOf g lattice) where
   in_test-is v = (λ t. (h v).0 ((has_residue-is (residues_of lattice) v).0 t), λ is. (has_residue-is (residues_of lattice) v).1 ((h v).1 is))
 
   same_test : Motion → Motion → Bool
-  same_test m n = same_matrix m.matrix n.matrix && in_test (minus m.shift n.shift)
+  same_test m n = same_matrix m.matrix n.matrix && in_test (minus m.translation n.translation)
 
   same_test-is : (m n : Motion) → IsTrue (same_test m n) ↔ SameModulo g m n
   unfolding same_test
   same_test-is m n =
-      let d = Decides-and (same_matrix m.matrix n.matrix) (in_test (minus m.shift n.shift)) (same_matrix-is m.matrix n.matrix) (in_test-is (minus m.shift n.shift)) in
-      (λ t. let p = d.0 t in record { matrix = p.0; shift = p.1 }, λ s. d.1 (s.matrix, s.shift))
+      let d = Decides-and (same_matrix m.matrix n.matrix) (in_test (minus m.translation n.translation)) (same_matrix-is m.matrix n.matrix) (in_test-is (minus m.translation n.translation)) in
+      (λ t. let p = d.0 t in record { matrix = p.0; translation = p.1 }, λ s. d.1 (s.matrix, s.translation))
 
   inverse_test-is : (m n : Motion) → IsTrue (same_test (followed_by m n) identity && same_test (followed_by n m) identity)
       ↔ (SameModulo g (followed_by m n) identity × SameModulo g (followed_by n m) identity)

@@ -17,7 +17,7 @@ pub record IsOtherAtHome (lattice : Lattice) (list : List Motion) (n : Motion) :
   pub listed : Contains list of
   pub other : ¬ (of.matrix ≡ unit_matrix)
   pub matrix : n.matrix ≡ of.matrix
-  pub home : IsHome lattice of.shift n.shift
+  pub home : IsHome lattice of.translation n.translation
 
 -- those of the list that are no translations, each at home and once
 pub record AreOthersAtHome (lattice : Lattice) (list others : List Motion) : Type 0 where

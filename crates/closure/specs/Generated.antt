@@ -57,7 +57,7 @@ pub record IsLeast (g : Listing) (v : Vector) : Type 0 where
   pub first : (u : Vector) → InGeneratedLattice g (minus u v) → residue u ≡ u → is_before u v ≡ false
 
 abbrev pub least_form : (g : Listing) → Form (generating_kind g)
-least_form g = record { entries = entries_of; IsHome = λ m. IsLeast g m.shift }
+least_form g = record { entries = entries_of; IsHome = λ m. IsLeast g m.translation }
 
 -- one member of G for each matrix of M, the identity first, the others with the greatest matrix first, each with the least translation
 pub record IsDerived (g : Listing) (list : List Motion) : Type 0 where

@@ -18,7 +18,7 @@ space_modulo g = record {
   Motion = Motion;
   then = followed_by;
   one = identity;
-  IsShift = λ m. (m.matrix ≡ unit_matrix) × IsInLattice g m.shift;
+  IsShift = λ m. (m.matrix ≡ unit_matrix) × IsInLattice g m.translation;
 }
 
 -- the matrix takes each vector of L to a vector of L

@@ -25,7 +25,7 @@ IsLatticeOf g lattice = (v : Vector) → InLattice lattice v ↔ IsInLattice g v
 -- the motion is the translation by a vector of the lattice
 pub record IsLatticeShift (lattice : Lattice) (m : Motion3) : Type 0 where
   pub matrix : (motion_of m).matrix ≡ unit_matrix
-  pub shift : InLattice lattice (motion_of m).shift
+  pub translation : InLattice lattice (motion_of m).translation
 
 -- the first of the vectors, in lexicographic order, that are v and a residue, modulo whole edges
 abbrev pub first_with : Vector → List Vector → Vector

@@ -65,7 +65,7 @@ pub record IsDifference (list : List Motion) (p : Motion) (v : List Part) : Type
   pub of : Motion
   pub listed : Contains list of
   pub matrix : p.matrix ≡ of.matrix
-  pub is : parts v ≡ residue (minus p.shift of.shift)
+  pub is : parts v ≡ residue (minus p.translation of.translation)
 
 -- some motion of the list is the same as p modulo the lattice that the residues make
 abbrev pub HasSame : List Motion → List Vector → Motion → Type 0

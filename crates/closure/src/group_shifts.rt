@@ -30,11 +30,11 @@ impl Quotient for Group {
     /// The motion with the lexicographically first translation, of those with entries from 0 to below
     /// [`UNIT`](fractions::UNIT), that differs from its own by a vector of the lattice.
     fn home(&self, m: &Motion3) -> Motion3
-        requires { IsVectorWithin (2 ^ 52) (motion_of m.now).shift }
+        requires { IsVectorWithin (2 ^ 52) (motion_of m.now).translation }
         ensures value { motion_of result ≡ motion_of (lattice_home (lattice_of self.now) m.now) }
         ensures matrix { (motion_of result).matrix ≡ (motion_of m.now).matrix }
-        ensures first { IsHome (lattice_of self.now) (motion_of m.now).shift
-            (motion_of result).shift }
+        ensures first { IsHome (lattice_of self.now) (motion_of m.now).translation
+            (motion_of result).translation }
     {
         self.lattice().home(m)
     }

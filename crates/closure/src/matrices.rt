@@ -61,8 +61,8 @@ fn is_within(m: &Motion3) -> bool
 /// The motion with its translation modulo whole cell edges.
 fn reduced(m: &Motion3) -> Motion3
     ensures matrix { (motion_of result).matrix ≡ (motion_of m.now).matrix }
-    ensures shift { (motion_of result).shift ≡ residue (motion_of m.now).shift }
-    ensures small { IsVectorWithin (2 ^ 40) (motion_of result).shift }
+    ensures translation { (motion_of result).translation ≡ residue (motion_of m.now).translation }
+    ensures small { IsVectorWithin (2 ^ 40) (motion_of result).translation }
 {
     Motion3 {
         w: m.w,

@@ -33,10 +33,11 @@ impl Quotient for Lattice {
     /// The motion with the lexicographically first translation, of those with entries from 0 to below
     /// [`UNIT`](fractions::UNIT), that differs from its own by a vector of the lattice.
     fn home(&self, m: &Motion3) -> Motion3
-        requires { IsVectorWithin (2 ^ 52) (motion_of m.now).shift }
+        requires { IsVectorWithin (2 ^ 52) (motion_of m.now).translation }
         ensures value { motion_of result ≡ motion_of (lattice_home self.now m.now) }
         ensures matrix { (motion_of result).matrix ≡ (motion_of m.now).matrix }
-        ensures first { IsHome self.now (motion_of m.now).shift (motion_of result).shift }
+        ensures first { IsHome self.now (motion_of m.now).translation
+            (motion_of result).translation }
     {
         Motion3 {
             w: m.w,
@@ -67,7 +68,8 @@ pub(crate) fn has_same_matrix(m: &Motion3, n: &Motion3) -> bool
 
 /// The motion with the same matrix that leaves the origin where it is.
 fn linear_part(m: &Motion3) -> Motion3
-    ensures { motion_of result ≡ record { matrix = (motion_of m.now).matrix; shift = origin } }
+    ensures { motion_of result
+        ≡ record { matrix = (motion_of m.now).matrix; translation = origin } }
 {
     Motion3 {
         w: m.w,

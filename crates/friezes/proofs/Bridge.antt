@@ -35,7 +35,7 @@ pub record InType (n : ℕ) (f e : Sign) (u : ℤ) : Type 0 where
   pub product : IsProduct (modulo_lattice frieze_line) (frieze_row n).generators operation
   pub along : operation.along ≡ f
   pub across : operation.across ≡ e
-  pub is : u ≡ pos 2 *ℤ operation.shift
+  pub is : u ≡ pos 2 *ℤ operation.translation
 
 -- how far a motion with the sign moves the origin x, in half parts
 abbrev pub moved : Sign → ℕ → ℤ
@@ -44,7 +44,7 @@ moved Minus x = pos x
 
 -- the motion with a translation in half parts, as one of rationals
 abbrev at : Sign → Sign → ℤ → RationalLine
-at f e u = record { along = f; across = e; shift = half_parts u }
+at f e u = record { along = f; across = e; translation = half_parts u }
 
 edge_positive : pos 1 ≤ℤ edge
 edge_positive = omega (arith, ints)
@@ -53,46 +53,46 @@ edge_positive = omega (arith, ints)
 record IsCounted (H : Sign → Sign → ℤ → Type 0) (op : RationalLine) : Type 0 where
   u : ℤ
   stands : H op.along op.across u
-  same : SameFraction op.shift (half_parts u)
+  same : SameFraction op.translation (half_parts u)
 
 listed_to : (section : List LineOp) (op : RationalLine) → IsListedLine section op → IsCounted (InList section) op
 listed_to section op h =
-    let (k, whole) = h.shift in
+    let (k, whole) = h.translation in
     record {
       u = h.motion.t +ℤ k *ℤ edge;
       stands = record {
         listed = h.motion.t;
-        stands = record { motion = h.motion; listed = h.listed; along = sym h.along; across = sym h.across; shift = refl };
+        stands = record { motion = h.motion; listed = h.listed; along = sym h.along; across = sym h.across; translation = refl };
         times = k;
         is = refl;
       };
-      same = to_edges edge op.shift.den op.shift.num h.motion.t k whole;
+      same = to_edges edge op.translation.den op.translation.num h.motion.t k whole;
     }
 
-listed_from : (section : List LineOp) (op : RationalLine) (u : ℤ) → InList section op.along op.across u → SameFraction op.shift (half_parts u)
+listed_from : (section : List LineOp) (op : RationalLine) (u : ℤ) → InList section op.along op.across u → SameFraction op.translation (half_parts u)
     → IsListedLine section op
 listed_from section op u h same =
     let m = h.stands.motion in
-    let far : u ≡ m.t +ℤ h.times *ℤ edge = h.is ∙ ap (λ t. t +ℤ h.times *ℤ edge) (sym h.stands.shift) in
+    let far : u ≡ m.t +ℤ h.times *ℤ edge = h.is ∙ ap (λ t. t +ℤ h.times *ℤ edge) (sym h.stands.translation) in
     record {
       motion = m;
       listed = h.stands.listed;
       along = sym h.stands.along;
       across = sym h.stands.across;
-      shift = (h.times, from_edges edge op.shift.den op.shift.num m.t h.times (same ∙ ap (λ t. t *ℤ op.shift.den) far));
+      translation = (h.times, from_edges edge op.translation.den op.translation.num m.t h.times (same ∙ ap (λ t. t *ℤ op.translation.den) far));
     }
 
 type_to : (n : ℕ) (op : RationalLine) → IsOfFriezeType n op → IsCounted (InType n) op
 type_to n op h = record {
-  u = pos 2 *ℤ h.operation.shift;
+  u = pos 2 *ℤ h.operation.translation;
   stands = record { operation = h.operation; product = h.product; along = sym h.along; across = sym h.across; is = refl };
-  same = doubled UNIT op.shift.den op.shift.num h.operation.shift h.shift;
+  same = doubled UNIT op.translation.den op.translation.num h.operation.translation h.translation;
 }
 
 type_from : (n : ℕ) (f e : Sign) (u : ℤ) → InType n f e u → IsOfFriezeType n (at f e u)
 type_from n f e u h =
     let is = h.is in
-    record { operation = h.operation; product = h.product; along = sym h.along; across = sym h.across; shift = omega (arith, ints) }
+    record { operation = h.operation; product = h.product; along = sym h.along; across = sym h.across; translation = omega (arith, ints) }
 
 -- a type has whole edges as translations
 type_moved : (n : ℕ) (f e : Sign) (u k : ℤ) → InType n f e u → InType n f e (u +ℤ k *ℤ edge)
@@ -100,9 +100,9 @@ type_moved n f e u k h =
     let is = h.is in
     let o = h.operation in
     let by = frieze_translation (k *ℤ UNIT) in
-    let shift : (modulo_lattice frieze_line).IsShift by = (frieze_line.translation (k *ℤ UNIT), record { times = k; is = refl }, refl) in
+    let shift : (modulo_lattice frieze_line).IsShift by = (frieze_line.translation_by (k *ℤ UNIT), record { times = k; is = refl }, refl) in
     record {
-      operation = record o { shift = o.shift +ℤ k *ℤ UNIT };
+      operation = record o { translation = o.translation +ℤ k *ℤ UNIT };
       product = subst (IsProduct (modulo_lattice frieze_line) (frieze_row n).generators) (frieze_line_laws.after o (k *ℤ UNIT))
           (IsProduct.further o by h.product (IsFactor.shift shift));
       along = h.along;
@@ -116,21 +116,21 @@ moved_is Plus x = omega (arith, ints)
 moved_is Minus x = omega (arith, ints)
 
 -- a motion of rationals and one of the type that is counted in half parts
-module _ (x : ℕ) (op like : RationalLine) (v : ℤ) (counted : SameFraction like.shift (half_parts v)) where
+module _ (x : ℕ) (op like : RationalLine) (v : ℤ) (counted : SameFraction like.translation (half_parts v)) where
   abbrev Rest : Type 0
-  Rest = IsWhole (fraction_minus (fraction_minus op.shift like.shift) (origin_moved (sign_value op.along) (grid_part x)))
+  Rest = IsWhole (fraction_minus (fraction_minus op.translation like.translation) (origin_moved (sign_value op.along) (grid_part x)))
 
   abbrev drift : ℤ
   drift = pos x -ℤ sign_value op.along *ℤ pos x
 
-  rest_to : (k : ℤ) → SameFraction op.shift (half_parts (v +ℤ moved op.along x +ℤ k *ℤ edge)) → Rest
+  rest_to : (k : ℤ) → SameFraction op.translation (half_parts (v +ℤ moved op.along x +ℤ k *ℤ edge)) → Rest
   rest_to k same =
-      (k, to_whole edge (pos GRID) op.shift.den like.shift.den op.shift.num like.shift.num v drift (moved op.along x) k counted (moved_is op.along x) edge_positive same)
+      (k, to_whole edge (pos GRID) op.translation.den like.translation.den op.translation.num like.translation.num v drift (moved op.along x) k counted (moved_is op.along x) edge_positive same)
 
-  rest_from : IsRationalLine like → Rest → (k : ℤ) × SameFraction op.shift (half_parts (v +ℤ moved op.along x +ℤ k *ℤ edge))
+  rest_from : IsRationalLine like → Rest → (k : ℤ) × SameFraction op.translation (half_parts (v +ℤ moved op.along x +ℤ k *ℤ edge))
   rest_from rational (k, whole) = (
     k,
-    from_whole edge (pos GRID) op.shift.den like.shift.den op.shift.num like.shift.num v drift (moved op.along x) k counted (moved_is op.along x) rational
+    from_whole edge (pos GRID) op.translation.den like.translation.den op.translation.num like.translation.num v drift (moved op.along x) k counted (moved_is op.along x) rational
         (omega (arith, ints)) whole,
   )
 
@@ -152,21 +152,21 @@ module _ (section : List LineOp) (n x : ℕ) where
       → InType n f e (u -ℤ moved f x)
   made f e u like rational is carried =
       let c = type_to n like is in
-      let (k, same) = rest_from x (at f e u) like c.u c.same rational carried.shift in
+      let (k, same) = rest_from x (at f e u) like c.u c.same rational carried.translation in
       let far : u ≡ c.u +ℤ moved f x +ℤ k *ℤ edge = one_number u (c.u +ℤ moved f x +ℤ k *ℤ edge) same in
       let less : c.u +ℤ k *ℤ edge ≡ u -ℤ moved f x = omega (arith, ints) in
       let there : InType n f e c.u = subst (λ s. InType n f s c.u) (sym carried.across) (subst (λ s. InType n s like.across c.u) (sym carried.along) c.stands) in
       subst (InType n f e) less (type_moved n f e c.u k there)
 
   -- the motion of the type with the translation without what the origin moves
-  carried_by : (op : RationalLine) (u : ℤ) → SameFraction op.shift (half_parts u) → IsCarried (grid_part x) op (at op.along op.across (u -ℤ moved op.along x))
+  carried_by : (op : RationalLine) (u : ℤ) → SameFraction op.translation (half_parts u) → IsCarried (grid_part x) op (at op.along op.across (u -ℤ moved op.along x))
   carried_by op u same =
       let v = u -ℤ moved op.along x in
       let is : u ≡ v +ℤ moved op.along x +ℤ pos 0 *ℤ edge = omega (arith, ints) in
       record {
         along = refl;
         across = refl;
-        shift = rest_to x op (at op.along op.across v) v refl (pos 0) (subst (λ t. SameFraction op.shift (half_parts t)) is same);
+        translation = rest_to x op (at op.along op.across v) v refl (pos 0) (subst (λ t. SameFraction op.translation (half_parts t)) is same);
       }
 
   pub carries_moves : Carries → AllMove
@@ -187,7 +187,7 @@ module _ (section : List LineOp) (n x : ℕ) where
         (at op.along op.across v, edge_positive, type_from n op.along op.across v ((h op.along op.across).forth c.u c.stands), carried_by op c.u c.same),
     λ (like, high, is, carried).
         let c = type_to n like is in
-        let (k, same) = rest_from x op like c.u c.same high carried.shift in
+        let (k, same) = rest_from x op like c.u c.same high carried.translation in
         let there : InType n op.along op.across c.u =
         subst (λ s. InType n op.along s c.u) (sym carried.across) (subst (λ s. InType n s like.across c.u) (sym carried.along) c.stands) in
         let u = c.u +ℤ moved op.along x +ℤ k *ℤ edge in

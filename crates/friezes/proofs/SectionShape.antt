@@ -44,7 +44,7 @@ module _ (section : List LineOp) (is : IsSection section) where
   in_list : (m : LineOp) → Contains section m → InList section m.f m.e m.t
   in_list m h = record {
     listed = m.t;
-    stands = record { motion = m; listed = h; along = refl; across = refl; shift = refl };
+    stands = record { motion = m; listed = h; along = refl; across = refl; translation = refl };
     times = pos 0;
     is = omega (arith, ints);
   }
@@ -57,8 +57,8 @@ module _ (section : List LineOp) (is : IsSection section) where
       only u h =
           let m = h.stands.motion in
           let s = All-contains IsTurnOrShift section m is.plain h.stands.listed h.stands.along h.stands.across in
-          let shift : m.t ≡ s.times *ℤ edge = ap (λ (o : FriezeOperation). o.shift) s.is in
-          let same = h.stands.shift in
+          let shift : m.t ≡ s.times *ℤ edge = ap (λ (o : FriezeOperation). o.translation) s.is in
+          let same = h.stands.translation in
           let far = h.is in
           (s.times +ℤ h.times, omega (arith, ints))
 
@@ -67,8 +67,8 @@ module _ (section : List LineOp) (is : IsSection section) where
           let one = is.group.identity in
           let (m, h, e) = motion_of_line section one.of one.listed in
           let by = same_to frieze_identity one.of one.same in
-          let shift : pos 0 ≡ one.of.shift +ℤ by.times *ℤ edge = by.shift in
-          let same : m.t ≡ one.of.shift = ap (λ (o : FriezeOperation). o.shift) e in
+          let shift : pos 0 ≡ one.of.translation +ℤ by.times *ℤ edge = by.translation in
+          let same : m.t ≡ one.of.translation = ap (λ (o : FriezeOperation). o.translation) e in
           record {
             listed = m.t;
             stands = record {
@@ -76,7 +76,7 @@ module _ (section : List LineOp) (is : IsSection section) where
               listed = h;
               along = ap (λ (o : FriezeOperation). o.along) e ∙ sym by.along;
               across = ap (λ (o : FriezeOperation). o.across) e ∙ sym by.across;
-              shift = refl;
+              translation = refl;
             };
             times = k +ℤ by.times;
             is = omega (arith, ints);
@@ -95,10 +95,10 @@ module _ (section : List LineOp) (is : IsSection section) where
           listed = in_it;
           along = ap (λ (o : FriezeOperation). o.along) e ∙ sym by.along;
           across = ap (λ (o : FriezeOperation). o.across) e ∙ sym by.across;
-          shift = refl;
+          translation = refl;
         };
         times = by.times;
-        is = by.shift ∙ ap (λ (o : FriezeOperation). o.shift +ℤ by.times *ℤ edge) (sym e);
+        is = by.translation ∙ ap (λ (o : FriezeOperation). o.translation +ℤ by.times *ℤ edge) (sym e);
       }
 
   pub product : (f e f' e' : Sign) (u u' : ℤ) → InList section f e u → InList section f' e' u'
@@ -110,7 +110,7 @@ module _ (section : List LineOp) (is : IsSection section) where
       let along : sign_product n.motion.f m.motion.f ≡ sign_product f' f = λ i. sign_product (n.along i) (m.along i) in
       let across : sign_product n.motion.e m.motion.e ≡ sign_product e' e = λ i. sign_product (n.across i) (m.across i) in
       let sum : sign_value f' *ℤ h.listed +ℤ k.listed ≡ p.listed +ℤ p.times *ℤ edge =
-      sym (λ i. sign_value (n.along i) *ℤ m.shift i +ℤ n.shift i) ∙ p.is in
+      sym (λ i. sign_value (n.along i) *ℤ m.translation i +ℤ n.translation i) ∙ p.is in
       record {
         listed = p.listed;
         stands = subst (λ s. StandsAt section (sign_product f' f) s p.listed) across

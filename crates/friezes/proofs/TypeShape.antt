@@ -28,7 +28,7 @@ use Rattle.friezes.proofs.Bridge.{InType}
 -- ---- the motions of each type
 
 abbrev op : Sign → Sign → ℤ → FriezeOperation
-op f e t = record { along = f; across = e; shift = t }
+op f e t = record { along = f; across = e; translation = t }
 
 abbrev half : ℤ
 half = int_div UNIT (pos 2)
@@ -81,7 +81,7 @@ has_signs f e o = same_sign o.along f && same_sign o.across e
 -- its translation in half parts
 abbrev pub of_signs : Sign → Sign → List FriezeOperation → Option ℤ
 of_signs f e [] = None
-of_signs f e (o ∷ os) = cond (has_signs f e o) (Some (pos 2 *ℤ o.shift)) (of_signs f e os)
+of_signs f e (o ∷ os) = cond (has_signs f e o) (Some (pos 2 *ℤ o.translation)) (of_signs f e os)
 
 -- what a type has at a pair of signs
 abbrev pub shape : ℕ → Sign → Sign → Option ℤ
@@ -92,14 +92,14 @@ record Found (list : List FriezeOperation) (f e : Sign) (t : ℤ) : Type 0 where
   listed : Contains list motion
   along : motion.along ≡ f
   across : motion.across ≡ e
-  is : t ≡ pos 2 *ℤ motion.shift
+  is : t ≡ pos 2 *ℤ motion.translation
 
 further : (o : FriezeOperation) (os : List FriezeOperation) (f e : Sign) (t : ℤ) → Found os f e t → Found (o ∷ os) f e t
 further o os f e t h =
     let (k, within, is) = h.listed in
     record { motion = h.motion; listed = (suc k, omega arith, is); along = h.along; across = h.across; is = h.is }
 
-first : (o : FriezeOperation) (os : List FriezeOperation) (f e : Sign) (t : ℤ) → IsTrue (has_signs f e o) → t ≡ pos 2 *ℤ o.shift → Found (o ∷ os) f e t
+first : (o : FriezeOperation) (os : List FriezeOperation) (f e : Sign) (t : ℤ) → IsTrue (has_signs f e o) → t ≡ pos 2 *ℤ o.translation → Found (o ∷ os) f e t
 first o os f e t h is =
     let along = same_sign o.along f in
     let across = same_sign o.across e in
@@ -115,8 +115,8 @@ some_is : (s t : ℤ) → Some s ≡ Some t → t ≡ s
 some_is s t e = cc
 
 choose : (o : FriezeOperation) (os : List FriezeOperation) (f e : Sign) (t : ℤ) (b : Bool) → has_signs f e o ≡ b
-    → (of_signs f e os ≡ Some t → Found os f e t) → cond b (Some (pos 2 *ℤ o.shift)) (of_signs f e os) ≡ Some t → Found (o ∷ os) f e t
-choose o os f e t true h later is = first o os f e t h (some_is (pos 2 *ℤ o.shift) t is)
+    → (of_signs f e os ≡ Some t → Found os f e t) → cond b (Some (pos 2 *ℤ o.translation)) (of_signs f e os) ≡ Some t → Found (o ∷ os) f e t
+choose o os f e t true h later is = first o os f e t h (some_is (pos 2 *ℤ o.translation) t is)
 choose o os f e t false h later is = further o os f e t (later is)
 
 found : (list : List FriezeOperation) (f e : Sign) (t : ℤ) → of_signs f e list ≡ Some t → Found list f e t
@@ -130,7 +130,7 @@ is_at t None = false
 is_at t (Some v) = int_eq v t
 
 abbrev is_told : List FriezeOperation → FriezeOperation → Bool
-is_told list o = is_at (pos 2 *ℤ o.shift) (of_signs o.along o.across list)
+is_told list o = is_at (pos 2 *ℤ o.translation) (of_signs o.along o.across list)
 
 all_told : (n : ℕ) → 1 ≤ n → n ≤ 7 → list_all (is_told (ops n)) (ops n) ≡ true
 all_told = seven (λ n. list_all (is_told (ops n)) (ops n) ≡ true) refl refl refl refl refl refl refl
@@ -147,9 +147,9 @@ module _ (n : ℕ) (from : 1 ≤ n) (to : n ≤ 7) where
     along : motion.along ≡ f
     across : motion.across ≡ e
     times : ℤ
-    is : u ≡ pos 2 *ℤ motion.shift +ℤ times *ℤ edge
+    is : u ≡ pos 2 *ℤ motion.translation +ℤ times *ℤ edge
 
-  same_to : (o l : FriezeOperation) → IsSame K o l → (k : ℤ) × (o ≡ record l { shift = l.shift +ℤ k *ℤ UNIT })
+  same_to : (o l : FriezeOperation) → IsSame K o l → (k : ℤ) × (o ≡ record l { translation = l.translation +ℤ k *ℤ UNIT })
   same_to o l same =
       let (s, lattice, e) = same.is_shift in
       (lattice.times, same.is ∙ ap (frieze_line.then l) (sym e ∙ lattice.is) ∙ frieze_line_laws.after l (lattice.times *ℤ UNIT))
@@ -158,7 +158,7 @@ module _ (n : ℕ) (from : 1 ≤ n) (to : n ≤ 7) where
   to_listed f e u h =
       let l = (is_type n from to).closure.covers h.operation h.product in
       let (k, same) = same_to h.operation l.of l.same in
-      let shift : h.operation.shift ≡ l.of.shift +ℤ k *ℤ UNIT = ap (λ (o : FriezeOperation). o.shift) same in
+      let shift : h.operation.translation ≡ l.of.translation +ℤ k *ℤ UNIT = ap (λ (o : FriezeOperation). o.translation) same in
       let is = h.is in
       record {
         motion = l.of;
@@ -174,27 +174,27 @@ module _ (n : ℕ) (from : 1 ≤ n) (to : n ≤ 7) where
       let o = h.motion in
       let k = h.times in
       let is = h.is in
-      let shift : K.IsShift (frieze_translation (k *ℤ UNIT)) = (frieze_line.translation (k *ℤ UNIT), record { times = k; is = refl }, refl) in
+      let shift : K.IsShift (frieze_translation (k *ℤ UNIT)) = (frieze_line.translation_by (k *ℤ UNIT), record { times = k; is = refl }, refl) in
       record {
-        operation = record o { shift = o.shift +ℤ k *ℤ UNIT };
-        product = (is_type n from to).closure.within (record o { shift = o.shift +ℤ k *ℤ UNIT })
+        operation = record o { translation = o.translation +ℤ k *ℤ UNIT };
+        product = (is_type n from to).closure.within (record o { translation = o.translation +ℤ k *ℤ UNIT })
             (record { of = o; listed = h.listed; same = record { shift = frieze_translation (k *ℤ UNIT); is_shift = shift; is = sym (frieze_line_laws.after o (k *ℤ UNIT)) } });
         along = h.along;
         across = h.across;
         is = omega (arith, ints);
       }
 
-  told : (f e : Sign) (u : ℤ) → (h : Listed f e u) → is_at (pos 2 *ℤ h.motion.shift) (shape n f e) ≡ true
+  told : (f e : Sign) (u : ℤ) → (h : Listed f e u) → is_at (pos 2 *ℤ h.motion.translation) (shape n f e) ≡ true
   told f e u h =
       let o = h.motion in
       let is = All-contains (λ o. is_told (ops n) o ≡ true) (ops n) o (AllPass-from_list_all (is_told (ops n)) (ops n) (all_told n from to)) h.listed in
-      subst (λ s. is_at (pos 2 *ℤ o.shift) (shape n f s) ≡ true) h.across (subst (λ s. is_at (pos 2 *ℤ o.shift) (shape n s o.across) ≡ true) h.along is)
+      subst (λ s. is_at (pos 2 *ℤ o.translation) (shape n f s) ≡ true) h.across (subst (λ s. is_at (pos 2 *ℤ o.translation) (shape n s o.across) ≡ true) h.along is)
 
   differ : ¬ (false ≡ true)
   differ e = cc
 
   shown : (f e : Sign) (r : Option ℤ) → shape n f e ≡ r → Shows (InType n f e) r
-  shown f e None is = λ u h. let l = to_listed f e u h in differ (ap (is_at (pos 2 *ℤ l.motion.shift)) (sym is) ∙ told f e u l)
+  shown f e None is = λ u h. let l = to_listed f e u h in differ (ap (is_at (pos 2 *ℤ l.motion.translation)) (sym is) ∙ told f e u l)
   shown f e (Some t) is = (
     λ k.
         let o = found (ops n) f e t is in
@@ -202,7 +202,7 @@ module _ (n : ℕ) (from : 1 ≤ n) (to : n ≤ 7) where
         from_listed f e (t +ℤ k *ℤ edge) (record { motion = o.motion; listed = o.listed; along = o.along; across = o.across; times = k; is = omega (arith, ints) }),
     λ u h.
         let l = to_listed f e u h in
-        let same = (Decides-int_eq t (pos 2 *ℤ l.motion.shift)).0 (ap (is_at (pos 2 *ℤ l.motion.shift)) (sym is) ∙ told f e u l) in
+        let same = (Decides-int_eq t (pos 2 *ℤ l.motion.translation)).0 (ap (is_at (pos 2 *ℤ l.motion.translation)) (sym is) ∙ told f e u l) in
         let far = l.is in
         (l.times, omega (arith, ints)),
   )

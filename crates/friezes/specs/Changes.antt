@@ -14,7 +14,7 @@ origin_moved f r = record { num = r.num -ℤ f *ℤ r.num; den = r.den }
 pub record IsCarried (r : Fraction) (op like : RationalLine) : Type 0 where
   pub along : op.along ≡ like.along
   pub across : op.across ≡ like.across
-  pub shift : IsWhole (fraction_minus (fraction_minus op.shift like.shift) (origin_moved (sign_value op.along) r))
+  pub translation : IsWhole (fraction_minus (fraction_minus op.translation like.translation) (origin_moved (sign_value op.along) r))
 
 -- the change by r carries the one set of motions onto the other: a motion is in the one set exactly where some motion of
 -- the other is, after the change, the same

@@ -8,7 +8,7 @@ use Rattle.friezes.specs.declared.line_op.LineOp.{LineOp}
 
 -- the operation that a LineOp is, with its translation in half parts
 abbrev pub line_of : LineOp → FriezeOperation
-line_of m = record { along = m.f; across = m.e; shift = m.t }
+line_of m = record { along = m.f; across = m.e; translation = m.t }
 
 -- the cell edge along the line, in half parts
 abbrev pub edge : ℤ

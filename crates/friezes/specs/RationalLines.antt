@@ -9,11 +9,11 @@ use Rattle.friezes.specs.Lines.{edge}
 pub record RationalLine : Type 0 where
   pub along : Sign
   pub across : Sign
-  pub shift : Fraction
+  pub translation : Fraction
 
 -- the number below is at least 1
 abbrev pub IsRationalLine : RationalLine → Type 0
-IsRationalLine op = IsFraction op.shift
+IsRationalLine op = IsFraction op.translation
 
 -- the rational is whole
 abbrev pub IsWhole : Fraction → Type 0
@@ -33,4 +33,4 @@ pub record IsListedLine (list : List LineOp) (op : RationalLine) : Type 0 where
   pub listed : Contains list motion
   pub along : op.along ≡ motion.f
   pub across : op.across ≡ motion.e
-  pub shift : IsWhole (fraction_minus op.shift (half_parts motion.t))
+  pub translation : IsWhole (fraction_minus op.translation (half_parts motion.t))

@@ -12,7 +12,7 @@ pub record StandsAt (list : List LineOp) (f e : Sign) (t : ℤ) : Type 0 where
   pub listed : Contains list motion
   pub along : motion.f ≡ f
   pub across : motion.e ≡ e
-  pub shift : motion.t ≡ t
+  pub translation : motion.t ≡ t
 
 -- without the whole cell edges in it
 abbrev pub rest_of_edge : ℤ → ℤ

@@ -23,7 +23,7 @@ pub record IsOfFriezeType (n : ℕ) (op : RationalLine) : Type 0 where
   pub product : IsProduct (modulo_lattice frieze_line) (frieze_row n).generators operation
   pub along : op.along ≡ operation.along
   pub across : op.across ≡ operation.across
-  pub shift : SameFraction op.shift (parts operation.shift)
+  pub translation : SameFraction op.translation (parts operation.translation)
 
 -- the change carries the section that a list stands for onto the frieze type of its number
 abbrev pub HasChange : List LineOp → Change → Type 0

@@ -75,9 +75,9 @@ impl Motion for LineOp {
 
     ghost one = { frieze_identity };
 
-    ghost IsSmall = { λ m. IsWithin (2 ^ 40) m.shift };
+    ghost IsSmall = { λ m. IsWithin (2 ^ 40) m.translation };
 
-    ghost MovesWithin = { λ n m. IsWithin n m.shift };
+    ghost MovesWithin = { λ n m. IsWithin n m.translation };
 
     fn identity() -> Self {
         LineOp::in_half_parts(&FriezeMotion::identity())
@@ -89,7 +89,7 @@ impl Motion for LineOp {
 
     /// The inverse, which each motion along a line has.
     fn back(&self) -> Option<Self>
-        requires { IsWithin (2 ^ 40) (line_of self.now).shift }
+        requires { IsWithin (2 ^ 40) (line_of self.now).translation }
         ensures some { IsSome result }
         ensures inverse { IfSome result (λ m.
             (frieze_followed_by (line_of self.now) (line_of m) ≡ frieze_identity)

@@ -29,8 +29,8 @@ impl Quotient for LineOpShifts {
     /// The motion with its translation modulo whole cell edges: from 0 to below [`EDGE`] half parts.
     fn home(&self, m: &LineOp) -> LineOp
         ensures value { line_of result ≡ line_of (line_home m.now) }
-        ensures least { pos 0 ≤ℤ (line_of result).shift }
-        ensures below { (line_of result).shift <ℤ edge }
+        ensures least { pos 0 ≤ℤ (line_of result).translation }
+        ensures below { (line_of result).translation <ℤ edge }
     {
         LineOp {
             t: m.t.rem_euclid(EDGE),

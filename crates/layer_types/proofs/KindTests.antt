@@ -30,7 +30,7 @@ apart_lem m n e h = let f : not (same_block m n) ≡ false = ap not (same_block-
 module _ (centred : Bool) where
   abbrev pub layer_tests : Tests (layer_kind centred)
   layer_tests = record {
-    same = λ m n. same_block m n && in_lattice centred (minus2 m.shift n.shift);
+    same = λ m n. same_block m n && in_lattice centred (minus2 m.translation n.translation);
     apart = λ m n. not (same_block m n);
     keeps = λ m. keeps_lattice centred m.matrix;
   }
@@ -42,27 +42,27 @@ module _ (centred : Bool) where
     keeps_is = λ m e. (keeps_is centred m).0 e;
   }
     where
-      same : (m n : PlanarMotion) → (same_block m n && in_lattice centred (minus2 m.shift n.shift)) ≡ true → IsSame (layer_kind centred) m n
+      same : (m n : PlanarMotion) → (same_block m n && in_lattice centred (minus2 m.translation n.translation)) ≡ true → IsSame (layer_kind centred) m n
       same m n e =
-          let (block, shift) = and_parts (same_block m n) (in_lattice centred (minus2 m.shift n.shift)) e in
+          let (block, shift) = and_parts (same_block m n) (in_lattice centred (minus2 m.translation n.translation)) e in
           let (matrix, side) = and_parts (same_matrix2 m.matrix n.matrix) (same_sign m.side n.side) block in
           (same_is centred m n).1
           (record {
             matrix = (same_matrix2-is m.matrix n.matrix).0 matrix;
             side = (same_sign-is m.side n.side).0 side;
-            shift = (in_lattice-is centred (minus2 m.shift n.shift)).0 shift;
+            translation = (in_lattice-is centred (minus2 m.translation n.translation)).0 shift;
           })
 
   abbrev pub layer_form_tests : FormTests (layer_kind centred)
   layer_form_tests = record {
     entries = block_entries;
     is_one = λ m. same_planar m planar_identity;
-    is_home = λ m. same_pair (home_vector centred m.shift) m.shift;
+    is_home = λ m. same_pair (home_vector centred m.translation) m.translation;
   }
 
   pub layer_form_laws : FormLaws (layer_kind centred) (layer_form centred) layer_form_tests
   layer_form_laws = record {
     entries_is = λ m. refl;
     one_is = λ m e. (same_planar-is m planar_identity).0 e;
-    home_is = λ m e. subst (IsHome centred m.shift) ((same_pair-is (home_vector centred m.shift) m.shift).0 e) (home_is_home m.shift centred);
+    home_is = λ m e. subst (IsHome centred m.translation) ((same_pair-is (home_vector centred m.translation) m.translation).0 e) (home_is_home m.translation centred);
   }

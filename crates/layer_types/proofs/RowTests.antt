@@ -87,34 +87,34 @@ not_odd : (z : ℤ) → int_rem_euclid z (pos 2) ≡ pos 0 → ¬ IsOdd z
 not_odd (pos n) e (k, odd) = absurd (omega (arith, ints))
 not_odd (negsuc n) e (k, odd) = absurd (omega (arith, ints))
 
-no_half_part : (m : PlanarMotion) → (is_even m.shift.x && is_even m.shift.y) ≡ true → ¬ HasHalfPart m
+no_half_part : (m : PlanarMotion) → (is_even m.translation.x && is_even m.translation.y) ≡ true → ¬ HasHalfPart m
 no_half_part m e h =
-    let (x, y) = and_parts (is_even m.shift.x) (is_even m.shift.y) e in
+    let (x, y) = and_parts (is_even m.translation.x) (is_even m.translation.y) e in
     elim h [
-      | inl odd ↦ not_odd m.shift.x ((Decides-int_eq (int_rem_euclid m.shift.x (pos 2)) (pos 0)).0 x) odd
-      | inr odd ↦ not_odd m.shift.y ((Decides-int_eq (int_rem_euclid m.shift.y (pos 2)) (pos 0)).0 y) odd
+      | inl odd ↦ not_odd m.translation.x ((Decides-int_eq (int_rem_euclid m.translation.x (pos 2)) (pos 0)).0 x) odd
+      | inr odd ↦ not_odd m.translation.y ((Decides-int_eq (int_rem_euclid m.translation.y (pos 2)) (pos 0)).0 y) odd
     ]
 
 -- what each operation of a type is
 record IsTypeOperation (centred : Bool) (m : PlanarMotion) : Type 0 where
   entries : IsMatrix2Within 1 m.matrix
-  reduced : IsReduced m.shift
+  reduced : IsReduced m.translation
   parts : ¬ HasHalfPart m
   keeps : Keeps (layer_kind centred) m
 
 abbrev is_type_operation : Bool → PlanarMotion → Bool
 is_type_operation centred m =
-    has_unit_entries m.matrix && (is_reduced m.shift && ((is_even m.shift.x && is_even m.shift.y) && keeps_lattice centred m.matrix))
+    has_unit_entries m.matrix && (is_reduced m.translation && ((is_even m.translation.x && is_even m.translation.y) && keeps_lattice centred m.matrix))
 
 type_operation : (centred : Bool) (m : PlanarMotion) → is_type_operation centred m ≡ true → IsTypeOperation centred m
 type_operation centred m e =
-    let even = is_even m.shift.x && is_even m.shift.y in
-    let (entries, e1) = and_parts (has_unit_entries m.matrix) (is_reduced m.shift && (even && keeps_lattice centred m.matrix)) e in
-    let (shift, e2) = and_parts (is_reduced m.shift) (even && keeps_lattice centred m.matrix) e1 in
+    let even = is_even m.translation.x && is_even m.translation.y in
+    let (entries, e1) = and_parts (has_unit_entries m.matrix) (is_reduced m.translation && (even && keeps_lattice centred m.matrix)) e in
+    let (shift, e2) = and_parts (is_reduced m.translation) (even && keeps_lattice centred m.matrix) e1 in
     let (parts, keeps) = and_parts even (keeps_lattice centred m.matrix) e2 in
     record {
       entries = unit_entries m.matrix entries;
-      reduced = is_reduced_lem m.shift shift;
+      reduced = is_reduced_lem m.translation shift;
       parts = no_half_part m parts;
       keeps = (keeps_is centred m).0 keeps;
     }
@@ -122,7 +122,7 @@ type_operation centred m e =
 operation_small : (centred : Bool) (m : PlanarMotion) → IsTypeOperation centred m → IsPlanarSmall m
 operation_small centred m h = record {
   matrix = record { first = pair_more m.matrix.first h.entries.first; second = pair_more m.matrix.second h.entries.second };
-  shift = reduced_within m.shift h.reduced;
+  translation = reduced_within m.translation h.reduced;
 }
 
 -- ---- no two with one matrix and one sign
@@ -183,7 +183,7 @@ layer_type n t e =
       order = in_order_is (layer_kind r.centred) (layer_form r.centred) (layer_form_tests r.centred) (layer_form_laws r.centred) ms ordered;
       small = All-weaker (IsTypeOperation r.centred) IsPlanarSmall (operation_small r.centred) ms operations;
       entries = All-weaker (IsTypeOperation r.centred) (λ m. IsMatrix2Within 1 m.matrix) (λ m h. h.entries) ms operations;
-      reduced = All-weaker (IsTypeOperation r.centred) (λ m. IsReduced m.shift) (λ m h. h.reduced) ms operations;
+      reduced = All-weaker (IsTypeOperation r.centred) (λ m. IsReduced m.translation) (λ m h. h.reduced) ms operations;
       parts = All-weaker (IsTypeOperation r.centred) (λ m. ¬ HasHalfPart m) (λ m h. h.parts) ms operations;
       keeps = All-weaker (IsTypeOperation r.centred) (Keeps (layer_kind r.centred)) (λ m h. h.keeps) ms operations;
       apart = apart ms separate;

@@ -36,7 +36,7 @@ InLattice centred v = IsWholeVector v ⊎ (IsTrue centred × IsWholeVector (minu
 pub record IsLayerShift (centred : Bool) (m : LayerMotion) : Type 0 where
   pub matrix : (planar_of m).matrix ≡ unit2
   pub side : (planar_of m).side ≡ Plus
-  pub shift : InLattice centred (planar_of m).shift
+  pub translation : InLattice centred (planar_of m).translation
 
 -- motions of a layer modulo the lattice
 abbrev pub layer_kind : Bool → Kind
@@ -80,7 +80,7 @@ array_of v = v.x ∷ v.y ∷ []
 
 -- the motion at home that is the same as m
 abbrev pub layer_home : Bool → LayerMotion → LayerMotion
-layer_home centred m = record { a = m.a; e = m.e; t = array_of (home_vector centred (planar_of m).shift) }
+layer_home centred m = record { a = m.a; e = m.e; t = array_of (home_vector centred (planar_of m).translation) }
 
 -- whether both entries leave this rest of an edge
 abbrev pub leaves : ℤ → Pair → Bool

@@ -18,7 +18,7 @@ block_entries m =
 
 -- how a type lists its operations: the greatest matrix first, and each translation at home
 abbrev pub layer_form : (centred : Bool) → Form (layer_kind centred)
-layer_form centred = record { entries = block_entries; IsHome = λ m. IsHome centred m.shift m.shift }
+layer_form centred = record { entries = block_entries; IsHome = λ m. IsHome centred m.translation m.translation }
 
 -- two motions have one matrix and one sign
 abbrev pub HaveOneBlock : PlanarMotion → PlanarMotion → Type 0
@@ -35,7 +35,7 @@ pub record IsLayerType (n : ℕ) (t : LayerType) : Type 0 where
   pub order : IsInOrder (layer_kind (layer_row n).centred) (layer_form (layer_row n).centred) (map planar_of t.ops.now)
   pub small : All IsPlanarSmall (map planar_of t.ops.now)
   pub entries : All (λ m. IsMatrix2Within 1 m.matrix) (map planar_of t.ops.now)
-  pub reduced : All (λ m. IsReduced m.shift) (map planar_of t.ops.now)
+  pub reduced : All (λ m. IsReduced m.translation) (map planar_of t.ops.now)
   pub parts : All (λ m. ¬ HasHalfPart m) (map planar_of t.ops.now)
   pub keeps : All (Keeps (layer_kind (layer_row n).centred)) (map planar_of t.ops.now)
   pub apart : AllPairs (λ l m. ¬ HaveOneBlock l m) (map planar_of t.ops.now)

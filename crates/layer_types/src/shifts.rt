@@ -44,11 +44,12 @@ impl Quotient for LayerShifts {
     /// The motion with the lexicographically first translation, of those with entries from 0 to below an edge, that
     /// differs from its own by a vector of the lattice.
     fn home(&self, m: &LayerMotion) -> LayerMotion
-        requires { IsPairWithin (2 ^ 52) (planar_of m.now).shift }
+        requires { IsPairWithin (2 ^ 52) (planar_of m.now).translation }
         ensures value { planar_of result ≡ planar_of (layer_home self.now.centred m.now) }
         ensures matrix { (planar_of result).matrix ≡ (planar_of m.now).matrix }
         ensures side { (planar_of result).side ≡ (planar_of m.now).side }
-        ensures first { IsHome self.now.centred (planar_of m.now).shift (planar_of result).shift }
+        ensures first { IsHome self.now.centred (planar_of m.now).translation
+            (planar_of result).translation }
     {
         LayerMotion {
             a: m.a,

@@ -45,7 +45,7 @@ pub found_op : (r : Vector) (b f : Basis) → b ≡ f → pos 1 ≤ℤ volume f 
 found_op r b f same above k m (op, is) turned t fits fits' e s at_a told row at_o = record {
   along = is.along ∙ ap (λ x. multiple (sign_value x) f.a) (sym sign);
   across = row;
-  shift = sym at_o ∙ (λ i. multiple t (same i).a) ∙ ap (λ x. multiple x f.a) (sym (to_z-of_z w64 t fits'));
+  translation = sym at_o ∙ (λ i. multiple t (same i).a) ∙ ap (λ x. multiple x f.a) (sym (to_z-of_z w64 t fits'));
 }
   where
     sign : s ≡ op.f

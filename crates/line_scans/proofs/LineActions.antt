@@ -21,7 +21,7 @@ use Rattle.line_scans.specs.LineSections.{ActsAlong}
 
 -- an operation along the line with its translation as a part of the cell edge
 abbrev pub rational_line : FriezeOperation → RationalLine
-rational_line op = record { along = op.along; across = op.across; shift = half_parts op.shift }
+rational_line op = record { along = op.along; across = op.across; translation = half_parts op.translation }
 
 -- how far a motion moves a point: W o + w - o
 abbrev pub drift2 : PlaneMotion → PlanePoint → Pair
@@ -76,8 +76,8 @@ drift_entry p q a b c d x y s t u n z =
 drift_product : (m n : PlaneMotion) (o : PlanePoint) → drift2 (plane_followed_by m n) o ≡ plus2 (image2 n.matrix (drift2 m o)) (drift2 n o)
 drift_product m n o =
     pair_path
-    (drift_entry n.matrix.first.x n.matrix.first.y m.matrix.first.x m.matrix.first.y m.matrix.second.x m.matrix.second.y o.at.x o.at.y m.shift.x m.shift.y n.shift.x o.over o.at.x)
-    (drift_entry n.matrix.second.x n.matrix.second.y m.matrix.first.x m.matrix.first.y m.matrix.second.x m.matrix.second.y o.at.x o.at.y m.shift.x m.shift.y n.shift.y o.over o.at.y)
+    (drift_entry n.matrix.first.x n.matrix.first.y m.matrix.first.x m.matrix.first.y m.matrix.second.x m.matrix.second.y o.at.x o.at.y m.translation.x m.translation.y n.translation.x o.over o.at.x)
+    (drift_entry n.matrix.second.x n.matrix.second.y m.matrix.first.x m.matrix.first.y m.matrix.second.x m.matrix.second.y o.at.x o.at.y m.translation.x m.translation.y n.translation.y o.over o.at.y)
 
 -- e D = n t a and e E = n u a, and W a = f a
 along_entry : (e n t u f p q d d' b a a' : ℤ) → e *ℤ d ≡ n *ℤ t *ℤ a → e *ℤ d' ≡ n *ℤ t *ℤ a' → p *ℤ a +ℤ q *ℤ a' ≡ f *ℤ b
@@ -126,24 +126,24 @@ module _ (a : Pair) (c o : PlanePoint) where
   acts_product m n op like acts_m acts_n = record {
     along = turned_twice n.matrix m.matrix a like.along op.along acts_m.along acts_n.along;
     across = turned_twice n.matrix m.matrix c.at like.across op.across acts_m.across acts_n.across;
-    shift = ap (times2 edge) (drift_product m n o) ∙ pair_path
-        (along_entry edge o.over op.shift like.shift (sign_value like.along) n.matrix.first.x n.matrix.first.y (drift2 m o).x (drift2 m o).y a.x a.x a.y
-        (λ i. (acts_m.shift i).x) (λ i. (acts_m.shift i).y) (λ i. (acts_n.along i).x) (drift2 n o).x (λ i. (acts_n.shift i).x))
-        (along_entry edge o.over op.shift like.shift (sign_value like.along) n.matrix.second.x n.matrix.second.y (drift2 m o).x (drift2 m o).y a.y a.x a.y
-        (λ i. (acts_m.shift i).x) (λ i. (acts_m.shift i).y) (λ i. (acts_n.along i).y) (drift2 n o).y (λ i. (acts_n.shift i).y));
+    translation = ap (times2 edge) (drift_product m n o) ∙ pair_path
+        (along_entry edge o.over op.translation like.translation (sign_value like.along) n.matrix.first.x n.matrix.first.y (drift2 m o).x (drift2 m o).y a.x a.x a.y
+        (λ i. (acts_m.translation i).x) (λ i. (acts_m.translation i).y) (λ i. (acts_n.along i).x) (drift2 n o).x (λ i. (acts_n.translation i).x))
+        (along_entry edge o.over op.translation like.translation (sign_value like.along) n.matrix.second.x n.matrix.second.y (drift2 m o).x (drift2 m o).y a.y a.x a.y
+        (λ i. (acts_m.translation i).x) (λ i. (acts_m.translation i).y) (λ i. (acts_n.along i).y) (drift2 n o).y (λ i. (acts_n.translation i).y));
   }
 
   pub acts_identity : Acts plane_identity frieze_identity
   acts_identity = record {
     along = image2-unit a ∙ sym (times_one a);
     across = image2-unit c.at ∙ sym (times_one c.at);
-    shift = ap (λ v. times2 edge (minus2 (plus2 (times2 UNIT v) (times2 o.over origin2)) (times2 UNIT o.at))) (image2-unit o.at)
+    translation = ap (λ v. times2 edge (minus2 (plus2 (times2 UNIT v) (times2 o.over origin2)) (times2 UNIT o.at))) (image2-unit o.at)
         ∙ pair_path (nothing_entry o.at.x o.over a.x) (nothing_entry o.at.y o.over a.y);
   }
 
   -- a motion whose translation is k a smaller
   abbrev pub less : RationalLine → ℤ → RationalLine
-  less op k = record op { shift = record { num = op.shift.num -ℤ k *ℤ op.shift.den; den = op.shift.den } }
+  less op k = record op { translation = record { num = op.translation.num -ℤ k *ℤ op.translation.den; den = op.translation.den } }
 
   pub acts_differs : (m n : PlaneMotion) (op : RationalLine) (differs : DiffersAlong a m n) → ActsAlong a c o m op → ActsAlong a c o n (less op differs.times)
   acts_differs m n op differs acts =
@@ -152,21 +152,21 @@ module _ (a : Pair) (c o : PlanePoint) where
       record {
         along = same a ∙ acts.along;
         across = same c.at ∙ acts.across;
-        shift = ap (λ v. times2 op.shift.den (minus2 (plus2 (times2 UNIT v) (times2 o.over n.shift)) (times2 UNIT o.at))) (same o.at)
+        translation = ap (λ v. times2 op.translation.den (minus2 (plus2 (times2 UNIT v) (times2 o.over n.translation)) (times2 UNIT o.at))) (same o.at)
             ∙ pair_path
-            (moved_entry op.shift.den o.over op.shift.num k a.x (image2 m.matrix o.at).x o.at.x m.shift.x n.shift.x (λ i. (differs.shift i).x) (λ i. (acts.shift i).x))
-            (moved_entry op.shift.den o.over op.shift.num k a.y (image2 m.matrix o.at).y o.at.y m.shift.y n.shift.y (λ i. (differs.shift i).y) (λ i. (acts.shift i).y));
+            (moved_entry op.translation.den o.over op.translation.num k a.x (image2 m.matrix o.at).x o.at.x m.translation.x n.translation.x (λ i. (differs.translation i).x) (λ i. (acts.translation i).x))
+            (moved_entry op.translation.den o.over op.translation.num k a.y (image2 m.matrix o.at).y o.at.y m.translation.y n.translation.y (λ i. (differs.translation i).y) (λ i. (acts.translation i).y));
       }
 
   -- and the same translation, written otherwise
-  pub acts_same : (m : PlaneMotion) (op like : RationalLine) → pos 1 ≤ℤ op.shift.den → op.along ≡ like.along → op.across ≡ like.across
-      → SameFraction op.shift like.shift → ActsAlong a c o m op → ActsAlong a c o m like
+  pub acts_same : (m : PlaneMotion) (op like : RationalLine) → pos 1 ≤ℤ op.translation.den → op.along ≡ like.along → op.across ≡ like.across
+      → SameFraction op.translation like.translation → ActsAlong a c o m op → ActsAlong a c o m like
   acts_same m op like above along across same acts = record {
     along = acts.along ∙ ap (λ f. times2 (sign_value f) a) along;
     across = acts.across ∙ ap (λ f. times2 (sign_value f) c.at) across;
-    shift = pair_path
-        (same_entry op.shift.den like.shift.den o.over (drift2 m o).x op.shift.num like.shift.num a.x above (λ i. (acts.shift i).x) same)
-        (same_entry op.shift.den like.shift.den o.over (drift2 m o).y op.shift.num like.shift.num a.y above (λ i. (acts.shift i).y) same);
+    translation = pair_path
+        (same_entry op.translation.den like.translation.den o.over (drift2 m o).x op.translation.num like.translation.num a.x above (λ i. (acts.translation i).x) same)
+        (same_entry op.translation.den like.translation.den o.over (drift2 m o).y op.translation.num like.translation.num a.y above (λ i. (acts.translation i).y) same);
   }
 
   module _ (once_a : (k l : ℤ) → times2 k a ≡ times2 l a → k ≡ l) (once_c : (k l : ℤ) → times2 k c.at ≡ times2 l c.at → k ≡ l) (above : pos 1 ≤ℤ o.over) where
@@ -182,9 +182,9 @@ module _ (a : Pair) (c o : PlanePoint) where
     pub across_once : (m : PlaneMotion) (op like : RationalLine) → ActsAlong a c o m op → ActsAlong a c o m like → op.across ≡ like.across
     across_once m op like p q = one_sign op.across like.across (once_c (sign_value op.across) (sign_value like.across) (sym p.across ∙ q.across))
 
-    pub shift_once : (m : PlaneMotion) (op like : RationalLine) → ActsAlong a c o m op → ActsAlong a c o m like → SameFraction op.shift like.shift
+    pub shift_once : (m : PlaneMotion) (op like : RationalLine) → ActsAlong a c o m op → ActsAlong a c o m like → SameFraction op.translation like.translation
     shift_once m op like p q =
-        once_a (op.shift.num *ℤ like.shift.den) (like.shift.num *ℤ op.shift.den)
+        once_a (op.translation.num *ℤ like.translation.den) (like.translation.num *ℤ op.translation.den)
         (pair_path
-        (once_entry op.shift.den like.shift.den o.over (drift2 m o).x op.shift.num like.shift.num a.x above (λ i. (p.shift i).x) (λ i. (q.shift i).x))
-        (once_entry op.shift.den like.shift.den o.over (drift2 m o).y op.shift.num like.shift.num a.y above (λ i. (p.shift i).y) (λ i. (q.shift i).y)))
+        (once_entry op.translation.den like.translation.den o.over (drift2 m o).x op.translation.num like.translation.num a.x above (λ i. (p.translation i).x) (λ i. (q.translation i).x))
+        (once_entry op.translation.den like.translation.den o.over (drift2 m o).y op.translation.num like.translation.num a.y above (λ i. (p.translation i).y) (λ i. (q.translation i).y)))

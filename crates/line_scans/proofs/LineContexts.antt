@@ -53,8 +53,8 @@ pub record IsLines (g : Listing) (r a tau : Pair) (d : ℤ) (f : Basis) (scannin
   pub are_scanning : AreScanning g (in_space r) scanning
   pub once_a : (k l : ℤ) → times2 k a ≡ times2 l a → k ≡ l
 
-flat_of : (m : Motion) → IsFlatMatrix m.matrix → m.shift.z ≡ pos 0 → IsFlat m
-flat_of m w none = record { row_x = w.row_x; row_y = w.row_y; row_z = w.row_z; column_x = w.column_x; column_y = w.column_y; shift = none }
+flat_of : (m : Motion) → IsFlatMatrix m.matrix → m.translation.z ≡ pos 0 → IsFlat m
+flat_of m w none = record { row_x = w.row_x; row_y = w.row_y; row_z = w.row_z; column_x = w.column_x; column_y = w.column_y; translation = none }
 
 -- a whole number k with n k from 0 to below n, or from -n to above it, is 0
 none_between : (n y k : ℤ) → pos 1 ≤ℤ n → y ≡ n *ℤ k → pos 0 ≤ℤ y → y <ℤ n → k ≡ pos 0
@@ -145,11 +145,11 @@ module _ (g : Listing) (r a tau : Pair) (d : ℤ) (f : Basis) (scanning : List M
       only p q s = omega (arith, ints)
 
   -- a member at home moves nothing along the third axis
-  third_none : (m : Motion) → IsMember g m → (home : IsAtHome f m) → (home.by.y ≡ pos 0) × (m.shift.z ≡ pos 0)
+  third_none : (m : Motion) → IsMember g m → (home : IsAtHome f m) → (home.by.y ≡ pos 0) × (m.translation.z ≡ pos 0)
   unfolding multiple
   third_none m member home = by x.across
     where
-      whole : (k : ℤ) × (m.shift.z ≡ k *ℤ UNIT)
+      whole : (k : ℤ) × (m.translation.z ≡ k *ℤ UNIT)
       whole = x.flat.shifts m member
 
       third : home.by.y *ℤ f.b.z ≡ home.over *ℤ (whole.0 *ℤ UNIT)
@@ -158,7 +158,7 @@ module _ (g : Listing) (r a tau : Pair) (d : ℤ) (f : Basis) (scanning : List M
       at : (k : ℤ) → k ≡ pos 0 → k *ℤ UNIT ≡ pos 0
       at k e = omega (arith, ints, e)
 
-      by : (f.b ≡ third_edge) ⊎ (f.b ≡ opposite third_edge) → (home.by.y ≡ pos 0) × (m.shift.z ≡ pos 0)
+      by : (f.b ≡ third_edge) ⊎ (f.b ≡ opposite third_edge) → (home.by.y ≡ pos 0) × (m.translation.z ≡ pos 0)
       by (inl e) =
           let (zero, none) = up_none home.over home.by.y whole.0 home.positive home.y_from home.y_below (ap (λ (v : Vector). home.by.y *ℤ v.z) (sym e) ∙ third) in
           (zero, whole.1 ∙ at whole.0 none)
@@ -232,7 +232,7 @@ module _ (g : Listing) (r a tau : Pair) (d : ℤ) (f : Basis) (scanning : List M
     pub block_at : (k : ℕ) → k < length ms → motion_at ms k ≡ plane_block (plane_at qs k)
     block_at k h =
         let flat = flat_at k h in
-        sym (block_is (motion_at ms k) (x.flat.matrices (motion_at ms k) (members (motion_at ms k) (list.listed k h).0)) flat.shift)
+        sym (block_is (motion_at ms k) (x.flat.matrices (motion_at ms k) (members (motion_at ms k) (list.listed k h).0)) flat.translation)
         ∙ ap plane_block (sym (at_below ms k h))
 
     within : (k : ℕ) → k < length qs → k < length ms

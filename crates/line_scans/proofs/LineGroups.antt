@@ -35,7 +35,7 @@ pub record IsLineGroup (a : Pair) (S : PlaneMotion → Type 0) : Type 0 where
   pub inverses : (m : PlaneMotion) → S m
       → (n : PlaneMotion) × S n × (plane_followed_by m n ≡ plane_identity) × (plane_followed_by n m ≡ plane_identity)
   pub shifts : (m n : PlaneMotion) → DiffersAlong a m n → S m → S n
-  pub plain : (m : PlaneMotion) → S m → m.matrix ≡ unit2 → (k : ℤ) × (m.shift ≡ times2 k a)
+  pub plain : (m : PlaneMotion) → S m → m.matrix ≡ unit2 → (k : ℤ) × (m.translation ≡ times2 k a)
 
 -- ---- only the unit matrix keeps a and c'
 
@@ -100,7 +100,7 @@ module _ (r a c : Pair) (flat : dot2 r a ≡ pos 0) (up : pos 1 ≤ℤ dot2 r c)
 -- ---- sameness modulo whole edges
 
 edges_sym : (m n : FriezeOperation) → ByEdges m n → ByEdges n m
-edges_sym m n h = record { along = sym h.along; across = sym h.across; times = negsuc 0 *ℤ h.times; shift = turned m.shift n.shift h.times h.shift }
+edges_sym m n h = record { along = sym h.along; across = sym h.across; times = negsuc 0 *ℤ h.times; translation = turned m.translation n.translation h.times h.translation }
   where
     turned : (s t k : ℤ) → s ≡ t +ℤ k *ℤ edge → t ≡ s +ℤ negsuc 0 *ℤ k *ℤ edge
     turned s t k e = omega (arith, ints)
@@ -128,7 +128,7 @@ module _ (r a : Pair) (c o : PlanePoint) (flat : dot2 r a ≡ pos 0) (up : pos 1
   does_once m op like p q =
       frieze_path (along_once a c o once_a once_c above m (rational_line op) (rational_line like) p q)
       (across_once a c o once_a once_c above m (rational_line op) (rational_line like) p q)
-      (halves_once op.shift like.shift (shift_once a c o once_a once_c above m (rational_line op) (rational_line like) p q))
+      (halves_once op.translation like.translation (shift_once a c o once_a once_c above m (rational_line op) (rational_line like) p q))
 
   -- what does the same but for whole edges
   does_differs : (m n : PlaneMotion) (op like : FriezeOperation) → DiffersAlong a m n → Does m op → Does n like → ByEdges op like
@@ -139,7 +139,7 @@ module _ (r a : Pair) (c o : PlanePoint) (flat : dot2 r a ≡ pos 0) (up : pos 1
         along = along_once a c o once_a once_c above n (less a c o (rational_line op) differs.times) (rational_line like) moved q;
         across = across_once a c o once_a once_c above n (less a c o (rational_line op) differs.times) (rational_line like) moved q;
         times = differs.times;
-        shift = apart op.shift like.shift differs.times same;
+        translation = apart op.translation like.translation differs.times same;
       }
     where
       apart : (s t k : ℤ) → (s -ℤ k *ℤ edge) *ℤ edge ≡ t *ℤ edge → s ≡ t +ℤ k *ℤ edge
@@ -148,7 +148,7 @@ module _ (r a : Pair) (c o : PlanePoint) (flat : dot2 r a ≡ pos 0) (up : pos 1
   -- ---- a motion that turns nothing
 
   plain_edges : (m : PlaneMotion) (op : FriezeOperation) → S m → Does m op → op.along ≡ Plus → op.across ≡ Plus
-      → (k : ℤ) × (op.shift ≡ k *ℤ edge)
+      → (k : ℤ) × (op.translation ≡ k *ℤ edge)
   plain_edges m op in_set does along across = by (group.plain m in_set unit)
     where
       at_a : image2 m.matrix a ≡ times2 (pos 1) a
@@ -166,12 +166,12 @@ module _ (r a : Pair) (c o : PlanePoint) (flat : dot2 r a ≡ pos 0) (up : pos 1
       started : (x : ℤ) → pos 0 +ℤ x ≡ x
       started x = omega (arith, ints)
 
-      by : (k : ℤ) × (m.shift ≡ times2 k a) → (k : ℤ) × (op.shift ≡ k *ℤ edge)
+      by : (k : ℤ) × (m.translation ≡ times2 k a) → (k : ℤ) × (op.translation ≡ k *ℤ edge)
       by (k, is) =
           let differs : DiffersAlong a m plane_identity =
-          record { matrix = unit; times = k; shift = ap (λ v. minus2 v plane_identity.shift) is ∙ pair_path (nothing (k *ℤ a.x)) (nothing (k *ℤ a.y)) } in
+          record { matrix = unit; times = k; translation = ap (λ v. minus2 v plane_identity.translation) is ∙ pair_path (nothing (k *ℤ a.x)) (nothing (k *ℤ a.y)) } in
           let same = does_differs m plane_identity op frieze_identity differs does (acts_identity a c o) in
-          (same.times, same.shift ∙ started (same.times *ℤ edge))
+          (same.times, same.translation ∙ started (same.times *ℤ edge))
 
   -- ---- a list of the set and what its motions do
 
@@ -221,8 +221,8 @@ module _ (r a : Pair) (c o : PlanePoint) (flat : dot2 r a ≡ pos 0) (up : pos 1
             along = ap (λ f. sign_product f op.along) (sym same.along) ∙ ap (λ (x : FriezeOperation). x.along) one;
             across = ap (λ f. sign_product f op.across) (sym same.across) ∙ ap (λ (x : FriezeOperation). x.across) one;
             times = negsuc 0 *ℤ same.times;
-            shift = ap (λ f. sign_value f *ℤ op.shift +ℤ like.shift) (sym same.along)
-                ∙ summed (sign_value back.along *ℤ op.shift) back.shift like.shift same.times same.shift (ap (λ (x : FriezeOperation). x.shift) one);
+            translation = ap (λ f. sign_value f *ℤ op.translation +ℤ like.translation) (sym same.along)
+                ∙ summed (sign_value back.along *ℤ op.translation) back.translation like.translation same.times same.translation (ap (λ (x : FriezeOperation). x.translation) one);
           })
         where
           summed : (x s t k : ℤ) → s ≡ t +ℤ k *ℤ edge → x +ℤ s ≡ pos 0 → x +ℤ t ≡ pos 0 +ℤ negsuc 0 *ℤ k *ℤ edge
@@ -237,7 +237,7 @@ module _ (r a : Pair) (c o : PlanePoint) (flat : dot2 r a ≡ pos 0) (up : pos 1
             along = ap (sign_product op.along) (sym same.along) ∙ ap (λ (x : FriezeOperation). x.along) one;
             across = ap (sign_product op.across) (sym same.across) ∙ ap (λ (x : FriezeOperation). x.across) one;
             times = negsuc 0 *ℤ (sign_value op.along *ℤ same.times);
-            shift = summed (sign_value op.along) op.shift back.shift like.shift same.times same.shift (ap (λ (x : FriezeOperation). x.shift) one);
+            translation = summed (sign_value op.along) op.translation back.translation like.translation same.times same.translation (ap (λ (x : FriezeOperation). x.translation) one);
           })
         where
           summed : (f x s t k : ℤ) → s ≡ t +ℤ k *ℤ edge → f *ℤ s +ℤ x ≡ pos 0 → f *ℤ t +ℤ x ≡ pos 0 +ℤ negsuc 0 *ℤ (f *ℤ k) *ℤ edge
@@ -254,7 +254,7 @@ module _ (r a : Pair) (c o : PlanePoint) (flat : dot2 r a ≡ pos 0) (up : pos 1
         let within : found.place < length list = subst (λ l. found.place < l) (sym count) found.within in
         let does_like = each found.place some_op found.within in
         let differs = differs_sym n (plane_at ms found.place) found.has in
-        let back : FriezeOperation = record { along = (line_of like).along; across = (line_of like).across; shift = (line_of like).shift -ℤ differs.times *ℤ edge } in
+        let back : FriezeOperation = record { along = (line_of like).along; across = (line_of like).across; translation = (line_of like).translation -ℤ differs.times *ℤ edge } in
         let does_n : Does n back = acts_differs a c o (plane_at ms found.place) n (rational_line (line_of like)) differs does_like in
         let same : ByEdges back (line_of like) = does_differs n (plane_at ms found.place) back (line_of like) found.has does_n does_like in
         record {
@@ -270,7 +270,7 @@ module _ (r a : Pair) (c o : PlanePoint) (flat : dot2 r a ≡ pos 0) (up : pos 1
         differs_sym m n d = record {
           matrix = sym d.matrix;
           times = negsuc 0 *ℤ d.times;
-          shift = pair_path (entry m.shift.x n.shift.x d.times a.x (λ i. (d.shift i).x)) (entry m.shift.y n.shift.y d.times a.y (λ i. (d.shift i).y));
+          translation = pair_path (entry m.translation.x n.translation.x d.times a.x (λ i. (d.translation i).x)) (entry m.translation.y n.translation.y d.times a.y (λ i. (d.translation i).y));
         }
           where
             entry : (s t k x : ℤ) → s -ℤ t ≡ k *ℤ x → t -ℤ s ≡ negsuc 0 *ℤ k *ℤ x
@@ -302,15 +302,15 @@ module _ (r a : Pair) (c o : PlanePoint) (flat : dot2 r a ≡ pos 0) (up : pos 1
         to : IsListedLine list op → ActsFrom S a c o op
         to h =
             let (m, in_set, does) = motion_of_op h.motion h.listed in
-            let (k, is) = h.shift in
-            let n : PlaneMotion = record { matrix = m.matrix; shift = record { x = m.shift.x +ℤ k *ℤ a.x; y = m.shift.y +ℤ k *ℤ a.y } } in
+            let (k, is) = h.translation in
+            let n : PlaneMotion = record { matrix = m.matrix; translation = record { x = m.translation.x +ℤ k *ℤ a.x; y = m.translation.y +ℤ k *ℤ a.y } } in
             let differs : DiffersAlong a m n =
-            record { matrix = refl; times = negsuc 0 *ℤ k; shift = pair_path (further m.shift.x k a.x) (further m.shift.y k a.y) } in
+            record { matrix = refl; times = negsuc 0 *ℤ k; translation = pair_path (further m.translation.x k a.x) (further m.translation.y k a.y) } in
             record {
               motion = n;
               in_set = group.shifts m n differs in_set;
               acts = acts_same a c o n (less a c o (rational_line (line_of h.motion)) differs.times) op (omega (arith, ints)) (sym h.along) (sym h.across)
-                  (whole op.shift.num op.shift.den h.motion.t k is) (acts_differs a c o m n (rational_line (line_of h.motion)) differs does);
+                  (whole op.translation.num op.translation.den h.motion.t k is) (acts_differs a c o m n (rational_line (line_of h.motion)) differs does);
             }
           where
             further : (s k x : ℤ) → s -ℤ (s +ℤ k *ℤ x) ≡ negsuc 0 *ℤ k *ℤ x
@@ -335,9 +335,9 @@ module _ (r a : Pair) (c o : PlanePoint) (flat : dot2 r a ≡ pos 0) (up : pos 1
               listed = (found.place, within, get_or_default list found.place like some_op within);
               along = along_once a c o once_a once_c above n lesser (rational_line (line_of like)) moved does;
               across = across_once a c o once_a once_c above n lesser (rational_line (line_of like)) moved does;
-              shift = (
+              translation = (
                 found.has.times,
-                whole op.shift.num op.shift.den like.t found.has.times
+                whole op.translation.num op.translation.den like.t found.has.times
                     (shift_once a c o once_a once_c above n lesser (rational_line (line_of like)) moved does),
               );
             }

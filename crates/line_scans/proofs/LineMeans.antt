@@ -100,14 +100,14 @@ module _ (g : Listing) (r : Pair) (flat : IsFlatModulo g) (ms : List Motion) (sc
   same_pair_motion : (m : PlaneMotion) (n : Motion) → IsMember g n → SameModulo g (plane_block m) n → SameInPlane g m (pair_motion n)
   same_pair_motion m n member same =
       let is = (same_by_plane g flat (plane_block m) n (block_matrix_flat m) (pos 0) refl member).0 same in
-      record { matrix = λ i. record { first = first_two (is.matrix i).first; second = first_two (is.matrix i).second }; shift = is.shift }
+      record { matrix = λ i. record { first = first_two (is.matrix i).first; second = first_two (is.matrix i).second }; translation = is.translation }
 
   same_block : (m : PlaneMotion) (n : Motion) → IsMember g n → SameInPlane g m (pair_motion n) → SameModulo g (plane_block m) n
   same_block m n member same =
       (same_by_plane g flat (plane_block m) n (block_matrix_flat m) (pos 0) refl member).1
       (record {
-        matrix = ap (λ w. (plane_block (record { matrix = w; shift = m.shift })).matrix) same.matrix ∙ block_of_pair n (flat.matrices n member);
-        shift = same.shift;
+        matrix = ap (λ w. (plane_block (record { matrix = w; translation = m.translation })).matrix) same.matrix ∙ block_of_pair n (flat.matrices n member);
+        translation = same.translation;
       })
 
   pub are_scanning : AreLineScanning g r (map pair_motion ms)

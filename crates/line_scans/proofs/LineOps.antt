@@ -31,7 +31,7 @@ use Rattle.line_scans.proofs.PlaneBridges.{IsFlatModulo, block_matrix_flat, dot_
 
 -- 2 UNIT (W o + w - o) for the point k steps along tau
 abbrev pub line_drift : PlaneMotion → Pair → ℤ → Pair
-line_drift m tau k = plus2 (times2 k (minus2 (image2 m.matrix tau) tau)) (times2 (pos 2 *ℤ UNIT) m.shift)
+line_drift m tau k = plus2 (times2 k (minus2 (image2 m.matrix tau) tau)) (times2 (pos 2 *ℤ UNIT) m.translation)
 
 pub image_block : (m : PlaneMotion) (v : Pair) → image (plane_block m).matrix (in_space v) ≡ in_space (image2 m.matrix v)
 unfolding dot
@@ -45,8 +45,8 @@ image_block m v =
 drift_block : (m : PlaneMotion) (tau : Pair) (k : ℤ) → drift (plane_block m) (in_space tau) k ≡ in_space (line_drift m tau k)
 unfolding plus multiple
 drift_block m tau k =
-    ap (λ v. plus (multiple k (minus v (in_space tau))) (multiple (pos 2 *ℤ UNIT) (in_space m.shift))) (image_block m tau)
-    ∙ ap (λ v. plus (multiple k v) (multiple (pos 2 *ℤ UNIT) (in_space m.shift))) (flat_minus (image2 m.matrix tau) tau)
+    ap (λ v. plus (multiple k (minus v (in_space tau))) (multiple (pos 2 *ℤ UNIT) (in_space m.translation))) (image_block m tau)
+    ∙ ap (λ v. plus (multiple k v) (multiple (pos 2 *ℤ UNIT) (in_space m.translation))) (flat_minus (image2 m.matrix tau) tau)
     ∙ vector_path refl refl (none k)
   where
     none : (k : ℤ) → k *ℤ pos 0 +ℤ pos 2 *ℤ UNIT *ℤ pos 0 ≡ pos 0
@@ -93,18 +93,18 @@ module _ (r a tau : Pair) (d : ℤ) (c : PlanePoint) (f : Basis) (f_a : f.a ≡ 
   drifts : line_drift m tau k ≡ times2 op.t a
   drifts =
       from_in_space (line_drift m tau k) (times2 op.t a)
-      (sym (drift_block m tau k) ∙ ap (λ v. drift (plane_block m) v k) (sym f_tau) ∙ is.shift ∙ ap (multiple op.t) f_a ∙ multiple_in_space op.t a)
+      (sym (drift_block m tau k) ∙ ap (λ v. drift (plane_block m) v k) (sym f_tau) ∙ is.translation ∙ ap (multiple op.t) f_a ∙ multiple_in_space op.t a)
 
   -- from (s/d) tau, at a height s that is k steps above the origin
   pub acts_at : (s : Height) → SameFraction s (height_in_steps d k) → ActsAlong a c (point_at2 d s (in_edges2 tau)) m (rational_line (line_of op))
   acts_at s steps = record {
     along = along;
     across = mean;
-    shift = ap (λ v. times2 edge (minus2 (plus2 (times2 UNIT v) (times2 (s.den *ℤ d *ℤ UNIT) m.shift)) (times2 UNIT (times2 (s.num *ℤ UNIT) tau))))
+    translation = ap (λ v. times2 edge (minus2 (plus2 (times2 UNIT v) (times2 (s.den *ℤ d *ℤ UNIT) m.translation)) (times2 UNIT (times2 (s.num *ℤ UNIT) tau))))
         (image_times m.matrix (s.num *ℤ UNIT) tau)
         ∙ pair_path
-        (special_entry s.num s.den d k op.t a.x (image2 m.matrix tau).x tau.x m.shift.x steps (λ i. (drifts i).x))
-        (special_entry s.num s.den d k op.t a.y (image2 m.matrix tau).y tau.y m.shift.y steps (λ i. (drifts i).y));
+        (special_entry s.num s.den d k op.t a.x (image2 m.matrix tau).x tau.x m.translation.x steps (λ i. (drifts i).x))
+        (special_entry s.num s.den d k op.t a.y (image2 m.matrix tau).y tau.y m.translation.y steps (λ i. (drifts i).y));
   }
 
   -- from (s/d) c', where the motion leaves c' as it is, and the drift is that from the origin
@@ -114,11 +114,11 @@ module _ (r a tau : Pair) (d : ℤ) (c : PlanePoint) (f : Basis) (f_a : f.a ≡ 
       record {
         along = along;
         across = mean;
-        shift = ap (λ v. times2 edge (minus2 (plus2 (times2 UNIT v) (times2 (s.den *ℤ d *ℤ c.over) m.shift)) (times2 UNIT (times2 (s.num *ℤ UNIT) c.at))))
+        translation = ap (λ v. times2 edge (minus2 (plus2 (times2 UNIT v) (times2 (s.den *ℤ d *ℤ c.over) m.translation)) (times2 UNIT (times2 (s.num *ℤ UNIT) c.at))))
             (image_times m.matrix (s.num *ℤ UNIT) c.at ∙ ap (times2 (s.num *ℤ UNIT)) stays)
             ∙ pair_path
-            (general_entry s.num s.den d c.over op.t a.x (image2 m.matrix tau).x tau.x c.at.x m.shift.x (λ i. (at_origin i).x))
-            (general_entry s.num s.den d c.over op.t a.y (image2 m.matrix tau).y tau.y c.at.y m.shift.y (λ i. (at_origin i).y));
+            (general_entry s.num s.den d c.over op.t a.x (image2 m.matrix tau).x tau.x c.at.x m.translation.x (λ i. (at_origin i).x))
+            (general_entry s.num s.den d c.over op.t a.y (image2 m.matrix tau).y tau.y c.at.y m.translation.y (λ i. (at_origin i).y));
       }
 
 -- ---- there is one at each member that maps the line to itself
@@ -171,18 +171,18 @@ module _ (g : Listing) (r a tau : Pair) (d : ℤ) (group : IsGroup g) (coprime :
   drift_in : (m : PlaneMotion) (k : ℤ) → IsInPlaneLattice g (image2 m.matrix tau) → IsInPlaneLattice g (line_drift m tau k)
   unfolding plus
   drift_in m k turned =
-      lattice-plus g (in_space (times2 k (minus2 (image2 m.matrix tau) tau))) (in_space (times2 (pos 2 *ℤ UNIT) m.shift))
+      lattice-plus g (in_space (times2 k (minus2 (image2 m.matrix tau) tau))) (in_space (times2 (pos 2 *ℤ UNIT) m.translation))
       (subst (IsInLattice g) (multiple_in_space k (minus2 (image2 m.matrix tau) tau))
       (lattice-multiple g k (in_space (minus2 (image2 m.matrix tau) tau))
       (subst (IsInLattice g) (flat_minus (image2 m.matrix tau) tau) (lattice-minus g (in_space (image2 m.matrix tau)) (in_space tau) turned tau_in))))
-      (edges_in m.shift)
+      (edges_in m.translation)
 
   dot_drift : (m : PlaneMotion) (k e : ℤ) → dot2 r (image2 m.matrix tau) ≡ e *ℤ dot2 r tau
-      → dot2 r (line_drift m tau k) ≡ k *ℤ (e *ℤ d -ℤ d) +ℤ pos 2 *ℤ UNIT *ℤ dot2 r m.shift
+      → dot2 r (line_drift m tau k) ≡ k *ℤ (e *ℤ d -ℤ d) +ℤ pos 2 *ℤ UNIT *ℤ dot2 r m.translation
   dot_drift m k e turned =
-      dot_drift_entry r.x r.y k (image2 m.matrix tau).x (image2 m.matrix tau).y tau.x tau.y m.shift.x m.shift.y
-      ∙ ap (λ y. k *ℤ (y -ℤ dot2 r tau) +ℤ pos 2 *ℤ UNIT *ℤ dot2 r m.shift) turned
-      ∙ ap (λ x. k *ℤ (e *ℤ x -ℤ x) +ℤ pos 2 *ℤ UNIT *ℤ dot2 r m.shift) tau_gives
+      dot_drift_entry r.x r.y k (image2 m.matrix tau).x (image2 m.matrix tau).y tau.x tau.y m.translation.x m.translation.y
+      ∙ ap (λ y. k *ℤ (y -ℤ dot2 r tau) +ℤ pos 2 *ℤ UNIT *ℤ dot2 r m.translation) turned
+      ∙ ap (λ x. k *ℤ (e *ℤ x -ℤ x) +ℤ pos 2 *ℤ UNIT *ℤ dot2 r m.translation) tau_gives
 
   module _ (f : Basis) (f_a : f.a ≡ in_space a) (f_tau : f.tau ≡ in_space tau) where
     pub some_op : (s : Height) → IsHeight s → (k : ℤ) → SameFraction s (height_in_steps d k) → (m : PlaneMotion) → InLineStabiliser g r s m
@@ -193,7 +193,7 @@ module _ (g : Listing) (r a tau : Pair) (d : ℤ) (group : IsGroup g) (coprime :
         along = ap (image (plane_block m).matrix) f_a ∙ image_block m a ∙ ap in_space sign.1 ∙ sym (multiple_in_space (sign_value sign.0) a)
             ∙ ap (multiple (sign_value sign.0)) (sym f_a);
         across = follows.row;
-        shift = ap (λ v. drift (plane_block m) v k) f_tau ∙ drift_block m tau k ∙ ap in_space shift.1 ∙ sym (multiple_in_space shift.0 a)
+        translation = ap (λ v. drift (plane_block m) v k) f_tau ∙ drift_block m tau k ∙ ap in_space shift.1 ∙ sym (multiple_in_space shift.0 a)
             ∙ ap (multiple shift.0) (sym f_a);
       },
     )
@@ -209,8 +209,8 @@ module _ (g : Listing) (r a tau : Pair) (d : ℤ) (group : IsGroup g) (coprime :
 
         level : dot2 r (line_drift m tau k) ≡ pos 0
         level =
-            level_entry s.num s.den d k (sign_value follows.sign) (dot2 r m.shift) (dot2 r (line_drift m tau k)) high steps
-            (ap (λ w. sign_value follows.sign *ℤ s.num *ℤ UNIT +ℤ s.den *ℤ w) (sym (dot_in_space r (in_space m.shift))) ∙ follows.shift)
+            level_entry s.num s.den d k (sign_value follows.sign) (dot2 r m.translation) (dot2 r (line_drift m tau k)) high steps
+            (ap (λ w. sign_value follows.sign *ℤ s.num *ℤ UNIT +ℤ s.den *ℤ w) (sym (dot_in_space r (in_space m.translation))) ∙ follows.translation)
             (dot_drift m k (sign_value follows.sign) (dot_turned g r a group coprime flat along_lines m both.0 follows.sign follows.row tau))
 
         shift : (t : ℤ) × (line_drift m tau k ≡ times2 t a)

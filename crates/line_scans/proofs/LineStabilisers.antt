@@ -37,7 +37,7 @@ use Rattle.line_scans.proofs.PlaneBridges.{IsFlatModulo, block_is, block_member,
 pub record Follows (r : Vector) (s : Height) (m : Motion) : Type 0 where
   pub sign : Sign
   pub row : row_times r m.matrix ≡ multiple (sign_value sign) r
-  pub shift : sign_value sign *ℤ s.num *ℤ UNIT +ℤ s.den *ℤ dot r m.shift ≡ s.num *ℤ UNIT
+  pub translation : sign_value sign *ℤ s.num *ℤ UNIT +ℤ s.den *ℤ dot r m.translation ≡ s.num *ℤ UNIT
 
 pub sign_is_sign : (e : Sign) → IsSign (sign_value e)
 sign_is_sign Plus = inl refl
@@ -65,13 +65,13 @@ turned_back n d w e =
     (given (num (negsuc 0)) (num (negsuc 0) ⊗ var 0 ⊗ num UNIT ⊕ var 1 ⊗ var 2) (var 0 ⊗ num UNIT) ∷ []) tt (e, tt)
 
 from_row : (r : Vector) (s : Height) (m : Motion) → KeepsRow r m ⊎ TurnsRow r s m → Follows r s m
-from_row r s m (inl k) = record { sign = Plus; row = k.0 ∙ sym (multiple-one r); shift = kept s.num s.den (dot r m.shift) k.1 }
-from_row r s m (inr t) = record { sign = Minus; row = t.0; shift = turned s.num s.den (dot r m.shift) t.1 }
+from_row r s m (inl k) = record { sign = Plus; row = k.0 ∙ sym (multiple-one r); translation = kept s.num s.den (dot r m.translation) k.1 }
+from_row r s m (inr t) = record { sign = Minus; row = t.0; translation = turned s.num s.den (dot r m.translation) t.1 }
 
 to_row : (r : Vector) (s : Height) (m : Motion) → IsHeight s → (e : Sign) → row_times r m.matrix ≡ multiple (sign_value e) r
-    → sign_value e *ℤ s.num *ℤ UNIT +ℤ s.den *ℤ dot r m.shift ≡ s.num *ℤ UNIT → KeepsRow r m ⊎ TurnsRow r s m
-to_row r s m high Plus row shift = inl (row ∙ multiple-one r, kept_back s.num s.den (dot r m.shift) high shift)
-to_row r s m high Minus row shift = inr (row, turned_back s.num s.den (dot r m.shift) shift)
+    → sign_value e *ℤ s.num *ℤ UNIT +ℤ s.den *ℤ dot r m.translation ≡ s.num *ℤ UNIT → KeepsRow r m ⊎ TurnsRow r s m
+to_row r s m high Plus row shift = inl (row ∙ multiple-one r, kept_back s.num s.den (dot r m.translation) high shift)
+to_row r s m high Minus row shift = inr (row, turned_back s.num s.den (dot r m.translation) shift)
 
 product_shift : (e f n d v w : ℤ) → f *ℤ n *ℤ UNIT +ℤ d *ℤ v ≡ n *ℤ UNIT → e *ℤ n *ℤ UNIT +ℤ d *ℤ w ≡ n *ℤ UNIT
     → e *ℤ f *ℤ n *ℤ UNIT +ℤ d *ℤ (e *ℤ v +ℤ w) ≡ n *ℤ UNIT
@@ -95,8 +95,8 @@ follows_product : (r : Vector) (s : Height) (m n : Motion) → Follows r s m →
 follows_product r s m n p q = record {
   sign = sign_product q.sign p.sign;
   row = row_times-followed_by r m n (sign_value p.sign) (sign_value q.sign) p.row q.row ∙ ap (λ e. multiple e r) signs;
-  shift = (λ i. sym signs i *ℤ s.num *ℤ UNIT +ℤ s.den *ℤ dot-followed_by r m n (sign_value q.sign) q.row i)
-      ∙ product_shift (sign_value q.sign) (sign_value p.sign) s.num s.den (dot r m.shift) (dot r n.shift) p.shift q.shift;
+  translation = (λ i. sym signs i *ℤ s.num *ℤ UNIT +ℤ s.den *ℤ dot-followed_by r m n (sign_value q.sign) q.row i)
+      ∙ product_shift (sign_value q.sign) (sign_value p.sign) s.num s.den (dot r m.translation) (dot r n.translation) p.translation q.translation;
 }
   where
     signs : sign_value q.sign *ℤ sign_value p.sign ≡ sign_value (sign_product q.sign p.sign)
@@ -114,11 +114,11 @@ follows_inverse : (r : Vector) (s : Height) (m n : Motion) → followed_by m n �
 follows_inverse r s m n after before p =
     let e = sign_value p.sign in
     let row = inverse_row r m n p.sign before p.row in
-    let none : e *ℤ dot r m.shift +ℤ dot r n.shift ≡ pos 0 = sym (dot-followed_by r m n e row) ∙ ap (λ (k : Motion). dot r k.shift) after ∙ dot-origin r in
+    let none : e *ℤ dot r m.translation +ℤ dot r n.translation ≡ pos 0 = sym (dot-followed_by r m n e row) ∙ ap (λ (k : Motion). dot r k.translation) after ∙ dot-origin r in
     record {
       sign = p.sign;
       row = row;
-      shift = inverse_shift e s.num s.den (dot r m.shift) (dot r n.shift) (sign_squared p.sign) p.shift none;
+      translation = inverse_shift e s.num s.den (dot r m.translation) (dot r n.translation) (sign_squared p.sign) p.translation none;
     }
 
 -- ---- in a plane group
@@ -133,7 +133,7 @@ module _ (g : Listing) (r a : Pair) (group : IsGroup g) (coprime : IsCoprime (in
       let by_row = stabiliser_by_row g row s (plane_block m) group coprime high in
       let member = block_member g flat m in (
         λ is. let rows = by_row.0 (by_line.1 is) in (is.0, from_row row s (plane_block m) rows.1),
-        λ is. by_line.0 (by_row.1 (member.0 is.0, to_row row s (plane_block m) high is.1.sign is.1.row is.1.shift)),
+        λ is. by_line.0 (by_row.1 (member.0 is.0, to_row row s (plane_block m) high is.1.sign is.1.row is.1.translation)),
       )
 
   pub identity_in : (s : Height) → IsHeight s → InLineStabiliser g r s plane_identity
@@ -165,10 +165,10 @@ module _ (g : Listing) (r a : Pair) (group : IsGroup g) (coprime : IsCoprime (in
   inverse_of m member =
       let (n, member', after, before) = group.inverses (plane_block m) ((block_member g flat m).0 member) in
       let at = flat.matrices n member' in
-      let sum : n.matrix.third.x *ℤ m.shift.x +ℤ n.matrix.third.y *ℤ m.shift.y +ℤ n.matrix.third.z *ℤ pos 0 +ℤ n.shift.z ≡ pos 0 =
-      ap (λ (k : Motion). k.shift.z) after in
+      let sum : n.matrix.third.x *ℤ m.translation.x +ℤ n.matrix.third.y *ℤ m.translation.y +ℤ n.matrix.third.z *ℤ pos 0 +ℤ n.translation.z ≡ pos 0 =
+      ap (λ (k : Motion). k.translation.z) after in
       let is : plane_block (pair_motion n) ≡ n =
-      block_is n at (only n.matrix.third.x n.matrix.third.y n.matrix.third.z m.shift.x m.shift.y n.shift.z at.row_x at.row_y sum) in (
+      block_is n at (only n.matrix.third.x n.matrix.third.y n.matrix.third.z m.translation.x m.translation.y n.translation.z at.row_x at.row_y sum) in (
         pair_motion n,
         pair_member g flat n member',
         ap pair_motion (sym (plane_block_product m (pair_motion n)) ∙ ap (followed_by (plane_block m)) is ∙ after),
@@ -192,25 +192,25 @@ module _ (g : Listing) (r a : Pair) (group : IsGroup g) (coprime : IsCoprime (in
   -- a whole multiple of a is a vector of the planes (h k 0)
   pub differs_in_plane : (m n : PlaneMotion) → DiffersAlong a m n → DiffersInPlane g row (plane_block m) (plane_block n)
   differs_in_plane m n d = record {
-    matrix = ap (λ w. (plane_block (record { matrix = w; shift = m.shift })).matrix) d.matrix;
-    shift = (
+    matrix = ap (λ w. (plane_block (record { matrix = w; translation = m.translation })).matrix) d.matrix;
+    translation = (
       subst (IsInLattice g) (sym shift) (along.inside d.times),
       ap (dot row) shift ∙ dot_in_space r (in_space (times2 d.times a)) ∙ along.along d.times,
     );
   }
     where
-      shift : minus (in_space m.shift) (in_space n.shift) ≡ in_space (times2 d.times a)
-      shift = flat_minus m.shift n.shift ∙ ap in_space d.shift
+      shift : minus (in_space m.translation) (in_space n.translation) ≡ in_space (times2 d.times a)
+      shift = flat_minus m.translation n.translation ∙ ap in_space d.translation
 
   pub differs_along : (m n : PlaneMotion) → DiffersInPlane g row (plane_block m) (plane_block n) → DiffersAlong a m n
   differs_along m n d =
-      let is = flat_minus m.shift n.shift in
-      let (k, e) = along.only (minus2 m.shift n.shift) (subst (IsInLattice g) is d.shift.0)
-      (sym (dot_in_space r (in_space (minus2 m.shift n.shift))) ∙ ap (dot row) (sym is) ∙ d.shift.1) in
+      let is = flat_minus m.translation n.translation in
+      let (k, e) = along.only (minus2 m.translation n.translation) (subst (IsInLattice g) is d.translation.0)
+      (sym (dot_in_space r (in_space (minus2 m.translation n.translation))) ∙ ap (dot row) (sym is) ∙ d.translation.1) in
       record {
         matrix = λ i. record { first = first_two (d.matrix i).first; second = first_two (d.matrix i).second };
         times = k;
-        shift = e;
+        translation = e;
       }
 
   pub differs_in : (s : Height) (m n : PlaneMotion) → DiffersAlong a m n → InLineStabiliser g r s m → InLineStabiliser g r s n
@@ -219,24 +219,24 @@ module _ (g : Listing) (r a : Pair) (group : IsGroup g) (coprime : IsCoprime (in
       (differs_stabiliser g row s (plane_block m) (plane_block n) (differs_in_plane m n d) ((stabiliser_by_line g flat r s m).1 p))
 
   -- the translations are multiples of a
-  pub plain_in : (s : Height) → IsHeight s → (m : PlaneMotion) → InLineStabiliser g r s m → m.matrix ≡ unit2 → (k : ℤ) × (m.shift ≡ times2 k a)
-  plain_in s high m p unit = by follows.1.sign follows.1.row follows.1.shift
+  pub plain_in : (s : Height) → IsHeight s → (m : PlaneMotion) → InLineStabiliser g r s m → m.matrix ≡ unit2 → (k : ℤ) × (m.translation ≡ times2 k a)
+  plain_in s high m p unit = by follows.1.sign follows.1.row follows.1.translation
     where
       follows : IsPlaneMember g m × Follows row s (plane_block m)
       follows = (stabiliser_follows s m high).0 p
 
-      is : plane_block m ≡ translation (in_space m.shift)
-      is = ap (λ w. plane_block (record { matrix = w; shift = m.shift })) unit
+      is : plane_block m ≡ translation (in_space m.translation)
+      is = ap (λ w. plane_block (record { matrix = w; translation = m.translation })) unit
 
-      inside : IsInPlaneLattice g m.shift
-      inside = member_translation g group (in_space m.shift) (subst (IsMember g) is ((block_member g flat m).0 p.0))
+      inside : IsInPlaneLattice g m.translation
+      inside = member_translation g group (in_space m.translation) (subst (IsMember g) is ((block_member g flat m).0 p.0))
 
       plain_row : row_times row (plane_block m).matrix ≡ row
       plain_row = ap (λ (k : Motion). row_times row k.matrix) is ∙ row_times-unit row
 
       by : (e : Sign) → row_times row (plane_block m).matrix ≡ multiple (sign_value e) row
-          → sign_value e *ℤ s.num *ℤ UNIT +ℤ s.den *ℤ dot row (in_space m.shift) ≡ s.num *ℤ UNIT → (k : ℤ) × (m.shift ≡ times2 k a)
-      by Plus at shift = along.only m.shift inside (sym (dot_in_space r (in_space m.shift)) ∙ kept_back s.num s.den (dot row (in_space m.shift)) high shift)
+          → sign_value e *ℤ s.num *ℤ UNIT +ℤ s.den *ℤ dot row (in_space m.translation) ≡ s.num *ℤ UNIT → (k : ℤ) × (m.translation ≡ times2 k a)
+      by Plus at shift = along.only m.translation inside (sym (dot_in_space r (in_space m.translation)) ∙ kept_back s.num s.den (dot row (in_space m.translation)) high shift)
       by Minus at shift = absurd (not_opposite row coprime (sym plain_row ∙ at))
 
   pub stabiliser_group : (s : Height) → IsHeight s → IsLineGroup a (InLineStabiliser g r s)

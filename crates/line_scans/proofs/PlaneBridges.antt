@@ -50,7 +50,7 @@ pub record IsFlatMatrix (w : Matrix) : Type 0 where
 abbrev pub pair_motion : Motion → PlaneMotion
 pair_motion m = record {
   matrix = record { first = first_two m.matrix.first; second = first_two m.matrix.second };
-  shift = first_two m.shift;
+  translation = first_two m.translation;
 }
 
 pub block_matrix_flat : (m : PlaneMotion) → IsFlatMatrix (plane_block m).matrix
@@ -61,8 +61,8 @@ block_of_pair m flat =
     matrix_path (vector_path refl refl (sym flat.column_x)) (vector_path refl refl (sym flat.column_y))
     (vector_path (sym flat.row_x) (sym flat.row_y) (sym flat.row_z))
 
-pub block_is : (m : Motion) → IsFlatMatrix m.matrix → m.shift.z ≡ pos 0 → plane_block (pair_motion m) ≡ m
-block_is m flat none = λ i. record { matrix = block_of_pair m flat i; shift = record { x = m.shift.x; y = m.shift.y; z = sym none i } }
+pub block_is : (m : Motion) → IsFlatMatrix m.matrix → m.translation.z ≡ pos 0 → plane_block (pair_motion m) ≡ m
+block_is m flat none = λ i. record { matrix = block_of_pair m flat i; translation = record { x = m.translation.x; y = m.translation.y; z = sym none i } }
 
 -- ---- planes and lines
 
@@ -80,7 +80,7 @@ image_below m v flat =
 pub moved_below : (m : Motion) (p : Point) → IsFlatMatrix m.matrix → below (moved m p) ≡ moved2 (pair_motion m) (below p)
 unfolding plus multiple
 moved_below m p flat = λ i. record {
-  at = plus2 (times2 UNIT (image_below m p.at flat i)) (times2 p.over (first_two m.shift));
+  at = plus2 (times2 UNIT (image_below m p.at flat i)) (times2 p.over (first_two m.translation));
   over = UNIT *ℤ p.over;
 }
 
@@ -100,7 +100,7 @@ plane_by_line r s m flat = (
 -- a plane group, however it is listed
 pub record IsFlatModulo (g : Listing) : Type 0 where
   pub matrices : (m : Motion) → IsMember g m → IsFlatMatrix m.matrix
-  pub shifts : (m : Motion) → IsMember g m → (k : ℤ) × (m.shift.z ≡ k *ℤ UNIT)
+  pub shifts : (m : Motion) → IsMember g m → (k : ℤ) × (m.translation.z ≡ k *ℤ UNIT)
   pub heights : (t : Vector) → IsInLattice g t → (k : ℤ) × (t.z ≡ k *ℤ UNIT)
 
 -- the edge of the cell along the third axis
@@ -143,18 +143,18 @@ minus_whole v w k l a b = omega (arith, ints)
 
 module _ (g : Listing) (flat : IsFlatModulo g) where
   -- sameness modulo L of members, as pairs
-  pub same_by_plane : (m of : Motion) → IsFlatMatrix m.matrix → (k : ℤ) → m.shift.z ≡ k *ℤ UNIT → IsMember g of
+  pub same_by_plane : (m of : Motion) → IsFlatMatrix m.matrix → (k : ℤ) → m.translation.z ≡ k *ℤ UNIT → IsMember g of
       → SameModulo g m of ↔ IsSameInPlane g (pair_motion m) of
   same_by_plane m of flat_m k whole member =
       let (l, whole') = flat.shifts of member in
-      let by = lattice_by_plane g (minus m.shift of.shift) (k -ℤ l) (minus_whole m.shift of.shift k l whole whole') in (
+      let by = lattice_by_plane g (minus m.translation of.translation) (k -ℤ l) (minus_whole m.translation of.translation k l whole whole') in (
         λ same. record {
           matrix = block_of_pair m flat_m ∙ same.matrix;
-          shift = subst (λ v. IsInPlaneLattice g v) (minus_below m.shift of.shift) (by.0 same.shift);
+          translation = subst (λ v. IsInPlaneLattice g v) (minus_below m.translation of.translation) (by.0 same.translation);
         },
         λ same. record {
           matrix = sym (block_of_pair m flat_m) ∙ same.matrix;
-          shift = by.1 (subst (λ v. IsInPlaneLattice g v) (sym (minus_below m.shift of.shift)) same.shift);
+          translation = by.1 (subst (λ v. IsInPlaneLattice g v) (sym (minus_below m.translation of.translation)) same.translation);
         },
       )
 
@@ -216,11 +216,11 @@ module _ (g : Listing) (flat : IsFlatGroup g) where
   own_heights : (t : Vector) → IsInLattice g t → (k : ℤ) × (t.z ≡ k *ℤ UNIT)
   own_heights t is = let d = flat.heights t is in (d.times, d.is)
 
-  own_shifts : (m : Motion) → IsMember g m → (k : ℤ) × (m.shift.z ≡ k *ℤ UNIT)
+  own_shifts : (m : Motion) → IsMember g m → (k : ℤ) × (m.translation.z ≡ k *ℤ UNIT)
   unfolding plus multiple
   own_shifts m member =
-      let (k, is) = own_heights (minus m.shift member.of.shift) member.same.shift in
-      let none = (flat.operations member.of member.listed).shift in
+      let (k, is) = own_heights (minus m.translation member.of.translation) member.same.translation in
+      let none = (flat.operations member.of member.listed).translation in
       (k, omega (arith, ints, is, none))
 
   own : IsFlatModulo g

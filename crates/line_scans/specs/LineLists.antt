@@ -22,7 +22,7 @@ pub record ExactlyOne (ms : List PlaneMotion) (P : PlaneMotion → Type 0) : Typ
 pub record DiffersAlong (a : Pair) (m n : PlaneMotion) : Type 0 where
   pub matrix : m.matrix ≡ n.matrix
   pub times : ℤ
-  pub shift : minus2 m.shift n.shift ≡ times2 times a
+  pub translation : minus2 m.translation n.translation ≡ times2 times a
 
 -- at home: the translation is x a + k tau with 0 <= x < 1 and rational k
 pub record IsAtLineHome (a tau : Pair) (m : PlaneMotion) : Type 0 where
@@ -30,7 +30,7 @@ pub record IsAtLineHome (a tau : Pair) (m : PlaneMotion) : Type 0 where
   pub positive : pos 1 ≤ℤ over
   pub x : ℤ
   pub k : ℤ
-  pub is : plus2 (times2 x a) (times2 k tau) ≡ times2 over m.shift
+  pub is : plus2 (times2 x a) (times2 k tau) ≡ times2 over m.translation
   pub from : pos 0 ≤ℤ x
   pub below : x <ℤ over
 
@@ -52,7 +52,7 @@ pub record IsLineList (g : Listing) (a tau : Pair) (S : PlaneMotion → Type 0) 
 -- one matrix, and translations that differ by a member of L2
 pub record SameInPlane (g : Listing) (m n : PlaneMotion) : Type 0 where
   pub matrix : m.matrix ≡ n.matrix
-  pub shift : IsInPlaneLattice g (minus2 m.shift n.shift)
+  pub translation : IsInPlaneLattice g (minus2 m.translation n.translation)
 
 -- the scanning operations: the members that keep the orientation, each once modulo L2
 pub record AreLineScanning (g : Listing) (r : Pair) (ms : List PlaneMotion) : Type 0 where

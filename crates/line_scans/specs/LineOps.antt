@@ -19,7 +19,7 @@ use Rattle.line_scans.specs.declared.scan.LineSection.{LineSection}
 pub record IsLineOp (r : Vector) (f : Basis) (k : ℤ) (m : Motion) (op : LineOp) : Type 0 where
   pub along : image m.matrix f.a ≡ multiple (sign_value op.f) f.a
   pub across : row_times r m.matrix ≡ multiple (sign_value op.e) r
-  pub shift : drift m f.tau k ≡ multiple op.t f.a
+  pub translation : drift m f.tau k ≡ multiple op.t f.a
 
 -- there is such a motion along the line
 abbrev pub HasLineOp : Vector → Basis → ℤ → Motion → Type 0

@@ -38,7 +38,7 @@ point_at2 d s v = record { at = times2 (s.num *ℤ UNIT) v.at; over = s.den *ℤ
 pub record ActsAlong (a : Pair) (c o : PlanePoint) (m : PlaneMotion) (op : RationalLine) : Type 0 where
   pub along : image2 m.matrix a ≡ times2 (sign_value op.along) a
   pub across : image2 m.matrix c.at ≡ times2 (sign_value op.across) c.at
-  pub shift : times2 op.shift.den (minus2 (moved2 m o).at (times2 UNIT o.at)) ≡ times2 (o.over *ℤ op.shift.num) a
+  pub translation : times2 op.translation.den (minus2 (moved2 m o).at (times2 UNIT o.at)) ≡ times2 (o.over *ℤ op.translation.num) a
 
 -- some motion of the set is (f,e,t), seen from the point o
 pub record ActsFrom (S : PlaneMotion → Type 0) (a : Pair) (c o : PlanePoint) (op : RationalLine) : Type 0 where

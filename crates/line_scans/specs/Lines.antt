@@ -20,7 +20,7 @@ IsPlanePoint p = pos 1 ≤ℤ p.over
 -- where a motion takes a point: UNIT W (X,Y) + n w over UNIT n
 abbrev pub moved2 : PlaneMotion → PlanePoint → PlanePoint
 moved2 m p = record {
-  at = plus2 (times2 UNIT (image2 m.matrix p.at)) (times2 p.over m.shift);
+  at = plus2 (times2 UNIT (image2 m.matrix p.at)) (times2 p.over m.translation);
   over = UNIT *ℤ p.over;
 }
 
@@ -36,7 +36,7 @@ KeepsLine r s m = (p : PlanePoint) → IsPlanePoint p → IsOnLine r s p → IsO
 -- translations that differ by a member of L2
 pub record IsSameInPlane (g : Listing) (m : PlaneMotion) (of : Motion) : Type 0 where
   pub matrix : (plane_block m).matrix ≡ of.matrix
-  pub shift : IsInPlaneLattice g (minus2 m.shift (first_two of.shift))
+  pub translation : IsInPlaneLattice g (minus2 m.translation (first_two of.translation))
 
 -- the group G2 of the plane: the motions that are the same as a listed operation modulo L2
 pub record IsPlaneMember (g : Listing) (m : PlaneMotion) : Type 0 where

@@ -84,14 +84,15 @@ impl Viewpoint {
     }
 
     /// An entry of it.
-    fn drift_along(&self, turned: Part, tau: Part, shift: Part) -> Part
+    fn drift_along(&self, turned: Part, tau: Part, translation: Part) -> Part
         requires turned { IsWithin largest_turned turned.0 }
         requires tau { IsWithin largest_entry tau.0 }
-        requires shift { IsWithin (2 ^ 40) shift.0 }
-        ensures is { result.0 ≡ self.now.step *ℤ (turned.0 -ℤ tau.0) +ℤ pos 2 *ℤ UNIT *ℤ shift.0 }
+        requires translation { IsWithin (2 ^ 40) translation.0 }
+        ensures is { result.0
+            ≡ self.now.step *ℤ (turned.0 -ℤ tau.0) +ℤ pos 2 *ℤ UNIT *ℤ translation.0 }
         ensures small { IsWithin (2 ^ 52) result.0 }
     {
-        Part(self.step * (turned.0 - tau.0) + EDGE * shift.0)
+        Part(self.step * (turned.0 - tau.0) + EDGE * translation.0)
     }
 }
 

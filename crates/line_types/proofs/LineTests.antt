@@ -40,7 +40,7 @@ module _ (L : Line) where
   line_form_tests = record {
     entries = L.entries;
     is_one = λ m. L.same m L.one;
-    is_home = λ m. int_eq (reduced_parts (L.shift m)) (L.shift m);
+    is_home = λ m. int_eq (reduced_parts (L.translation m)) (L.translation m);
   }
 
   abbrev is_one_within : ℤ → Bool
@@ -83,10 +83,10 @@ module _ (L : Line) where
       keeps_is = λ m e. keeps L laws m;
     }
 
-    home_is : (m : L.Operation) → int_eq (reduced_parts (L.shift m)) (L.shift m) ≡ true → (pos 0 ≤ℤ L.shift m) × (L.shift m <ℤ UNIT)
+    home_is : (m : L.Operation) → int_eq (reduced_parts (L.translation m)) (L.translation m) ≡ true → (pos 0 ≤ℤ L.translation m) × (L.translation m <ℤ UNIT)
     home_is m e =
-        let is = (Decides-int_eq (reduced_parts (L.shift m)) (L.shift m)).0 e in
-        let h = IsReduced-reduced_parts (L.shift m) (reduced_parts (L.shift m)) refl in
+        let is = (Decides-int_eq (reduced_parts (L.translation m)) (L.translation m)).0 e in
+        let h = IsReduced-reduced_parts (L.translation m) (reduced_parts (L.translation m)) refl in
         subst (λ s. (pos 0 ≤ℤ s) × (s <ℤ UNIT)) is (h.least, h.below)
 
     line_form_laws : FormLaws K (form_of L) line_form_tests
@@ -134,7 +134,7 @@ module _ (L : Line) where
           order = ordered;
           matrices = matrices_differ t.ops once;
           entries = small;
-          small = λ i d l. laws.small (get_or t.ops i d) (small i d l) (below_an_edge (L.shift (get_or t.ops i d)) (ordered.home i d l));
+          small = λ i d l. laws.small (get_or t.ops i d) (small i d l) (below_an_edge (L.translation (get_or t.ops i d)) (ordered.home i d l));
           keeps = λ m h. keeps L laws m;
           few = leb-true (length t.ops) largest_order few;
         }

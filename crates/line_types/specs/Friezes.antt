@@ -24,12 +24,12 @@ frieze_line = record {
   then = frieze_followed_by;
   one = frieze_identity;
   along = λ m. m.along;
-  shift = λ m. m.shift;
-  with_shift = λ m t. record m { shift = t };
-  translation = λ t. record { f = Plus; e = Plus; t = t };
+  translation = λ m. m.translation;
+  with_translation = λ m t. record m { translation = t };
+  translation_by = λ t. record { f = Plus; e = Plus; t = t };
   entries = frieze_entries;
   same = same_frieze;
-  IsSmall = λ m. IsWithin (2 ^ 40) m.shift;
+  IsSmall = λ m. IsWithin (2 ^ 40) m.translation;
 }
 
 -- the motion with its translation from 0 to below the cell edge

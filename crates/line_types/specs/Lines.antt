@@ -15,9 +15,9 @@ pub record Line : Type 1 where
   pub then : Operation → Operation → Operation
   pub one : Operation
   pub along : Operation → Sign
-  pub shift : Operation → ℤ
-  pub with_shift : Operation → ℤ → Operation
-  pub translation : ℤ → Value
+  pub translation : Operation → ℤ
+  pub with_translation : Operation → ℤ → Operation
+  pub translation_by : ℤ → Value
   pub entries : Operation → List ℤ
   pub same : Operation → Operation → Bool
   pub IsSmall : Operation → Type 0
@@ -25,7 +25,7 @@ pub record Line : Type 1 where
 -- a lattice translation: by a whole multiple of the cell edge along the line
 pub record IsLatticeTranslation (L : Line) (m : L.Value) : Type 0 where
   pub times : ℤ
-  pub is : L.of m ≡ L.of (L.translation (times *ℤ UNIT))
+  pub is : L.of m ≡ L.of (L.translation_by (times *ℤ UNIT))
 
 -- the operations modulo these
 abbrev pub modulo_lattice : Line → Kind
@@ -33,4 +33,4 @@ modulo_lattice L = kind_of L.of L.then L.one (IsLatticeTranslation L)
 
 -- the operation with its translation from 0 to below the cell edge
 abbrev pub at_home : (L : Line) → L.Operation → L.Operation
-at_home L m = L.with_shift m (reduced_parts (L.shift m))
+at_home L m = L.with_translation m (reduced_parts (L.translation m))

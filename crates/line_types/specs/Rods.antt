@@ -26,9 +26,9 @@ rod_line = record {
   then = rod_followed_by;
   one = rod_identity;
   along = λ m. m.along;
-  shift = λ m. m.shift;
-  with_shift = λ m t. record m { shift = t };
-  translation = λ t. record { a = (pos 1 ∷ pos 0 ∷ []) ∷ (pos 0 ∷ pos 1 ∷ []) ∷ []; e = Plus; t = t };
+  translation = λ m. m.translation;
+  with_translation = λ m t. record m { translation = t };
+  translation_by = λ t. record { a = (pos 1 ∷ pos 0 ∷ []) ∷ (pos 0 ∷ pos 1 ∷ []) ∷ []; e = Plus; t = t };
   entries = rod_entries;
   same = same_rod;
   IsSmall = IsRodSmall;

@@ -29,7 +29,7 @@ pub record LineType (A : Type 0) : Type 0 where
 
 -- the entries of the matrix row by row, and a translation from 0 to below the cell edge
 abbrev pub form_of : (L : Line) → Form (modulo_lattice L)
-form_of L = record { entries = L.entries; IsHome = λ m. (pos 0 ≤ℤ L.shift m) × (L.shift m <ℤ UNIT) }
+form_of L = record { entries = L.entries; IsHome = λ m. (pos 0 ≤ℤ L.translation m) × (L.translation m <ℤ UNIT) }
 
 -- how many operations modulo its lattice a type has at most: as many as the crystal class 6/mmm
 abbrev pub largest_order : ℕ

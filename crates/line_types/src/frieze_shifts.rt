@@ -34,8 +34,8 @@ impl Quotient for FriezeShifts {
     /// The motion with its translation modulo whole cell edges: from 0 to below [`UNIT`](fractions::UNIT) parts.
     fn home(&self, m: &FriezeMotion) -> FriezeMotion
         ensures value { frieze_of result ≡ frieze_of (frieze_home m.now) }
-        ensures least { pos 0 ≤ℤ (frieze_of result).shift }
-        ensures below { (frieze_of result).shift <ℤ UNIT }
+        ensures least { pos 0 ≤ℤ (frieze_of result).translation }
+        ensures below { (frieze_of result).translation <ℤ UNIT }
     {
         FriezeMotion {
             t: Part(m.t).reduced().0,

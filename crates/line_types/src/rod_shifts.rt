@@ -34,8 +34,8 @@ impl Quotient for RodShifts {
     /// The motion with its translation modulo whole cell edges: from 0 to below [`UNIT`](fractions::UNIT) parts.
     fn home(&self, m: &RodMotion) -> RodMotion
         ensures value { rod_of result ≡ rod_of (rod_home m.now) }
-        ensures least { pos 0 ≤ℤ (rod_of result).shift }
-        ensures below { (rod_of result).shift <ℤ UNIT }
+        ensures least { pos 0 ≤ℤ (rod_of result).translation }
+        ensures below { (rod_of result).translation <ℤ UNIT }
     {
         RodMotion {
             t: Part(m.t).reduced().0,

@@ -44,13 +44,13 @@ no_height e x y z w p q = (λ i. pos 0 *ℤ x +ℤ pos 0 *ℤ y +ℤ e *ℤ p i 
 pub block_form_product : (m n : PlanarMotion) (b c : Motion) → IsBlockForm m b → IsBlockForm n c → IsBlockForm (planar_followed_by m n) (followed_by b c)
 unfolding plus dot
 block_form_product m n b c h k =
-    let moved : (plus (image c.matrix b.shift) c.shift) ≡ plus (image (block_matrix n) b.shift) c.shift =
-    ap (λ (a : Matrix). plus (image a b.shift) c.shift) k.matrix in
+    let moved : (plus (image c.matrix b.translation) c.translation) ≡ plus (image (block_matrix n) b.translation) c.translation =
+    ap (λ (a : Matrix). plus (image a b.translation) c.translation) k.matrix in
     record {
       matrix = (λ i. product (k.matrix i) (h.matrix i)) ∙ block_products m n;
-      x = doubled_entry n.matrix.first.x n.matrix.first.y m.shift.x m.shift.y n.shift.x b.shift.x b.shift.y c.shift.x h.x h.y k.x b.shift.z h.z
+      x = doubled_entry n.matrix.first.x n.matrix.first.y m.translation.x m.translation.y n.translation.x b.translation.x b.translation.y c.translation.x h.x h.y k.x b.translation.z h.z
           ∙ ap (λ (v : Vector). pos 2 *ℤ v.x) (sym moved);
-      y = doubled_entry n.matrix.second.x n.matrix.second.y m.shift.x m.shift.y n.shift.y b.shift.x b.shift.y c.shift.y h.x h.y k.y b.shift.z h.z
+      y = doubled_entry n.matrix.second.x n.matrix.second.y m.translation.x m.translation.y n.translation.y b.translation.x b.translation.y c.translation.y h.x h.y k.y b.translation.z h.z
           ∙ ap (λ (v : Vector). pos 2 *ℤ v.y) (sym moved);
-      z = ap (λ (v : Vector). v.z) moved ∙ no_height (sign_value n.side) b.shift.x b.shift.y b.shift.z c.shift.z h.z k.z;
+      z = ap (λ (v : Vector). v.z) moved ∙ no_height (sign_value n.side) b.translation.x b.translation.y b.translation.z c.translation.z h.z k.z;
     }

@@ -62,19 +62,19 @@ determinant_of_undone m n e =
 
 -- a motion and what takes its translation back by the inverse of its matrix
 pub undone : (m n : Motion) → product m.matrix n.matrix ≡ unit_matrix → product n.matrix m.matrix ≡ unit_matrix
-    → n.shift ≡ opposite (image n.matrix m.shift)
+    → n.translation ≡ opposite (image n.matrix m.translation)
     → (followed_by m n ≡ identity) × (followed_by n m ≡ identity)
 undone m n right left taken = (motion_path left after, motion_path right before)
   where
-    after : plus (image n.matrix m.shift) n.shift ≡ origin
-    after = ap (plus (image n.matrix m.shift)) taken ∙ minus-same (image n.matrix m.shift)
+    after : plus (image n.matrix m.translation) n.translation ≡ origin
+    after = ap (plus (image n.matrix m.translation)) taken ∙ minus-same (image n.matrix m.translation)
 
-    there_and_back : image m.matrix (image n.matrix m.shift) ≡ m.shift
-    there_and_back = sym (image-product m.matrix n.matrix m.shift) ∙ ap (λ (w : Matrix). image w m.shift) right ∙ image-unit m.shift
+    there_and_back : image m.matrix (image n.matrix m.translation) ≡ m.translation
+    there_and_back = sym (image-product m.matrix n.matrix m.translation) ∙ ap (λ (w : Matrix). image w m.translation) right ∙ image-unit m.translation
 
-    before : plus (image m.matrix n.shift) m.shift ≡ origin
+    before : plus (image m.matrix n.translation) m.translation ≡ origin
     before =
-        ap (λ (v : Vector). plus (image m.matrix v) m.shift) taken
-        ∙ ap (λ (v : Vector). plus v m.shift) (image-multiple m.matrix (negsuc 0) (image n.matrix m.shift))
-        ∙ ap (λ (v : Vector). plus (opposite v) m.shift) there_and_back
-        ∙ opposite-plus_same m.shift
+        ap (λ (v : Vector). plus (image m.matrix v) m.translation) taken
+        ∙ ap (λ (v : Vector). plus v m.translation) (image-multiple m.matrix (negsuc 0) (image n.matrix m.translation))
+        ∙ ap (λ (v : Vector). plus (opposite v) m.translation) there_and_back
+        ∙ opposite-plus_same m.translation

@@ -18,14 +18,14 @@ use Rattle.motions.proofs.Blocks.{block_products}
 
 -- its matrix is that of a motion of a layer
 abbrev across_axis : RodOperation → PlanarMotion
-across_axis m = record { matrix = m.matrix; side = m.along; shift = origin2 }
+across_axis m = record { matrix = m.matrix; side = m.along; translation = origin2 }
 
 pub rod_block_product : (m n : RodOperation) → followed_by (rod_block m) (rod_block n) ≡ rod_block (rod_followed_by m n)
 unfolding plus dot
 rod_block_product m n =
     motion_path (block_products (across_axis m) (across_axis n))
-    (vector_path (none n.matrix.first.x n.matrix.first.y m.shift) (none n.matrix.second.x n.matrix.second.y m.shift)
-    (along (sign_value n.along) m.shift n.shift))
+    (vector_path (none n.matrix.first.x n.matrix.first.y m.translation) (none n.matrix.second.x n.matrix.second.y m.translation)
+    (along (sign_value n.along) m.translation n.translation))
   where
     none : (a b t : ℤ) → a *ℤ pos 0 +ℤ b *ℤ pos 0 +ℤ pos 0 *ℤ t +ℤ pos 0 ≡ pos 0
     none a b t = omega (arith, ints)
@@ -43,7 +43,7 @@ frieze_block_product m n =
     (vector_path (first_of (sign_value n.along) (sign_value m.along) ∙ sym (sign_value-sign_product n.along m.along)) (omega (arith, ints)) (omega (arith, ints)))
     (vector_path (omega (arith, ints)) (second_of (sign_value n.across) (sign_value m.across) ∙ sym (sign_value-sign_product n.across m.across)) (omega (arith, ints)))
     (vector_path (omega (arith, ints)) (omega (arith, ints)) (omega (arith, ints))))
-    (vector_path (along (sign_value n.along) m.shift n.shift) (omega (arith, ints)) (omega (arith, ints)))
+    (vector_path (along (sign_value n.along) m.translation n.translation) (omega (arith, ints)) (omega (arith, ints)))
   where
     first_of : (d e : ℤ) → d *ℤ e +ℤ pos 0 *ℤ pos 0 +ℤ pos 0 *ℤ pos 0 ≡ d *ℤ e
     first_of d e = omega (arith, ints)

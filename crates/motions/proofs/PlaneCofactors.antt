@@ -67,22 +67,22 @@ determinant2_of_undone m n e = mul-eq-one (determinant2 n) (determinant2 m) (sym
 
 -- a motion and what takes its translation back by the inverse of its matrix
 pub planar_undone : (m n : PlanarMotion) → product2 m.matrix n.matrix ≡ unit2 → product2 n.matrix m.matrix ≡ unit2 → n.side ≡ m.side
-    → n.shift ≡ opposite2 (image2 n.matrix m.shift)
+    → n.translation ≡ opposite2 (image2 n.matrix m.translation)
     → (planar_followed_by m n ≡ planar_identity) × (planar_followed_by n m ≡ planar_identity)
 planar_undone m n right left side taken = (
   planar_path left (ap (λ e. sign_product e m.side) side ∙ sign_product-same m.side) after,
   planar_path right (ap (λ e. sign_product m.side e) side ∙ sign_product-same m.side) before,
 )
   where
-    after : plus2 (image2 n.matrix m.shift) n.shift ≡ origin2
-    after = ap (plus2 (image2 n.matrix m.shift)) taken ∙ plus2-opposite (image2 n.matrix m.shift)
+    after : plus2 (image2 n.matrix m.translation) n.translation ≡ origin2
+    after = ap (plus2 (image2 n.matrix m.translation)) taken ∙ plus2-opposite (image2 n.matrix m.translation)
 
-    there_and_back : image2 m.matrix (image2 n.matrix m.shift) ≡ m.shift
-    there_and_back = sym (image2-product m.matrix n.matrix m.shift) ∙ ap (λ (w : Matrix2). image2 w m.shift) right ∙ image2-unit m.shift
+    there_and_back : image2 m.matrix (image2 n.matrix m.translation) ≡ m.translation
+    there_and_back = sym (image2-product m.matrix n.matrix m.translation) ∙ ap (λ (w : Matrix2). image2 w m.translation) right ∙ image2-unit m.translation
 
-    before : plus2 (image2 m.matrix n.shift) m.shift ≡ origin2
+    before : plus2 (image2 m.matrix n.translation) m.translation ≡ origin2
     before =
-        ap (λ (v : Pair). plus2 (image2 m.matrix v) m.shift) taken
-        ∙ ap (λ (v : Pair). plus2 v m.shift) (image2-opposite m.matrix (image2 n.matrix m.shift))
-        ∙ ap (λ (v : Pair). plus2 (opposite2 v) m.shift) there_and_back
-        ∙ opposite-plus2_same m.shift
+        ap (λ (v : Pair). plus2 (image2 m.matrix v) m.translation) taken
+        ∙ ap (λ (v : Pair). plus2 v m.translation) (image2-opposite m.matrix (image2 n.matrix m.translation))
+        ∙ ap (λ (v : Pair). plus2 (opposite2 v) m.translation) there_and_back
+        ∙ opposite-plus2_same m.translation

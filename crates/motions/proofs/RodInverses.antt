@@ -18,11 +18,11 @@ along_back e t u is =
     )
 
 pub rod_undone : (m n : RodOperation) → product2 m.matrix n.matrix ≡ unit2 → product2 n.matrix m.matrix ≡ unit2
-    → n.along ≡ m.along → n.shift ≡ neg_ℤ (sign_value m.along *ℤ m.shift)
+    → n.along ≡ m.along → n.translation ≡ neg_ℤ (sign_value m.along *ℤ m.translation)
     → (rod_followed_by m n ≡ rod_identity) × (rod_followed_by n m ≡ rod_identity)
 rod_undone m n right left along taken =
-    let back = along_back m.along m.shift n.shift taken in (
+    let back = along_back m.along m.translation n.translation taken in (
       rod_path left (ap (λ e. sign_product e m.along) along ∙ sign_product-same m.along)
-          (ap (λ e. sign_value e *ℤ m.shift +ℤ n.shift) along ∙ back.0),
+          (ap (λ e. sign_value e *ℤ m.translation +ℤ n.translation) along ∙ back.0),
       rod_path right (ap (sign_product m.along) along ∙ sign_product-same m.along) back.1,
     )

@@ -10,4 +10,4 @@ same_matrix m n = same_vector m.first n.first && same_vector m.second n.second &
 
 -- whether two motions are equal
 abbrev pub same_motion : Motion → Motion → Bool
-same_motion m n = same_matrix m.matrix n.matrix && same_vector m.shift n.shift
+same_motion m n = same_matrix m.matrix n.matrix && same_vector m.translation n.translation

@@ -11,23 +11,23 @@ use Rattle.motions.specs.Signs.{same_sign, sign_value, sign_product}
 pub record FriezeOperation : Type 0 where
   pub along : Sign
   pub across : Sign
-  pub shift : ℤ
+  pub translation : ℤ
 
 -- the operation that a FriezeMotion is
 abbrev pub frieze_of : FriezeMotion → FriezeOperation
-frieze_of m = record { along = m.f; across = m.e; shift = m.t }
+frieze_of m = record { along = m.f; across = m.e; translation = m.t }
 
 -- first (f, e, t), then (f', e', t'): the operation (f' f, e' e, f' t + t')
 abbrev pub frieze_followed_by : FriezeOperation → FriezeOperation → FriezeOperation
 frieze_followed_by first next = record {
   along = sign_product next.along first.along;
   across = sign_product next.across first.across;
-  shift = sign_value next.along *ℤ first.shift +ℤ next.shift;
+  translation = sign_value next.along *ℤ first.translation +ℤ next.translation;
 }
 
 -- the translation along the line
 abbrev pub frieze_translation : ℤ → FriezeOperation
-frieze_translation t = record { along = Plus; across = Plus; shift = t }
+frieze_translation t = record { along = Plus; across = Plus; translation = t }
 
 -- the operation that moves nothing
 abbrev pub frieze_identity : FriezeOperation
@@ -35,7 +35,7 @@ frieze_identity = frieze_translation (pos 0)
 
 -- whether two operations are equal
 abbrev pub same_frieze : FriezeOperation → FriezeOperation → Bool
-same_frieze m n = same_sign m.along n.along && same_sign m.across n.across && int_eq m.shift n.shift
+same_frieze m n = same_sign m.along n.along && same_sign m.across n.across && int_eq m.translation n.translation
 
 -- the motion of space: f along the first axis with the translation along it, e along the second, and the third as it is
 abbrev pub frieze_block : FriezeOperation → Motion
@@ -45,5 +45,5 @@ frieze_block m = record {
     second = record { x = pos 0; y = sign_value m.across; z = pos 0 };
     third = record { x = pos 0; y = pos 0; z = pos 1 };
   };
-  shift = record { x = m.shift; y = pos 0; z = pos 0 };
+  translation = record { x = m.translation; y = pos 0; z = pos 0 };
 }

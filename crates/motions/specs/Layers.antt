@@ -14,36 +14,36 @@ use Rattle.motions.specs.PlaneViews.{matrix2_of, pair_of}
 pub record PlanarMotion : Type 0 where
   pub matrix : Matrix2
   pub side : Sign
-  pub shift : Pair
+  pub translation : Pair
 
 -- the motion that a LayerMotion is
 abbrev pub planar_of : LayerMotion → PlanarMotion
-planar_of m = record { matrix = matrix2_of m.a; side = m.e; shift = pair_of m.t }
+planar_of m = record { matrix = matrix2_of m.a; side = m.e; translation = pair_of m.t }
 
 -- first (A, e, t), then (B, f, u): the motion (B A, f e, B t + u)
 abbrev pub planar_followed_by : PlanarMotion → PlanarMotion → PlanarMotion
 planar_followed_by first next = record {
   matrix = product2 next.matrix first.matrix;
   side = sign_product next.side first.side;
-  shift = plus2 (image2 next.matrix first.shift) next.shift;
+  translation = plus2 (image2 next.matrix first.translation) next.translation;
 }
 
 -- the motion that moves nothing
 abbrev pub planar_identity : PlanarMotion
-planar_identity = record { matrix = unit2; side = Plus; shift = origin2 }
+planar_identity = record { matrix = unit2; side = Plus; translation = origin2 }
 
 -- the translation by a vector of the plane
 abbrev pub planar_translation : Pair → PlanarMotion
-planar_translation t = record { matrix = unit2; side = Plus; shift = t }
+planar_translation t = record { matrix = unit2; side = Plus; translation = t }
 
 -- a small motion: matrix entries at most 500 in size, and translations at most 2^40 half parts
 pub record IsPlanarSmall (m : PlanarMotion) : Type 0 where
   pub matrix : IsMatrix2Within 500 m.matrix
-  pub shift : IsPairWithin (2 ^ 40) m.shift
+  pub translation : IsPairWithin (2 ^ 40) m.translation
 
 -- whether two motions are equal
 abbrev pub same_planar : PlanarMotion → PlanarMotion → Bool
-same_planar m n = same_matrix2 m.matrix n.matrix && same_sign m.side n.side && same_pair m.shift n.shift
+same_planar m n = same_matrix2 m.matrix n.matrix && same_sign m.side n.side && same_pair m.translation n.translation
 
 -- the matrix in space: A in the plane, and e along the third axis
 abbrev pub block_matrix : PlanarMotion → Matrix
@@ -57,9 +57,9 @@ block_matrix m = record {
 -- parts for a part, and none along the third axis
 pub record IsBlockForm (m : PlanarMotion) (block : Motion) : Type 0 where
   pub matrix : block.matrix ≡ block_matrix m
-  pub x : m.shift.x ≡ pos 2 *ℤ block.shift.x
-  pub y : m.shift.y ≡ pos 2 *ℤ block.shift.y
-  pub z : block.shift.z ≡ pos 0
+  pub x : m.translation.x ≡ pos 2 *ℤ block.translation.x
+  pub y : m.translation.y ≡ pos 2 *ℤ block.translation.y
+  pub z : block.translation.z ≡ pos 0
 
 -- an odd number
 abbrev pub IsOdd : ℤ → Type 0
@@ -67,4 +67,4 @@ IsOdd n = (k : ℤ) × (n ≡ pos 2 *ℤ k +ℤ pos 1)
 
 -- an entry of the translation is no whole number of parts
 abbrev pub HasHalfPart : PlanarMotion → Type 0
-HasHalfPart m = IsOdd m.shift.x ⊎ IsOdd m.shift.y
+HasHalfPart m = IsOdd m.translation.x ⊎ IsOdd m.translation.y

@@ -21,7 +21,7 @@ IsRationalPair v = pos 1 ≤ℤ v.over
 pub record RationalMotion : Type 0 where
   pub matrix : Matrix2
   pub side : Sign
-  pub shift : RationalPair
+  pub translation : RationalPair
 
 -- the difference of two pairs
 abbrev pub rational_minus : RationalPair → RationalPair → RationalPair
@@ -51,7 +51,7 @@ in_edges v = record { x = v.x; y = v.y; over = pos 2 *ℤ UNIT }
 
 -- a motion whose translation is counted in half parts, in cell edges
 abbrev pub rational_of : PlanarMotion → RationalMotion
-rational_of m = record { matrix = m.matrix; side = m.side; shift = in_edges m.shift }
+rational_of m = record { matrix = m.matrix; side = m.side; translation = in_edges m.translation }
 
 -- a motion is a listed one followed by the translation by a vector of a lattice
 pub record IsListed (IsVector : RationalPair → Type 0) (list : List LayerMotion) (op : RationalMotion) : Type 0 where
@@ -59,7 +59,7 @@ pub record IsListed (IsVector : RationalPair → Type 0) (list : List LayerMotio
   pub listed : Contains list motion
   pub matrix : op.matrix ≡ matrix2_of motion.a
   pub side : op.side ≡ motion.e
-  pub shift : IsVector (rational_minus op.shift (in_edges (pair_of motion.t)))
+  pub translation : IsVector (rational_minus op.translation (in_edges (pair_of motion.t)))
 
 -- the section that a list stands for: the listed motions, and what differs from them by a whole vector
 abbrev pub InSection : List LayerMotion → RationalMotion → Type 0
@@ -69,4 +69,4 @@ InSection section = IsListed IsWhole section
 pub record DifferByWhole (m n : LayerMotion) : Type 0 where
   pub matrix : matrix2_of m.a ≡ matrix2_of n.a
   pub side : m.e ≡ n.e
-  pub shift : IsWhole (rational_minus (in_edges (pair_of m.t)) (in_edges (pair_of n.t)))
+  pub translation : IsWhole (rational_minus (in_edges (pair_of m.t)) (in_edges (pair_of n.t)))

@@ -15,23 +15,23 @@ use Rattle.motions.specs.PlaneViews.{matrix2_of}
 pub record RodOperation : Type 0 where
   pub matrix : Matrix2
   pub along : Sign
-  pub shift : ℤ
+  pub translation : ℤ
 
 -- the operation that a RodMotion is
 abbrev pub rod_of : RodMotion → RodOperation
-rod_of m = record { matrix = matrix2_of m.a; along = m.e; shift = m.t }
+rod_of m = record { matrix = matrix2_of m.a; along = m.e; translation = m.t }
 
 -- first (A, e, t), then (B, f, u): the operation (B A, f e, f t + u)
 abbrev pub rod_followed_by : RodOperation → RodOperation → RodOperation
 rod_followed_by first next = record {
   matrix = product2 next.matrix first.matrix;
   along = sign_product next.along first.along;
-  shift = sign_value next.along *ℤ first.shift +ℤ next.shift;
+  translation = sign_value next.along *ℤ first.translation +ℤ next.translation;
 }
 
 -- the translation along the axis
 abbrev pub rod_translation : ℤ → RodOperation
-rod_translation t = record { matrix = unit2; along = Plus; shift = t }
+rod_translation t = record { matrix = unit2; along = Plus; translation = t }
 
 -- the operation that moves nothing
 abbrev pub rod_identity : RodOperation
@@ -40,11 +40,11 @@ rod_identity = rod_translation (pos 0)
 -- a small operation: matrix entries at most 500 in size, and a translation of at most 2^40 parts
 pub record IsRodSmall (m : RodOperation) : Type 0 where
   pub matrix : IsMatrix2Within 500 m.matrix
-  pub shift : IsWithin (2 ^ 40) m.shift
+  pub translation : IsWithin (2 ^ 40) m.translation
 
 -- whether two operations are equal
 abbrev pub same_rod : RodOperation → RodOperation → Bool
-same_rod m n = same_matrix2 m.matrix n.matrix && same_sign m.along n.along && int_eq m.shift n.shift
+same_rod m n = same_matrix2 m.matrix n.matrix && same_sign m.along n.along && int_eq m.translation n.translation
 
 -- the motion of space: A across the third axis, e along it, and the translation along it
 abbrev pub rod_block : RodOperation → Motion
@@ -54,5 +54,5 @@ rod_block m = record {
     second = record { x = m.matrix.second.x; y = m.matrix.second.y; z = pos 0 };
     third = record { x = pos 0; y = pos 0; z = sign_value m.along };
   };
-  shift = record { x = pos 0; y = pos 0; z = m.shift };
+  translation = record { x = pos 0; y = pos 0; z = m.translation };
 }

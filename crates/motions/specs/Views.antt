@@ -30,7 +30,7 @@ parts ps = record { x = part_at ps 0; y = part_at ps 1; z = part_at ps 2 }
 
 -- the motion that a Motion3 is
 abbrev pub motion_of : Motion3 → Motion
-motion_of m = record { matrix = matrix_of m.w; shift = parts m.t }
+motion_of m = record { matrix = matrix_of m.w; translation = parts m.t }
 
 -- the row (hkl)
 abbrev pub row_of : Miller → Vector

@@ -17,7 +17,7 @@ pub record Sum : Type 0 where
   pub x : ℤ
   pub y : ℤ
   pub z : ℤ
-  pub shift : ℤ
+  pub translation : ℤ
 
 -- a fraction n/d of a cell edge, in parts
 abbrev pub fraction_of : List ℕ → ℤ
@@ -26,7 +26,7 @@ fraction_of _ = pos 0
 
 -- a number of parts alone
 abbrev number : ℤ → Sum
-number t = record { x = pos 0; y = pos 0; z = pos 0; shift = t }
+number t = record { x = pos 0; y = pos 0; z = pos 0; translation = t }
 
 -- the sum of the terms, of which the first has this sign
 abbrev pub sum_of : Sign → List ℕ → Sum
@@ -60,17 +60,17 @@ planar_written text =
     record {
       matrix = plane_matrix first second;
       side = sign_of (part_sum text 2).z;
-      shift = record { x = pos 2 *ℤ first.shift; y = pos 2 *ℤ second.shift };
+      translation = record { x = pos 2 *ℤ first.translation; y = pos 2 *ℤ second.translation };
     }
 
 -- a triplet as a motion along the third axis
 abbrev pub rod_written : List ℕ → RodOperation
 rod_written text =
     let third = part_sum text 2 in
-    record { matrix = plane_matrix (part_sum text 0) (part_sum text 1); along = sign_of third.z; shift = third.shift }
+    record { matrix = plane_matrix (part_sum text 0) (part_sum text 1); along = sign_of third.z; translation = third.translation }
 
 -- a pair as a motion along the first axis
 abbrev pub frieze_written : List ℕ → FriezeOperation
 frieze_written text =
     let first = part_sum text 0 in
-    record { along = sign_of first.x; across = sign_of (part_sum text 1).y; shift = first.shift }
+    record { along = sign_of first.x; across = sign_of (part_sum text 1).y; translation = first.translation }

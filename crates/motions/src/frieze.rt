@@ -44,9 +44,9 @@ impl Motion for FriezeMotion {
 
     ghost one = { frieze_identity };
 
-    ghost IsSmall = { λ m. IsWithin (2 ^ 40) m.shift };
+    ghost IsSmall = { λ m. IsWithin (2 ^ 40) m.translation };
 
-    ghost MovesWithin = { λ n m. IsWithin n m.shift };
+    ghost MovesWithin = { λ n m. IsWithin n m.translation };
 
     fn identity() -> Self {
         FriezeMotion {
@@ -66,7 +66,7 @@ impl Motion for FriezeMotion {
 
     /// The inverse, which each frieze motion has.
     fn back(&self) -> Option<Self>
-        requires { IsWithin (2 ^ 40) (frieze_of self.now).shift }
+        requires { IsWithin (2 ^ 40) (frieze_of self.now).translation }
         ensures some { IsSome result }
         ensures inverse { IfSome result (λ m.
             (frieze_followed_by (frieze_of self.now) (frieze_of m) ≡ frieze_identity)

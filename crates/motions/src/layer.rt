@@ -80,7 +80,7 @@ impl Motion for LayerMotion {
 
     ghost IsSmall = { IsPlanarSmall };
 
-    ghost MovesWithin = { λ n m. IsPairWithin n m.shift };
+    ghost MovesWithin = { λ n m. IsPairWithin n m.translation };
 
     fn identity() -> Self {
         LayerMotion {
@@ -117,7 +117,7 @@ impl Motion for LayerMotion {
 
     ghost one_within = { planar_identity_within };
 
-    ghost small_within = { λ a h. h.shift };
+    ghost small_within = { λ a h. h.translation };
 
     ghost product_within = { planar_followed_by_within };
 }

@@ -62,7 +62,7 @@ impl Motion for RodMotion {
 
     ghost IsSmall = { IsRodSmall };
 
-    ghost MovesWithin = { λ n m. IsWithin n m.shift };
+    ghost MovesWithin = { λ n m. IsWithin n m.translation };
 
     fn identity() -> Self {
         RodMotion {
@@ -97,9 +97,9 @@ impl Motion for RodMotion {
 
     ghost one_within = { nothing_within };
 
-    ghost small_within = { λ a h. h.shift };
+    ghost small_within = { λ a h. h.translation };
 
-    ghost product_within = { λ m n h k. along_within n.along h.shift k.shift };
+    ghost product_within = { λ m n h k. along_within n.along h.translation k.translation };
 }
 
 #[cfg(test)]

@@ -46,7 +46,7 @@ pub fn side(m: &Motion3, plane: &Miller) -> Option<Sign>
 /// How far the motion shifts the planes: `(hkl).w`, in parts.
 pub fn shift(m: &Motion3, plane: &Miller) -> i64
     requires { IsSmall (motion_of m.now) }
-    ensures { result ≡ dot (row_of plane.now) (motion_of m.now).shift }
+    ensures { result ≡ dot (row_of plane.now) (motion_of m.now).translation }
 {
     row_by_column(&plane.row(), m.t[0].0, m.t[1].0, m.t[2].0)
 }

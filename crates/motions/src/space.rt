@@ -60,7 +60,7 @@ impl Motion for Motion3 {
 
     ghost IsSmall = { IsSmall };
 
-    ghost MovesWithin = { λ n m. IsVectorWithin n m.shift };
+    ghost MovesWithin = { λ n m. IsVectorWithin n m.translation };
 
     fn identity() -> Self {
         Motion3 {
@@ -94,7 +94,7 @@ impl Motion for Motion3 {
 
     ghost one_within = { identity_within };
 
-    ghost small_within = { λ a h. h.shift };
+    ghost small_within = { λ a h. h.translation };
 
     ghost product_within = { followed_by_within };
 }

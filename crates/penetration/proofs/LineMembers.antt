@@ -55,31 +55,31 @@ point_by_drift u at c m k v r positive is e = record {
   by = record { num = r *ℤ k; den = v *ℤ UNIT };
   is_fraction = one-le-mul v UNIT positive unit_positive;
   is = vector_path
-      (one_point UNIT v r k (image m.matrix at).x m.shift.x at.x u.x c.x (λ i. (e i).x) (λ i. (is i).x))
-      (one_point UNIT v r k (image m.matrix at).y m.shift.y at.y u.y c.y (λ i. (e i).y) (λ i. (is i).y))
-      (one_point UNIT v r k (image m.matrix at).z m.shift.z at.z u.z c.z (λ i. (e i).z) (λ i. (is i).z));
+      (one_point UNIT v r k (image m.matrix at).x m.translation.x at.x u.x c.x (λ i. (e i).x) (λ i. (is i).x))
+      (one_point UNIT v r k (image m.matrix at).y m.translation.y at.y u.y c.y (λ i. (e i).y) (λ i. (is i).y))
+      (one_point UNIT v r k (image m.matrix at).z m.translation.z at.z u.z c.z (λ i. (e i).z) (λ i. (is i).z));
 }
 
 -- the drifts of two motions of one matrix
-pub drift_same : (at : Vector) (m n : Motion) → m.matrix ≡ n.matrix → drift m at ≡ plus (drift n at) (minus m.shift n.shift)
+pub drift_same : (at : Vector) (m n : Motion) → m.matrix ≡ n.matrix → drift m at ≡ plus (drift n at) (minus m.translation n.translation)
 unfolding plus multiple
 drift_same at m n e =
-    ap (λ w. minus (plus (image w at) m.shift) at) e
+    ap (λ w. minus (plus (image w at) m.translation) at) e
     ∙ vector_path
-    (one (image n.matrix at).x m.shift.x n.shift.x at.x) (one (image n.matrix at).y m.shift.y n.shift.y at.y) (one (image n.matrix at).z m.shift.z n.shift.z at.z)
+    (one (image n.matrix at).x m.translation.x n.translation.x at.x) (one (image n.matrix at).y m.translation.y n.translation.y at.y) (one (image n.matrix at).z m.translation.z n.translation.z at.z)
   where
     one : (w r s x : ℤ) → (w +ℤ r) +ℤ negsuc 0 *ℤ x ≡ ((w +ℤ s) +ℤ negsuc 0 *ℤ x) +ℤ (r +ℤ negsuc 0 *ℤ s)
     one w r s x = omega (arith, ints)
 
 -- the motion, and then back by a combination of the frame
 abbrev pub taken_back : Basis → Vector → Motion → Motion
-taken_back f c m = record { matrix = m.matrix; shift = minus m.shift (combination f c) }
+taken_back f c m = record { matrix = m.matrix; translation = minus m.translation (combination f c) }
 
 drift_back : (f : Basis) (at c : Vector) (m : Motion) → drift (taken_back f c m) at ≡ minus (drift m at) (combination f c)
 unfolding plus multiple
 drift_back f at c m =
     let k = combination f c in
-    vector_path (one (image m.matrix at).x m.shift.x k.x at.x) (one (image m.matrix at).y m.shift.y k.y at.y) (one (image m.matrix at).z m.shift.z k.z at.z)
+    vector_path (one (image m.matrix at).x m.translation.x k.x at.x) (one (image m.matrix at).y m.translation.y k.y at.y) (one (image m.matrix at).z m.translation.z k.z at.z)
   where
     one : (w r s x : ℤ) → (w +ℤ (r +ℤ negsuc 0 *ℤ s)) +ℤ negsuc 0 *ℤ x ≡ ((w +ℤ r) +ℤ negsuc 0 *ℤ x) +ℤ negsuc 0 *ℤ s
     one w r s x = omega (arith, ints)
@@ -179,7 +179,7 @@ module _ (g : Listing) (u : Vector) (f : Basis) (group : IsGroup g) (coprime : I
       )
 
   -- the coordinates of the drifts of two motions that are the same modulo L differ by whole ones
-  scaled_same : (m n : Motion) → m.matrix ≡ n.matrix → (c : Vector) → combination f c ≡ minus m.shift n.shift
+  scaled_same : (m n : Motion) → m.matrix ≡ n.matrix → (c : Vector) → combination f c ≡ minus m.translation n.translation
       → scaled f (drift m at) ≡ plus (scaled f (drift n at)) (multiple (volume f) c)
   scaled_same m n e c is =
       ap (scaled f) (drift_same at m n e ∙ ap (plus (drift n at)) (sym is)) ∙ scaled-plus f (drift n at) (combination f c)
@@ -189,7 +189,7 @@ module _ (g : Listing) (u : Vector) (f : Basis) (group : IsGroup g) (coprime : I
   pub whole_drift : (m n : Motion) → InLineStabiliser g u (counted at) n → SameModulo g n m
       → HasWholeSteps f (drift m at)
   whole_drift m n in_it same =
-      let (c, is) = frame.spans (minus n.shift m.shift) same.shift in
+      let (c, is) = frame.spans (minus n.translation m.translation) same.translation in
       let e = scaled_same n m same.matrix c is in
       let (x, y) = drift_flat n in_it in (
         (negsuc 0 *ℤ c.x, by (scaled f (drift m at)).x (volume f) c.x (sym x ∙ x_of (scaled f (drift n at)) (scaled f (drift m at)) (volume f) c e)),
@@ -202,7 +202,7 @@ module _ (g : Listing) (u : Vector) (f : Basis) (group : IsGroup g) (coprime : I
 
   -- the motion taken back by a combination is the same modulo L
   taken_back_same : (m : Motion) (c : Vector) → SameModulo g (taken_back f c m) m
-  taken_back_same m c = same_sym g m (taken_back f c m) (record { matrix = refl; shift = subst (IsInLattice g) (sym (minus-minus m.shift (combination f c))) (frame.inside c) })
+  taken_back_same m c = same_sym g m (taken_back f c m) (record { matrix = refl; translation = subst (IsInLattice g) (sym (minus-minus m.translation (combination f c))) (frame.inside c) })
 
   pub keeps_direction_of : (m : Motion) → InLineStabiliser g u (counted at) m → KeepsDirection u m
   keeps_direction_of m in_it =
@@ -220,13 +220,13 @@ module _ (g : Listing) (u : Vector) (f : Basis) (group : IsGroup g) (coprime : I
   -- two members that map the line to itself and are the same modulo L differ by a multiple of the axis
   pub differs_along : (m n : Motion) → InLineStabiliser g u (counted at) m → InLineStabiliser g u (counted at) n → SameModulo g m n → DiffersAlong f m n
   differs_along m n in_m in_n same =
-      let (c, is) = frame.spans (minus m.shift n.shift) same.shift in
+      let (c, is) = frame.spans (minus m.translation n.translation) same.translation in
       let e = scaled_same m n same.matrix c is in
       let (x, y) = drift_flat m in_m in
       let (x', y') = drift_flat n in_n in record {
         matrix = same.matrix;
         times = c.z;
-        shift = sym is ∙ ap (combination f) (vector_path {v = c} {w = record { x = pos 0; y = pos 0; z = c.z }} (by c.x (one _ _ _ (x_of (scaled f (drift m at)) (scaled f (drift n at)) (volume f) c e) x x')) (by c.y (one _ _ _ (y_of (scaled f (drift m at)) (scaled f (drift n at)) (volume f) c e) y y')) refl) ∙ only_axis f c.z;
+        translation = sym is ∙ ap (combination f) (vector_path {v = c} {w = record { x = pos 0; y = pos 0; z = c.z }} (by c.x (one _ _ _ (x_of (scaled f (drift m at)) (scaled f (drift n at)) (volume f) c e) x x')) (by c.y (one _ _ _ (y_of (scaled f (drift m at)) (scaled f (drift n at)) (volume f) c e) y y')) refl) ∙ only_axis f c.z;
       }
     where
       by : (c : ℤ) → volume f *ℤ c ≡ pos 0 → c ≡ pos 0
@@ -243,17 +243,17 @@ module _ (g : Listing) (u : Vector) (f : Basis) (group : IsGroup g) (coprime : I
   -- two near motions that differ by a multiple of the axis are one
   pub near_once : (m n : Motion) → IsNear f at m → IsNear f at n → DiffersAlong f m n → m ≡ n
   near_once m n p q differs =
-      let apart = apart_along p.over q.over differs.times p.by q.by (drift m at) (drift n at) (minus m.shift n.shift) f.tau
-      (sym (drift_same at m n differs.matrix)) differs.shift p.is q.is in
+      let apart = apart_along p.over q.over differs.times p.by q.by (drift m at) (drift n at) (minus m.translation n.translation) f.tau
+      (sym (drift_same at m n differs.matrix)) differs.translation p.is q.is in
       let zero = fractional_parts p.over q.over p.by q.by differs.times p.from p.below q.from q.below
       (axis_once (q.over *ℤ p.by -ℤ p.over *ℤ q.by) (p.over *ℤ q.over *ℤ differs.times) apart) in
-      motion_path differs.matrix (differ_by_none m.shift n.shift differs.times f.tau differs.shift zero)
+      motion_path differs.matrix (differ_by_none m.translation n.translation differs.times f.tau differs.translation zero)
 
   -- ---- what the stabiliser has near of the coset of a motion
 
   -- nothing, where the motion does not keep the direction
   pub turned_choice : (m : Motion) → ¬ KeepsDirection u m → IsChoice (SameModulo g) (IsNear f at) (InLineStabiliser g u (counted at)) m None
-  turned_choice m not n in_n near same = not (subst (λ w. KeepsDirection u (record { matrix = w; shift = m.shift })) same.matrix (keeps_direction_of n in_n))
+  turned_choice m not n in_n near same = not (subst (λ w. KeepsDirection u (record { matrix = w; translation = m.translation })) same.matrix (keeps_direction_of n in_n))
 
   -- nothing, where the drift is not whole along a, or not along b
   pub apart_choice : (m : Motion) → ¬ HasWholeSteps f (drift m at) → IsChoice (SameModulo g) (IsNear f at) (InLineStabiliser g u (counted at)) m None

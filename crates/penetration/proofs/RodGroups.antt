@@ -40,32 +40,32 @@ K = modulo_lattice rod_line
 -- sameness modulo the axis, as numbers say it
 to_same : (m n : RodOperation) → SameRod m n → IsSame K m n
 to_same m n h =
-    let is : m ≡ record n { shift = n.shift +ℤ h.times *ℤ UNIT } = λ i. record { matrix = h.matrix i; along = h.along i; shift = h.shift i } in
+    let is : m ≡ record n { translation = n.translation +ℤ h.times *ℤ UNIT } = λ i. record { matrix = h.matrix i; along = h.along i; translation = h.translation i } in
     subst (λ x. IsSame K x n) (sym is) (moved_same n h.times)
 
 from_same : (m n : RodOperation) → IsSame K m n → SameRod m n
 from_same m n h =
     let (k, e) = same_rod m n h in
-    record { matrix = ap (λ (x : RodOperation). x.matrix) e; along = ap (λ (x : RodOperation). x.along) e; times = k; shift = ap (λ (x : RodOperation). x.shift) e }
+    record { matrix = ap (λ (x : RodOperation). x.matrix) e; along = ap (λ (x : RodOperation). x.along) e; times = k; translation = ap (λ (x : RodOperation). x.translation) e }
 
 same_sym : (m n : RodOperation) → SameRod m n → SameRod n m
-same_sym m n h = record { matrix = sym h.matrix; along = sym h.along; times = negsuc 0 *ℤ h.times; shift = turned m.shift n.shift h.times h.shift }
+same_sym m n h = record { matrix = sym h.matrix; along = sym h.along; times = negsuc 0 *ℤ h.times; translation = turned m.translation n.translation h.times h.translation }
   where
     turned : (s t k : ℤ) → s ≡ t +ℤ k *ℤ UNIT → t ≡ s +ℤ negsuc 0 *ℤ k *ℤ UNIT
     turned s t k e = omega (arith, ints)
 
 same_trans : (l m n : RodOperation) → SameRod l m → SameRod m n → SameRod l n
-same_trans l m n h k = record { matrix = h.matrix ∙ k.matrix; along = h.along ∙ k.along; times = k.times +ℤ h.times; shift = on l.shift m.shift n.shift h.times k.times h.shift k.shift }
+same_trans l m n h k = record { matrix = h.matrix ∙ k.matrix; along = h.along ∙ k.along; times = k.times +ℤ h.times; translation = on l.translation m.translation n.translation h.times k.times h.translation k.translation }
   where
     on : (r s t i j : ℤ) → r ≡ s +ℤ i *ℤ UNIT → s ≡ t +ℤ j *ℤ UNIT → r ≡ t +ℤ (j +ℤ i) *ℤ UNIT
     on r s t i j e f = omega (arith, ints)
 
 same_followed : (l m n : RodOperation) → SameRod m n → SameRod (rod_followed_by l m) (rod_followed_by l n)
 same_followed l m n h = record {
-  matrix = λ i. (rod_followed_by l (record { matrix = h.matrix i; along = h.along i; shift = m.shift })).matrix;
-  along = λ i. (rod_followed_by l (record { matrix = h.matrix i; along = h.along i; shift = m.shift })).along;
+  matrix = λ i. (rod_followed_by l (record { matrix = h.matrix i; along = h.along i; translation = m.translation })).matrix;
+  along = λ i. (rod_followed_by l (record { matrix = h.matrix i; along = h.along i; translation = m.translation })).along;
   times = h.times;
-  shift = (λ i. sign_value (h.along i) *ℤ l.shift +ℤ h.shift i) ∙ on (sign_value n.along *ℤ l.shift) n.shift h.times;
+  translation = (λ i. sign_value (h.along i) *ℤ l.translation +ℤ h.translation i) ∙ on (sign_value n.along *ℤ l.translation) n.translation h.times;
 }
   where
     on : (x t k : ℤ) → x +ℤ (t +ℤ k *ℤ UNIT) ≡ x +ℤ t +ℤ k *ℤ UNIT
@@ -73,10 +73,10 @@ same_followed l m n h = record {
 
 same_before : (l m n : RodOperation) → SameRod m n → SameRod (rod_followed_by m l) (rod_followed_by n l)
 same_before l m n h = record {
-  matrix = λ i. (rod_followed_by (record { matrix = h.matrix i; along = h.along i; shift = m.shift }) l).matrix;
-  along = λ i. (rod_followed_by (record { matrix = h.matrix i; along = h.along i; shift = m.shift }) l).along;
+  matrix = λ i. (rod_followed_by (record { matrix = h.matrix i; along = h.along i; translation = m.translation }) l).matrix;
+  along = λ i. (rod_followed_by (record { matrix = h.matrix i; along = h.along i; translation = m.translation }) l).along;
   times = sign_value l.along *ℤ h.times;
-  shift = (λ i. sign_value l.along *ℤ h.shift i +ℤ l.shift) ∙ on (sign_value l.along) n.shift h.times l.shift;
+  translation = (λ i. sign_value l.along *ℤ h.translation i +ℤ l.translation) ∙ on (sign_value l.along) n.translation h.times l.translation;
 }
   where
     on : (e t k s : ℤ) → e *ℤ (t +ℤ k *ℤ UNIT) +ℤ s ≡ e *ℤ t +ℤ s +ℤ (e *ℤ k) *ℤ UNIT
@@ -121,7 +121,7 @@ module _ (g : Listing) (u : Vector) (f : Basis) (rods : List Motion) (group : Is
           sign = sign_value op.along;
           is_sign = sign_is_sign op.along;
           direction = keeps_direction m (sign_value op.along) acts.axis;
-          point = on_line m op.shift ((shift_is f at m op.shift).0 acts.shift);
+          point = on_line m op.translation ((shift_is f at m op.translation).0 acts.translation);
         },
       )
 
@@ -133,7 +133,7 @@ module _ (g : Listing) (u : Vector) (f : Basis) (rods : List Motion) (group : Is
       second = ap (multiple (pos 1)) (image-unit (levelled u f rods f.b).at) ∙ only_second (levelled u f rods f.a).at (levelled u f rods f.b).at;
     };
     axis = image-unit f.tau ∙ sym (multiple-one f.tau);
-    shift = (shift_is f at identity (pos 0)).1 (ap (λ v. multiple UNIT (minus (plus v origin) at)) (image-unit at) ∙ nothing at f.tau);
+    translation = (shift_is f at identity (pos 0)).1 (ap (λ v. multiple UNIT (minus (plus v origin) at)) (image-unit at) ∙ nothing at f.tau);
   }
     where
       only_first : (v w : Vector) → multiple (pos 1) v ≡ plus (multiple (pos 1) v) (multiple (pos 0) w)
@@ -147,7 +147,7 @@ module _ (g : Listing) (u : Vector) (f : Basis) (rods : List Motion) (group : Is
 
   differs_refl : (m : Motion) → DiffersAlong f m m
   unfolding plus multiple
-  differs_refl m = record { matrix = refl; times = pos 0; shift = vector_path (omega (arith, ints)) (omega (arith, ints)) (omega (arith, ints)) }
+  differs_refl m = record { matrix = refl; times = pos 0; translation = vector_path (omega (arith, ints)) (omega (arith, ints)) (omega (arith, ints)) }
 
   -- ---- the inverse of a motion
 
@@ -165,21 +165,21 @@ module _ (g : Listing) (u : Vector) (f : Basis) (rods : List Motion) (group : Is
         ∙ ap (λ (k : Motion). image k.matrix u) i.2 ∙ image-unit u)
 
     -- the drift of the inverse is that of the motion, turned and taken away
-    inverse_drift : multiple UNIT (drift i.0 at) ≡ multiple (negsuc 0 *ℤ (op.shift *ℤ e)) f.tau
+    inverse_drift : multiple UNIT (drift i.0 at) ≡ multiple (negsuc 0 *ℤ (op.translation *ℤ e)) f.tau
     unfolding plus multiple
     inverse_drift =
         let d = drift_product g u f rods group coprime frame are_rods at m i.0 in
         let still : drift identity at ≡ plus (image i.0.matrix (drift m at)) (drift i.0 at) = ap (λ k. drift k at) (sym i.2) ∙ d in
-        let turned : multiple UNIT (image i.0.matrix (drift m at)) ≡ multiple (op.shift *ℤ e) f.tau =
-        sym (image-multiple i.0.matrix UNIT (drift m at)) ∙ ap (image i.0.matrix) ((shift_is f at m op.shift).0 acts_m.shift)
-        ∙ image-multiple i.0.matrix op.shift f.tau ∙ ap (multiple op.shift) (multiple_turned u f.tau i.0.matrix frame.axis.times e frame.axis.is inverse_direction)
-        ∙ multiple-multiple op.shift e f.tau in
+        let turned : multiple UNIT (image i.0.matrix (drift m at)) ≡ multiple (op.translation *ℤ e) f.tau =
+        sym (image-multiple i.0.matrix UNIT (drift m at)) ∙ ap (image i.0.matrix) ((shift_is f at m op.translation).0 acts_m.translation)
+        ∙ image-multiple i.0.matrix op.translation f.tau ∙ ap (multiple op.translation) (multiple_turned u f.tau i.0.matrix frame.axis.times e frame.axis.is inverse_direction)
+        ∙ multiple-multiple op.translation e f.tau in
         let rest : minus (plus (image unit_matrix at) origin) at ≡ origin = ap (λ v. minus (plus v origin) at) (image-unit at) ∙ none at in
         let zero : origin ≡ plus (image i.0.matrix (drift m at)) (drift i.0 at) = sym rest ∙ still in
         vector_path
-        (one UNIT (image i.0.matrix (drift m at)).x (drift i.0 at).x (op.shift *ℤ e) f.tau.x (λ j. (zero j).x) (λ j. (turned j).x))
-        (one UNIT (image i.0.matrix (drift m at)).y (drift i.0 at).y (op.shift *ℤ e) f.tau.y (λ j. (zero j).y) (λ j. (turned j).y))
-        (one UNIT (image i.0.matrix (drift m at)).z (drift i.0 at).z (op.shift *ℤ e) f.tau.z (λ j. (zero j).z) (λ j. (turned j).z))
+        (one UNIT (image i.0.matrix (drift m at)).x (drift i.0 at).x (op.translation *ℤ e) f.tau.x (λ j. (zero j).x) (λ j. (turned j).x))
+        (one UNIT (image i.0.matrix (drift m at)).y (drift i.0 at).y (op.translation *ℤ e) f.tau.y (λ j. (zero j).y) (λ j. (turned j).y))
+        (one UNIT (image i.0.matrix (drift m at)).z (drift i.0 at).z (op.translation *ℤ e) f.tau.z (λ j. (zero j).z) (λ j. (turned j).z))
       where
         none : (v : Vector) → minus (plus v origin) v ≡ origin
         none v = vector_path (omega (arith, ints)) (omega (arith, ints)) (omega (arith, ints))
@@ -193,7 +193,7 @@ module _ (g : Listing) (u : Vector) (f : Basis) (rods : List Motion) (group : Is
     inverse_in =
         (stabiliser_by_direction g u p i.0 group coprime unit_positive).1 (
           i.1,
-          record { sign = e; is_sign = sign_is_sign op.along; direction = inverse_direction; point = on_line i.0 (negsuc 0 *ℤ (op.shift *ℤ e)) inverse_drift },
+          record { sign = e; is_sign = sign_is_sign op.along; direction = inverse_direction; point = on_line i.0 (negsuc 0 *ℤ (op.translation *ℤ e)) inverse_drift },
         )
 
   -- ---- a list of the stabiliser

@@ -36,7 +36,7 @@ turned v w k c e = vector_path (by v.x w.x c.x (λ i. (e i).x)) (by v.y w.y c.y 
         (given (num (negsuc 0)) (var 0 ⊕ num (negsuc 0) ⊗ var 1) (var 3 ⊗ var 2) ∷ []) tt (e, tt)
 
 pub differs_sym : (f : Basis) (m n : Motion) → DiffersAlong f m n → DiffersAlong f n m
-differs_sym f m n d = record { matrix = sym d.matrix; times = negsuc 0 *ℤ d.times; shift = turned m.shift n.shift d.times f.tau d.shift }
+differs_sym f m n d = record { matrix = sym d.matrix; times = negsuc 0 *ℤ d.times; translation = turned m.translation n.translation d.times f.tau d.translation }
 
 joined : (u v w : Vector) (k l : ℤ) (c : Vector) → minus u v ≡ multiple k c → minus v w ≡ multiple l c → minus u w ≡ multiple (k +ℤ l) c
 unfolding plus multiple
@@ -51,7 +51,7 @@ joined u v w k l c e h =
 
 pub differs_trans : (f : Basis) (k m n : Motion) → DiffersAlong f k m → DiffersAlong f m n → DiffersAlong f k n
 differs_trans f k m n d e =
-    record { matrix = d.matrix ∙ e.matrix; times = d.times +ℤ e.times; shift = joined k.shift m.shift n.shift d.times e.times f.tau d.shift e.shift }
+    record { matrix = d.matrix ∙ e.matrix; times = d.times +ℤ e.times; translation = joined k.translation m.translation n.translation d.times e.times f.tau d.translation e.translation }
 
 -- ---- the motion at home
 
@@ -80,18 +80,18 @@ home_is f v q =
 
 pub rod_home_at_home : (f : Basis) → pos 1 ≤ℤ volume f → (m : Motion) → IsAtRodHome f (rod_home f m)
 rod_home_at_home f positive m =
-    let s = scaled f m.shift in
-    let q = whole_turns f m.shift in record {
+    let s = scaled f m.translation in
+    let q = whole_turns f m.translation in record {
       over = volume f;
       positive = positive;
       by = record { x = s.x; y = s.y; z = s.z -ℤ volume f *ℤ q };
-      is = home_is f m.shift q;
+      is = home_is f m.translation q;
       z_from = div_euclid_from s.z (volume f) positive;
       z_below = div_euclid_below s.z (volume f) positive;
     }
 
 pub rod_home_differs : (f : Basis) (m : Motion) → DiffersAlong f m (rod_home f m)
-rod_home_differs f m = record { matrix = refl; times = whole_turns f m.shift; shift = minus-minus m.shift (multiple (whole_turns f m.shift) f.tau) }
+rod_home_differs f m = record { matrix = refl; times = whole_turns f m.translation; translation = minus-minus m.translation (multiple (whole_turns f m.translation) f.tau) }
 
 -- two vectors over o and o' with coordinates along the axis differ by k c
 coordinates_apart : (f : Basis) (o o' k : ℤ) (v w p q : Vector) → minus v w ≡ multiple k f.tau → combination f p ≡ multiple o v → combination f q ≡ multiple o' w
@@ -115,14 +115,14 @@ module _ (g : Listing) (u : Vector) (f : Basis) (frame : IsRodFrame g u f) where
   rod_home_once m n p q differs =
       let k = p.over *ℤ q.over *ℤ differs.times in
       let apart = frame.once (minus (multiple q.over p.by) (multiple p.over q.by)) (along k)
-      (coordinates_apart f p.over q.over differs.times m.shift n.shift p.by q.by differs.shift p.is q.is) in
+      (coordinates_apart f p.over q.over differs.times m.translation n.translation p.by q.by differs.translation p.is q.is) in
       let zero = fractional_parts p.over q.over p.by.z q.by.z differs.times p.z_from p.z_below q.z_from q.z_below (z_apart p.over q.over p.by q.by k apart) in
-      motion_path differs.matrix (differ_by_none m.shift n.shift differs.times f.tau differs.shift zero)
+      motion_path differs.matrix (differ_by_none m.translation n.translation differs.times f.tau differs.translation zero)
 
   -- ---- motions that differ from a member
 
   pub differs_same : (m n : Motion) → DiffersAlong f m n → SameModulo g m n
-  differs_same m n d = record { matrix = d.matrix; shift = subst (IsInLattice g) (sym d.shift) (lattice-multiple g d.times f.tau frame.axis.inside) }
+  differs_same m n d = record { matrix = d.matrix; translation = subst (IsInLattice g) (sym d.translation) (lattice-multiple g d.times f.tau frame.axis.inside) }
 
 nothing : (v c : Vector) → minus v v ≡ multiple (pos 0) c
 unfolding plus multiple
@@ -167,32 +167,32 @@ module _ (g : Listing) (u : Vector) (f : Basis) (group : IsGroup g) (coprime : I
       let t = frame.axis.times in
       in_by_drift g u f group coprime frame at n (on.by.den *ℤ t) (on.by.num *ℤ UNIT +ℤ on.by.den *ℤ (differs.times *ℤ t))
       (same_member g n m (differs_same g u f frame n m differs) in_it.0)
-      (subst (λ w. KeepsDirection u (record { matrix = w; shift = n.shift })) (sym differs.matrix) (keeps_direction_of g u f group coprime frame at m in_it))
+      (subst (λ w. KeepsDirection u (record { matrix = w; translation = n.translation })) (sym differs.matrix) (keeps_direction_of g u f group coprime frame at m in_it))
       (one-le-mul on.by.den t on.is_fraction frame.axis.positive)
-      (moved_drift on.by.den (on.by.num *ℤ UNIT) differs.times t (drift n at) (drift m at) (minus n.shift m.shift) f.tau u
-      (drift_same at n m differs.matrix) differs.shift frame.axis.is (drift_on_line u at m on))
+      (moved_drift on.by.den (on.by.num *ℤ UNIT) differs.times t (drift n at) (drift m at) (minus n.translation m.translation) f.tau u
+      (drift_same at n m differs.matrix) differs.translation frame.axis.is (drift_on_line u at m on))
 
   -- a member that maps the line to itself, moved by whole axes so that it is near
   pub near_of : (m : Motion) → InLineStabiliser g u (counted at) m → (n : Motion) × InLineStabiliser g u (counted at) n × IsNear f at n × DiffersAlong f m n
   near_of m in_it =
       let on = ((stabiliser_by_direction g u (counted at) m group coprime unit_positive).0 in_it).1.point in
       let t = frame.axis.times in
-      let e = moved_drift on.by.den (on.by.num *ℤ UNIT) (pos 0) t (drift m at) (drift m at) (minus m.shift m.shift) f.tau u
-      (drift_same at m m refl) (nothing m.shift f.tau) frame.axis.is (drift_on_line u at m on) in
+      let e = moved_drift on.by.den (on.by.num *ℤ UNIT) (pos 0) t (drift m at) (drift m at) (minus m.translation m.translation) f.tau u
+      (drift_same at m m refl) (nothing m.translation f.tau) frame.axis.is (drift_on_line u at m on) in
       let b = on.by.den *ℤ t in
       let a = on.by.num *ℤ UNIT +ℤ on.by.den *ℤ (pos 0 *ℤ t) in
       let positive = one-le-mul on.by.den t on.is_fraction frame.axis.positive in
       let (q, from, below) = floor a b positive in
-      let n : Motion = record { matrix = m.matrix; shift = minus m.shift (multiple q f.tau) } in
-      let shift : minus n.shift m.shift ≡ multiple (negsuc 0 *ℤ q) f.tau = turned m.shift n.shift q f.tau (minus-minus m.shift (multiple q f.tau)) in
-      let differs : DiffersAlong f n m = record { matrix = refl; times = negsuc 0 *ℤ q; shift = shift } in (
+      let n : Motion = record { matrix = m.matrix; translation = minus m.translation (multiple q f.tau) } in
+      let shift : minus n.translation m.translation ≡ multiple (negsuc 0 *ℤ q) f.tau = turned m.translation n.translation q f.tau (minus-minus m.translation (multiple q f.tau)) in
+      let differs : DiffersAlong f n m = record { matrix = refl; times = negsuc 0 *ℤ q; translation = shift } in (
         n,
         differs_stabiliser m n differs in_it,
         record {
           over = b;
           positive = positive;
           by = a -ℤ b *ℤ q;
-          is = less b a q (drift n at) (drift m at) (minus n.shift m.shift) f.tau (drift_same at n m refl) shift e;
+          is = less b a q (drift n at) (drift m at) (minus n.translation m.translation) f.tau (drift_same at n m refl) shift e;
           from = from;
           below = below;
         },

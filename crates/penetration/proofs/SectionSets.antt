@@ -24,7 +24,7 @@ use Rattle.penetration.proofs.RodGroups.{in_stabiliser, listed_op, motion_of_op}
 
 -- the motion, and then so many times the axis
 abbrev further : Basis → Motion → ℤ → Motion
-further f m k = record { matrix = m.matrix; shift = plus m.shift (multiple k f.tau) }
+further f m k = record { matrix = m.matrix; translation = plus m.translation (multiple k f.tau) }
 
 -- one coordinate: the translation in rationals, from that in parts
 rational : (n t s d wx w x c : ℤ) → n *ℤ ((wx +ℤ w) +ℤ negsuc 0 *ℤ x) ≡ t *ℤ c → s *ℤ n ≡ t *ℤ d
@@ -40,9 +40,9 @@ pub rational_shift : (f : Basis) (at : Vector) (m : Motion) (t : ℤ) (q : Fract
 unfolding plus multiple
 rational_shift f at m t q e h =
     vector_path
-    (rational UNIT t q.num q.den (image m.matrix at).x m.shift.x at.x f.tau.x (λ i. (e i).x) h)
-    (rational UNIT t q.num q.den (image m.matrix at).y m.shift.y at.y f.tau.y (λ i. (e i).y) h)
-    (rational UNIT t q.num q.den (image m.matrix at).z m.shift.z at.z f.tau.z (λ i. (e i).z) h)
+    (rational UNIT t q.num q.den (image m.matrix at).x m.translation.x at.x f.tau.x (λ i. (e i).x) h)
+    (rational UNIT t q.num q.den (image m.matrix at).y m.translation.y at.y f.tau.y (λ i. (e i).y) h)
+    (rational UNIT t q.num q.den (image m.matrix at).z m.translation.z at.z f.tau.z (λ i. (e i).z) h)
 
 -- the matrix across the axis, written over another number
 scaled_across : (u : Vector) (f : Basis) (rods : List Motion) (w : Matrix) (a : Matrix2) (n : ℤ) → IsAcross u f rods w a (pos 1) → IsAcross u f rods w (multiple2 n a) n
@@ -68,15 +68,15 @@ module _ (g : Listing) (u : Vector) (f : Basis) (rods : List Motion) (group : Is
   further_member : (m : Motion) (k : ℤ) → IsMember g m → IsMember g (further f m k)
   further_member m k member =
       same_member g (further f m k) m
-      (record { matrix = refl; shift = subst (IsInLattice g) (sym (plus-minus_first m.shift (multiple k f.tau))) (lattice-multiple g k f.tau frame.axis.inside) }) member
+      (record { matrix = refl; translation = subst (IsInLattice g) (sym (plus-minus_first m.translation (multiple k f.tau))) (lattice-multiple g k f.tau frame.axis.inside) }) member
 
   further_drift : (m : Motion) (t k : ℤ) → multiple UNIT (drift m at) ≡ multiple t f.tau → multiple UNIT (drift (further f m k) at) ≡ multiple (t +ℤ k *ℤ UNIT) f.tau
   unfolding plus multiple
   further_drift m t k e =
       vector_path
-      (one UNIT (image m.matrix at).x m.shift.x at.x t k f.tau.x (λ i. (e i).x))
-      (one UNIT (image m.matrix at).y m.shift.y at.y t k f.tau.y (λ i. (e i).y))
-      (one UNIT (image m.matrix at).z m.shift.z at.z t k f.tau.z (λ i. (e i).z))
+      (one UNIT (image m.matrix at).x m.translation.x at.x t k f.tau.x (λ i. (e i).x))
+      (one UNIT (image m.matrix at).y m.translation.y at.y t k f.tau.y (λ i. (e i).y))
+      (one UNIT (image m.matrix at).z m.translation.z at.z t k f.tau.z (λ i. (e i).z))
     where
       one : (n wx w x t k c : ℤ) → n *ℤ ((wx +ℤ w) +ℤ negsuc 0 *ℤ x) ≡ t *ℤ c → n *ℤ ((wx +ℤ (w +ℤ k *ℤ c)) +ℤ negsuc 0 *ℤ x) ≡ (t +ℤ k *ℤ n) *ℤ c
       one n wx w x t k c e =
@@ -95,10 +95,10 @@ module _ (g : Listing) (u : Vector) (f : Basis) (rods : List Motion) (group : Is
           listed = listed;
           matrix = matrix ∙ ap (multiple2 op.over) (same.matrix ∙ ap (λ (o : RodOperation). o.matrix) (sym is));
           along = along ∙ same.along ∙ ap (λ (o : RodOperation). o.along) (sym is);
-          shift = (
+          translation = (
             same.times,
-            to_list UNIT (rod_of r).shift op.shift.num op.shift.den same.times
-                (shift ∙ ap (λ x. x *ℤ op.shift.den) (same.shift ∙ ap (λ (o : RodOperation). o.shift +ℤ same.times *ℤ UNIT) (sym is))),
+            to_list UNIT (rod_of r).translation op.translation.num op.translation.den same.times
+                (shift ∙ ap (λ x. x *ℤ op.translation.den) (same.translation ∙ ap (λ (o : RodOperation). o.translation +ℤ same.times *ℤ UNIT) (sym is))),
           );
         }
 
@@ -106,17 +106,17 @@ module _ (g : Listing) (u : Vector) (f : Basis) (rods : List Motion) (group : Is
     from_listed op h =
         let like = rod_of h.motion in
         let (m, in_it, acts_m) = motion_of_op g u f rods group coprime frame are_rods at ms (map rod_of section) lists sections like (contains_rod section h.motion h.listed) in
-        let (k, e) = h.shift in
+        let (k, e) = h.translation in
         let n = further f m k in
-        let drifts = further_drift m like.shift k ((shift_is f at m like.shift).0 acts_m.shift) in
+        let drifts = further_drift m like.translation k ((shift_is f at m like.translation).0 acts_m.translation) in
         record {
           motion = n;
-          in_stabiliser = in_stabiliser g u f rods group coprime frame are_rods at n (record like { shift = like.shift +ℤ k *ℤ UNIT }) (further_member m k in_it.0)
-              (record { across = acts_m.across; axis = acts_m.axis; shift = (shift_is f at n (like.shift +ℤ k *ℤ UNIT)).1 drifts });
+          in_stabiliser = in_stabiliser g u f rods group coprime frame are_rods at n (record like { translation = like.translation +ℤ k *ℤ UNIT }) (further_member m k in_it.0)
+              (record { across = acts_m.across; axis = acts_m.axis; translation = (shift_is f at n (like.translation +ℤ k *ℤ UNIT)).1 drifts });
           acts = record {
             across = subst (λ a. IsAcross u f rods m.matrix a op.over) (sym h.matrix) (scaled_across u f rods m.matrix like.matrix op.over acts_m.across);
             axis = acts_m.axis ∙ ap (λ s. multiple (sign_value s) f.tau) (sym h.along);
-            shift = rational_shift f at n (like.shift +ℤ k *ℤ UNIT) op.shift drifts (from_list UNIT like.shift op.shift.num op.shift.den k e);
+            translation = rational_shift f at n (like.translation +ℤ k *ℤ UNIT) op.translation drifts (from_list UNIT like.translation op.translation.num op.translation.den k e);
           };
         }
 

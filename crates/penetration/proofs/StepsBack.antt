@@ -71,7 +71,7 @@ one_within w t x a b c h k l = subst (IsWithin (a + b + c)) (by w t x) (IsWithin
     by w t x = omega (arith, ints)
 
 pub near_within : (f : Basis) (at c : Vector) (m : Motion) → AreStepsBack f (drift m at) c → IsMatrixWithin 50 m.matrix → IsVectorWithin largest_entry at
-    → IsVectorWithin largest_entry f.tau → IsVectorWithin (2 ^ 23) (taken_back f c m).shift
+    → IsVectorWithin largest_entry f.tau → IsVectorWithin (2 ^ 23) (taken_back f c m).translation
 unfolding plus multiple
 near_within f at c m steps matrix point axis =
     let n = taken_back f c m in
@@ -80,15 +80,15 @@ near_within f at c m steps matrix point axis =
     let turned = image_within matrix point in
     record {
       x = IsWithin-more
-          (one_within (image m.matrix at).x n.shift.x at.x largest_entry _ largest_entry
+          (one_within (image m.matrix at).x n.translation.x at.x largest_entry _ largest_entry
           (rest_within (volume f) (drift n at).x r f.tau.x largest_entry steps.from steps.below (λ i. (e i).x) axis.x) turned.x point.x)
           (lit≤ tt);
       y = IsWithin-more
-          (one_within (image m.matrix at).y n.shift.y at.y largest_entry _ largest_entry
+          (one_within (image m.matrix at).y n.translation.y at.y largest_entry _ largest_entry
           (rest_within (volume f) (drift n at).y r f.tau.y largest_entry steps.from steps.below (λ i. (e i).y) axis.y) turned.y point.y)
           (lit≤ tt);
       z = IsWithin-more
-          (one_within (image m.matrix at).z n.shift.z at.z largest_entry _ largest_entry
+          (one_within (image m.matrix at).z n.translation.z at.z largest_entry _ largest_entry
           (rest_within (volume f) (drift n at).z r f.tau.z largest_entry steps.from steps.below (λ i. (e i).z) axis.z) turned.z point.z)
           (lit≤ tt);
     }

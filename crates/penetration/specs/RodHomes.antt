@@ -19,7 +19,7 @@ pub record IsAtRodHome (f : Basis) (m : Motion) : Type 0 where
   pub over : ℤ
   pub positive : pos 1 ≤ℤ over
   pub by : Vector
-  pub is : combination f by ≡ multiple over m.shift
+  pub is : combination f by ≡ multiple over m.translation
   pub z_from : pos 0 ≤ℤ by.z
   pub z_below : by.z <ℤ over
 
@@ -50,7 +50,7 @@ IsAlongAxis f v = (k : ℤ) × (multiple k f.tau ≡ v)
 -- the motion is the translation by a whole multiple of the axis
 pub record IsAxisShift (f : Basis) (m : Motion) : Type 0 where
   pub matrix : m.matrix ≡ unit_matrix
-  pub shift : IsAlongAxis f m.shift
+  pub translation : IsAlongAxis f m.translation
 
 -- how often the vector has a whole axis: its coordinate along the axis, rounded down
 abbrev pub whole_turns : Basis → Vector → ℤ
@@ -62,7 +62,7 @@ rod_home_shift f v = minus v (multiple (whole_turns f v) f.tau)
 
 -- the motion with its translation so reduced
 abbrev pub rod_home : Basis → Motion → Motion
-rod_home f m = record { matrix = m.matrix; shift = rod_home_shift f m.shift }
+rod_home f m = record { matrix = m.matrix; translation = rod_home_shift f m.translation }
 
 -- the code's motion for the same
 abbrev pub rod_home_of : Basis → Motion3 → Motion3
@@ -71,4 +71,4 @@ rod_home_of f m = record { w = m.w; t = of_vector (rod_home_shift f (parts m.t))
 -- a near motion is small: its matrix entries are at most MAX_ENTRY, and its translations at most 2^23 parts in size
 pub record IsNearSmall (m : Motion) : Type 0 where
   pub motion : IsSmallWithin (unsigned_abs MAX_ENTRY) m
-  pub shift : IsVectorWithin (2 ^ 23) m.shift
+  pub translation : IsVectorWithin (2 ^ 23) m.translation

@@ -30,8 +30,8 @@ translation3 v = record {
 }
 
 -- the translation by a whole multiple of the axis is a shift
-shift_by : (f : Basis) (v : Vector) → IsAlongAxis f v → axis_shift f (record { matrix = unit_matrix; shift = v })
-shift_by f v h = (translation3 v, record { matrix = refl; shift = h }, refl)
+shift_by : (f : Basis) (v : Vector) → IsAlongAxis f v → axis_shift f (record { matrix = unit_matrix; translation = v })
+shift_by f v h = (translation3 v, record { matrix = refl; translation = h }, refl)
 
 shift_is : (f : Basis) (s : Motion) → axis_shift f s → IsAxisShift f s
 shift_is f s (m, h, e) = subst (IsAxisShift f) e h
@@ -58,16 +58,16 @@ axis_shifts f = record {
   products = λ s t h k.
       let p = shift_is f s h in
       let q = shift_is f t k in
-      subst (axis_shift f) (sym (followed_by-translation s t q.matrix ∙ ap (λ w. record { matrix = w; shift = plus s.shift t.shift }) p.matrix))
-      (shift_by f (plus s.shift t.shift) (axis-plus f s.shift t.shift p.shift q.shift));
+      subst (axis_shift f) (sym (followed_by-translation s t q.matrix ∙ ap (λ w. record { matrix = w; translation = plus s.translation t.translation }) p.matrix))
+      (shift_by f (plus s.translation t.translation) (axis-plus f s.translation t.translation p.translation q.translation));
   inverses = λ s h.
       let p = shift_is f s h in
-      let back : Motion = record { matrix = unit_matrix; shift = opposite s.shift } in (
+      let back : Motion = record { matrix = unit_matrix; translation = opposite s.translation } in (
         back,
-        shift_by f (opposite s.shift) (axis-multiple f (negsuc 0) s.shift p.shift),
+        shift_by f (opposite s.translation) (axis-multiple f (negsuc 0) s.translation p.translation),
         record {
-          after = followed_by-translation s back refl ∙ motion_path p.matrix (minus-same s.shift);
-          before = followed_by-translation back s p.matrix ∙ motion_path refl (opposite-plus_same s.shift);
+          after = followed_by-translation s back refl ∙ motion_path p.matrix (minus-same s.translation);
+          before = followed_by-translation back s p.matrix ∙ motion_path refl (opposite-plus_same s.translation);
         },
       );
 }
@@ -76,7 +76,7 @@ pub axis_home_is_same : (f : Basis) (m : Motion3) → IsSame (axis_kind f) (moti
 axis_home_is_same f m =
     let q = whole_turns f (parts m.t) in
     let whole = multiple q f.tau in
-    let back : Motion = record { matrix = unit_matrix; shift = opposite whole } in record {
+    let back : Motion = record { matrix = unit_matrix; translation = opposite whole } in record {
       shift = back;
       is_shift = shift_by f (opposite whole) (axis-multiple f (negsuc 0) whole (q, refl));
       is = sym (followed_by-translation (motion_of m) back refl);
@@ -113,9 +113,9 @@ axis_homes f spans m n = (to, from)
     to : IsSame (axis_kind f) (motion_of m) (motion_of n) → motion_of (rod_home_of f m) ≡ motion_of (rod_home_of f n)
     to p =
         let s = shift_is f p.shift p.is_shift in
-        let (k, e) = s.shift in
+        let (k, e) = s.translation in
         let is = p.is ∙ followed_by-translation (motion_of n) p.shift s.matrix in
-        let moved : parts m.t ≡ plus (parts n.t) (multiple k f.tau) = ap (λ (k : Motion). k.shift) is ∙ ap (plus (parts n.t)) (sym e) in
+        let moved : parts m.t ≡ plus (parts n.t) (multiple k f.tau) = ap (λ (k : Motion). k.translation) is ∙ ap (plus (parts n.t)) (sym e) in
         motion_path (ap (λ (k : Motion). k.matrix) is) (ap (rod_home_shift f) moved ∙ moved_home f spans (parts n.t) k)
 
     from : motion_of (rod_home_of f m) ≡ motion_of (rod_home_of f n) → IsSame (axis_kind f) (motion_of m) (motion_of n)
@@ -123,12 +123,12 @@ axis_homes f spans m n = (to, from)
         let p = whole_turns f (parts m.t) in
         let q = whole_turns f (parts n.t) in
         let apart = minus (multiple p f.tau) (multiple q f.tau) in
-        let s : Motion = record { matrix = unit_matrix; shift = apart } in record {
+        let s : Motion = record { matrix = unit_matrix; translation = apart } in record {
           shift = s;
           is_shift = shift_by f apart (axis-plus f (multiple p f.tau) (opposite (multiple q f.tau)) (p, refl)
               (axis-multiple f (negsuc 0) (multiple q f.tau) (q, refl)));
           is = motion_path (ap (λ (k : Motion). k.matrix) e)
-              (exchanged (parts m.t) (parts n.t) (multiple p f.tau) (multiple q f.tau) (ap (λ (k : Motion). k.shift) e))
+              (exchanged (parts m.t) (parts n.t) (multiple p f.tau) (multiple q f.tau) (ap (λ (k : Motion). k.translation) e))
               ∙ sym (followed_by-translation (motion_of n) s refl);
         }
 
@@ -137,17 +137,17 @@ pub axis_keeps : (f : Basis) (m : Motion) → IsAlongAxis f (image m.matrix f.ta
 axis_keeps f m = (
   λ along t h.
       let p = shift_is f t h in
-      let v = image m.matrix t.shift in
-      let s : Motion = record { matrix = unit_matrix; shift = v } in (
+      let v = image m.matrix t.translation in
+      let s : Motion = record { matrix = unit_matrix; translation = v } in (
         s,
-        shift_by f v (subst (IsAlongAxis f) (sym (image-multiple m.matrix p.shift.0 f.tau) ∙ ap (image m.matrix) p.shift.1)
-            (axis-multiple f p.shift.0 (image m.matrix f.tau) along)),
-        translation-followed_by m t p.matrix ∙ motion_path refl (plus_comm v m.shift) ∙ sym (followed_by-translation m s refl),
+        shift_by f v (subst (IsAlongAxis f) (sym (image-multiple m.matrix p.translation.0 f.tau) ∙ ap (image m.matrix) p.translation.1)
+            (axis-multiple f p.translation.0 (image m.matrix f.tau) along)),
+        translation-followed_by m t p.matrix ∙ motion_path refl (plus_comm v m.translation) ∙ sym (followed_by-translation m s refl),
       ),
   λ keeps.
-      let t : Motion = record { matrix = unit_matrix; shift = f.tau } in
+      let t : Motion = record { matrix = unit_matrix; translation = f.tau } in
       let (s, is, e) = keeps t (shift_by f f.tau (pos 1, multiple-one f.tau)) in
       let p = shift_is f s is in
       let same = sym (translation-followed_by m t refl) ∙ e ∙ followed_by-translation m s p.matrix in
-      subst (IsAlongAxis f) (cancelled (image m.matrix f.tau) m.shift s.shift (ap (λ (k : Motion). k.shift) same)) p.shift,
+      subst (IsAlongAxis f) (cancelled (image m.matrix f.tau) m.translation s.translation (ap (λ (k : Motion). k.translation) same)) p.translation,
 )

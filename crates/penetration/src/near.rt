@@ -42,14 +42,14 @@ pub(crate) fn drift(m: &Motion3, point: &[Part; 3]) -> [Part; 3]
 }
 
 /// An entry of it.
-fn drift_along(turned: Part, shift: Part, point: Part) -> Part
+fn drift_along(turned: Part, translation: Part, point: Part) -> Part
     requires turned { IsWithin largest_turned turned.0 }
-    requires shift { IsWithin (2 ^ 40) shift.0 }
+    requires translation { IsWithin (2 ^ 40) translation.0 }
     requires point { IsWithin largest_entry point.0 }
-    ensures is { result.0 ≡ turned.0 +ℤ shift.0 -ℤ point.0 }
+    ensures is { result.0 ≡ turned.0 +ℤ translation.0 -ℤ point.0 }
     ensures small { IsWithin (2 ^ 46) result.0 }
 {
-    Part(turned.0 + shift.0 - point.0)
+    Part(turned.0 + translation.0 - point.0)
 }
 
 /// The whole steps along a and b, and the whole axes, that lead back along the line. None comes exactly where the
@@ -71,7 +71,7 @@ fn steps_back(dual: &DualBasis, v: &[Part; 3]) -> Option<[i128; 3]>
 /// comes exactly where there is none.
 pub(crate) fn near_member(frame: &RodFrame, m: &Motion3, point: &[Part; 3]) -> Option<Motion3>
     requires motion { IsSmallWithin (unsigned_abs MAX_ENTRY) (motion_of m.now) }
-    requires reduced { IsVectorWithin (unsigned_abs UNIT) (motion_of m.now).shift }
+    requires reduced { IsVectorWithin (unsigned_abs UNIT) (motion_of m.now).translation }
     requires point { IsVectorWithin largest_entry (parts point.now) }
     ensures choice { (g : Listing) → IsGroup g →
         IsRodFrame g (direction_of frame.now.direction) (basis_of_rod frame.now) →

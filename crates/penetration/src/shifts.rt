@@ -35,12 +35,12 @@ impl Quotient for RodFrame {
     /// The motion at home that differs from this one by a whole multiple of the axis: its translation is x a + y b + k c
     /// with k from 0 to below 1.
     fn home(&self, m: &Motion3) -> Motion3
-        requires { IsVectorWithin (2 ^ 23) (motion_of m.now).shift }
+        requires { IsVectorWithin (2 ^ 23) (motion_of m.now).translation }
         ensures value { motion_of result ≡ motion_of (rod_home_of (basis_of_rod self.now) m.now) }
         ensures at_home { IsAtRodHome (basis_of_rod self.now) (motion_of result) }
         ensures differs { DiffersAlong (basis_of_rod self.now) (motion_of m.now)
             (motion_of result) }
-        ensures small { IsVectorWithin (2 ^ 62) (motion_of result).shift }
+        ensures small { IsVectorWithin (2 ^ 62) (motion_of result).translation }
     {
         let dual = self.dual();
         let [_, _, z] = dual.scaled(&m.t);

@@ -46,14 +46,14 @@ reduced_zero v level reduced =
     whole = subst (Divides (unsigned_abs UNIT)) (omega (arith, ints)) level
 
 -- so an upright motion whose translation is such a vector is flat
-reduced_flat : (m : Motion) → IsUpright m → residue m.shift ≡ m.shift → IsFlat m
+reduced_flat : (m : Motion) → IsUpright m → residue m.translation ≡ m.translation → IsFlat m
 reduced_flat m p reduced = record {
   row_x = p.row_x;
   row_y = p.row_y;
   row_z = p.row_z;
   column_x = p.column_x;
   column_y = p.column_y;
-  shift = reduced_zero m.shift p.level reduced;
+  translation = reduced_zero m.translation p.level reduced;
 }
 
 module _ (g : Listing) (flat : IsFlatListing g) where
@@ -66,7 +66,7 @@ module _ (g : Listing) (flat : IsFlatListing g) where
   made_level : (v : Vector) → Generates g v → IsLevel v
   made_level v (inl edge) = let whole = edge-whole v edge in whole.z
   made_level v (inr (inl centring)) = centring_level v centring
-  made_level v (inr (inr listed)) = let is = operation_flat (translation v) listed in level_if_zero v is.shift
+  made_level v (inr (inr listed)) = let is = operation_flat (translation v) listed in level_if_zero v is.translation
 
   pub listing_flat : IsFlatGroup g
   listing_flat = record { operations = operation_flat; heights = lattice_level g made_level }
@@ -88,8 +88,8 @@ module _ (g : Listing) (flat : IsFlatListing g) where
   factor_upright m (generator is) = flat-upright m (operation_flat m is)
   factor_upright m (inverse k is back) = upright-inverse k m back.after back.before (flat-upright k (operation_flat k is))
   factor_upright m (shift (e, inside)) =
-      subst IsUpright (λ i. record { matrix = sym e i; shift = m.shift })
-      (translation_upright m.shift (lattice_level (centrings_alone g.centrings) alone_level m.shift inside))
+      subst IsUpright (λ i. record { matrix = sym e i; translation = m.translation })
+      (translation_upright m.translation (lattice_level (centrings_alone g.centrings) alone_level m.translation inside))
 
   generated_upright : (m : Motion) → IsGenerated g m → IsUpright m
   generated_upright _ empty = identity_upright
@@ -98,7 +98,7 @@ module _ (g : Listing) (flat : IsFlatListing g) where
   pub derived_flat : (h : Listing) → IsDerivedListing g h → IsFlatGroup h
   derived_flat h d = record {
     operations = λ m is.
-        let least = All-contains (λ (m : Motion). IsLeast g m.shift) h.ops m d.ops.order.home is in
+        let least = All-contains (λ (m : Motion). IsLeast g m.translation) h.ops m d.ops.order.home is in
         reduced_flat m (generated_upright m (All-contains (IsGenerated g) h.ops m d.ops.inside is)) least.reduced;
     heights = λ t is.
         let up = generated_upright (translation t) ((d.lattice t).1 is) in

@@ -20,7 +20,7 @@ pub record IsUpright (m : Motion) : Type 0 where
   pub row_z : m.matrix.third.z ≡ pos 1
   pub column_x : m.matrix.first.z ≡ pos 0
   pub column_y : m.matrix.second.z ≡ pos 0
-  pub level : IsLevel m.shift
+  pub level : IsLevel m.translation
 
 -- ---- sums of three products with the third row or column of the unit matrix
 
@@ -49,7 +49,7 @@ flat-upright m flat = record {
   row_z = flat.row_z;
   column_x = flat.column_x;
   column_y = flat.column_y;
-  level = subst (Divides (unsigned_abs UNIT)) (sym flat.shift) (Divides-zero (unsigned_abs UNIT));
+  level = subst (Divides (unsigned_abs UNIT)) (sym flat.translation) (Divides-zero (unsigned_abs UNIT));
 }
 
 pub upright-product : (m n : Motion) → IsUpright m → IsUpright n → IsUpright (followed_by m n)
@@ -60,8 +60,8 @@ upright-product m n p q = record {
   row_z = third m.matrix.first.z m.matrix.second.z m.matrix.third.z ∙ p.row_z;
   column_x = by_column n.matrix.first.x n.matrix.first.y n.matrix.first.z m.matrix.first.z m.matrix.second.z m.matrix.third.z p.column_x p.column_y p.row_z ∙ q.column_x;
   column_y = by_column n.matrix.second.x n.matrix.second.y n.matrix.second.z m.matrix.first.z m.matrix.second.z m.matrix.third.z p.column_x p.column_y p.row_z ∙ q.column_y;
-  level = Divides-add (unsigned_abs UNIT) (dot n.matrix.third m.shift) n.shift.z
-      (subst (Divides (unsigned_abs UNIT)) (sym (third m.shift.x m.shift.y m.shift.z)) p.level) q.level;
+  level = Divides-add (unsigned_abs UNIT) (dot n.matrix.third m.translation) n.translation.z
+      (subst (Divides (unsigned_abs UNIT)) (sym (third m.translation.x m.translation.y m.translation.z)) p.level) q.level;
 }
   where
     third : (x y z : ℤ) → n.matrix.third.x *ℤ x +ℤ n.matrix.third.y *ℤ y +ℤ n.matrix.third.z *ℤ z ≡ z
@@ -75,7 +75,7 @@ upright-inverse m n after before p = record {
   row_z = row_z;
   column_x = sym (last n.matrix.first.x n.matrix.first.y n.matrix.first.z) ∙ ap (λ (k : Motion). k.matrix.first.z) after;
   column_y = sym (last n.matrix.second.x n.matrix.second.y n.matrix.second.z) ∙ ap (λ (k : Motion). k.matrix.second.z) after;
-  level = subst (Divides (unsigned_abs UNIT)) back (Divides-multiple (unsigned_abs UNIT) (negsuc 0) m.shift.z p.level);
+  level = subst (Divides (unsigned_abs UNIT)) back (Divides-multiple (unsigned_abs UNIT) (negsuc 0) m.translation.z p.level);
 }
   where
     third : (x y z : ℤ) → m.matrix.third.x *ℤ x +ℤ m.matrix.third.y *ℤ y +ℤ m.matrix.third.z *ℤ z ≡ z
@@ -93,9 +93,9 @@ upright-inverse m n after before p = record {
     row_z : n.matrix.third.z ≡ pos 1
     row_z = sym (third n.matrix.first.z n.matrix.second.z n.matrix.third.z) ∙ ap (λ (k : Motion). k.matrix.third.z) before
 
-    back : negsuc 0 *ℤ m.shift.z ≡ n.shift.z
+    back : negsuc 0 *ℤ m.translation.z ≡ n.translation.z
     back =
-        let sum : m.shift.z +ℤ n.shift.z ≡ pos 0 =
-        ap (λ z. z +ℤ n.shift.z) (sym (by_row n.matrix.third.x n.matrix.third.y n.matrix.third.z m.shift.x m.shift.y m.shift.z row_x row_y row_z))
-        ∙ ap (λ (k : Motion). k.shift.z) after in
+        let sum : m.translation.z +ℤ n.translation.z ≡ pos 0 =
+        ap (λ z. z +ℤ n.translation.z) (sym (by_row n.matrix.third.x n.matrix.third.y n.matrix.third.z m.translation.x m.translation.y m.translation.z row_x row_y row_z))
+        ∙ ap (λ (k : Motion). k.translation.z) after in
         omega (arith, ints)

@@ -53,12 +53,12 @@ pub home_at_home : (f : Basis) → pos 1 ≤ℤ volume f → (m : Motion) → Is
 home_at_home f h m = record {
   over = volume f;
   positive = h;
-  by = rest f m.shift;
-  is = combination-rest f m.shift;
-  x_from = rest_from_x f h m.shift;
-  x_below = rest_below_x f h m.shift;
-  y_from = rest_from_y f h m.shift;
-  y_below = rest_below_y f h m.shift;
+  by = rest f m.translation;
+  is = combination-rest f m.translation;
+  x_from = rest_from_x f h m.translation;
+  x_below = rest_below_x f h m.translation;
+  y_from = rest_from_y f h m.translation;
+  y_below = rest_below_y f h m.translation;
 }
 
 -- it differs by a whole combination of a and b

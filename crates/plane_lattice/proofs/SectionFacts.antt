@@ -104,19 +104,19 @@ module _ (g : Listing) (r : Vector) (f : Basis) (group : IsGroup g) (coprime : I
 
   drift_in : (k : ℤ) → IsInLattice g (drift m f.tau k)
   drift_in k =
-      lattice-plus g (multiple k (minus (image m.matrix f.tau) f.tau)) (multiple (pos 2 *ℤ UNIT) m.shift)
+      lattice-plus g (multiple k (minus (image m.matrix f.tau) f.tau)) (multiple (pos 2 *ℤ UNIT) m.translation)
       (lattice-multiple g k (minus (image m.matrix f.tau) f.tau)
       (lattice-minus g (image m.matrix f.tau) f.tau (member_keeps g group m member f.tau passes.tau_in) passes.tau_in))
-      (subst (IsInLattice g) (multiple-multiple (pos 2) UNIT m.shift) (lattice-multiple g (pos 2) (multiple UNIT m.shift) (edges_in m.shift)))
+      (subst (IsInLattice g) (multiple-multiple (pos 2) UNIT m.translation) (lattice-multiple g (pos 2) (multiple UNIT m.translation) (edges_in m.translation)))
 
   dot-drift : (k : ℤ) → dot r (drift m f.tau k)
-      ≡ k *ℤ sign_value e *ℤ dot r f.tau +ℤ negsuc 0 *ℤ (k *ℤ dot r f.tau) +ℤ pos 2 *ℤ UNIT *ℤ dot r m.shift
+      ≡ k *ℤ sign_value e *ℤ dot r f.tau +ℤ negsuc 0 *ℤ (k *ℤ dot r f.tau) +ℤ pos 2 *ℤ UNIT *ℤ dot r m.translation
   dot-drift k =
-      dot-plus r (multiple k (minus (image m.matrix f.tau) f.tau)) (multiple (pos 2 *ℤ UNIT) m.shift)
-      ∙ (λ i. dot-multiple r k (minus (image m.matrix f.tau) f.tau) i +ℤ dot-multiple r (pos 2 *ℤ UNIT) m.shift i)
-      ∙ ap (λ x. k *ℤ x +ℤ pos 2 *ℤ UNIT *ℤ dot r m.shift)
+      dot-plus r (multiple k (minus (image m.matrix f.tau) f.tau)) (multiple (pos 2 *ℤ UNIT) m.translation)
+      ∙ (λ i. dot-multiple r k (minus (image m.matrix f.tau) f.tau) i +ℤ dot-multiple r (pos 2 *ℤ UNIT) m.translation i)
+      ∙ ap (λ x. k *ℤ x +ℤ pos 2 *ℤ UNIT *ℤ dot r m.translation)
       (dot-plus r (image m.matrix f.tau) (opposite f.tau) ∙ (λ i. dot-turned f.tau i +ℤ dot-multiple r (negsuc 0) f.tau i))
-      ∙ dot_entry k (sign_value e) (dot r f.tau) (dot r m.shift)
+      ∙ dot_entry k (sign_value e) (dot r f.tau) (dot r m.translation)
 
   -- ---- the plane is mapped to itself exactly where the drift lies in it
 
@@ -131,17 +131,17 @@ module _ (g : Listing) (r : Vector) (f : Basis) (group : IsGroup g) (coprime : I
   rows_by_dot : (k : ℤ) (e' : Sign) → e' ≡ e → Rows k ↔ (dot r (drift m f.tau k) ≡ pos 0)
   rows_by_dot k Plus is =
       let plain : row_times r m.matrix ≡ r = row ∙ ap (λ s. multiple (sign_value s) r) (sym is) ∙ multiple-one r in
-      let at : dot r (drift m f.tau k) ≡ k *ℤ pos 1 *ℤ dot r f.tau +ℤ negsuc 0 *ℤ (k *ℤ dot r f.tau) +ℤ pos 2 *ℤ UNIT *ℤ dot r m.shift =
-      dot-drift k ∙ ap (λ s. k *ℤ sign_value s *ℤ dot r f.tau +ℤ negsuc 0 *ℤ (k *ℤ dot r f.tau) +ℤ pos 2 *ℤ UNIT *ℤ dot r m.shift) (sym is) in
-      let both = kept_dot k (dot r f.tau) (dot r m.shift) in (
+      let at : dot r (drift m f.tau k) ≡ k *ℤ pos 1 *ℤ dot r f.tau +ℤ negsuc 0 *ℤ (k *ℤ dot r f.tau) +ℤ pos 2 *ℤ UNIT *ℤ dot r m.translation =
+      dot-drift k ∙ ap (λ s. k *ℤ sign_value s *ℤ dot r f.tau +ℤ negsuc 0 *ℤ (k *ℤ dot r f.tau) +ℤ pos 2 *ℤ UNIT *ℤ dot r m.translation) (sym is) in
+      let both = kept_dot k (dot r f.tau) (dot r m.translation) in (
         λ rows. elim rows [ inl keeps ↦ at ∙ both.1 keeps.1 | inr turns ↦ absurd (not_opposite r coprime (sym plain ∙ turns.0)) ],
         λ flat. inl (plain, both.0 (sym at ∙ flat)),
       )
   rows_by_dot k Minus is =
       let over : row_times r m.matrix ≡ opposite r = row ∙ ap (λ s. multiple (sign_value s) r) (sym is) in
-      let at : dot r (drift m f.tau k) ≡ k *ℤ negsuc 0 *ℤ dot r f.tau +ℤ negsuc 0 *ℤ (k *ℤ dot r f.tau) +ℤ pos 2 *ℤ UNIT *ℤ dot r m.shift =
-      dot-drift k ∙ ap (λ s. k *ℤ sign_value s *ℤ dot r f.tau +ℤ negsuc 0 *ℤ (k *ℤ dot r f.tau) +ℤ pos 2 *ℤ UNIT *ℤ dot r m.shift) (sym is) in
-      let both = turned_dot k (dot r f.tau) (dot r m.shift) in (
+      let at : dot r (drift m f.tau k) ≡ k *ℤ negsuc 0 *ℤ dot r f.tau +ℤ negsuc 0 *ℤ (k *ℤ dot r f.tau) +ℤ pos 2 *ℤ UNIT *ℤ dot r m.translation =
+      dot-drift k ∙ ap (λ s. k *ℤ sign_value s *ℤ dot r f.tau +ℤ negsuc 0 *ℤ (k *ℤ dot r f.tau) +ℤ pos 2 *ℤ UNIT *ℤ dot r m.translation) (sym is) in
+      let both = turned_dot k (dot r f.tau) (dot r m.translation) in (
         λ rows. elim rows [ inl keeps ↦ absurd (not_opposite r coprime (sym keeps.0 ∙ over)) | inr turns ↦ at ∙ both.1 turns.1 ],
         λ flat. inr (over, both.0 (sym at ∙ flat)),
       )
@@ -178,19 +178,19 @@ pub shift_by_drift : (f : Basis) (d k : ℤ) (m : Motion) (p : Pair) → combina
     ≡ multiple (point_at d (height_in_steps d k) (in_cell f.tau)).over (plus (multiple p.x f.a) (multiple p.y f.b))
 shift_by_drift f d k m p is =
     ap (multiple (pos 2 *ℤ UNIT)) (moved_along m (k *ℤ d *ℤ UNIT) (pos 2 *ℤ UNIT *ℤ UNIT *ℤ d *ℤ UNIT) f.tau)
-    ∙ shift_entries (image m.matrix f.tau) f.tau m.shift k d
+    ∙ shift_entries (image m.matrix f.tau) f.tau m.translation k d
     ∙ ap (multiple (pos 2 *ℤ UNIT *ℤ UNIT *ℤ d *ℤ UNIT)) (sym is ∙ flat-combination f p)
 
 -- what the coordinates give is what the motion is seen as
 pub seen_in_steps : (f : Basis) (c : Point) (d k : ℤ) (m : Motion) (e : Sign) (first second p : Pair)
     → combination f (flat first) ≡ image m.matrix f.a → combination f (flat second) ≡ image m.matrix f.b
     → image m.matrix c.at ≡ multiple (sign_value e) c.at → combination f (flat p) ≡ drift m f.tau k
-    → IsSeenAs f c (point_at d (height_in_steps d k) (in_cell f.tau)) m (record { matrix = columns first second; side = e; shift = in_edges p })
+    → IsSeenAs f c (point_at d (height_in_steps d k) (in_cell f.tau)) m (record { matrix = columns first second; side = e; translation = in_edges p })
 seen_in_steps f c d k m e first second p a b third t = record {
   first = sym a ∙ flat-combination f first;
   second = sym b ∙ flat-combination f second;
   third = third;
-  shift = shift_by_drift f d k m p t;
+  translation = shift_by_drift f d k m p t;
 }
 
 -- ---- sizes
@@ -285,13 +285,13 @@ unfolding plus multiple
 gathered n k u w = vector_path (gathered_entry n k u.x w.x) (gathered_entry n k u.y w.y) (gathered_entry n k u.z w.z)
 
 -- the coordinates of n times a drift, where the coordinates c of W tau and those of n w are given
-coordinates_of_drift : (f : Basis) (m : Motion) (n k : ℤ) (c by : Vector) → combination f c ≡ image m.matrix f.tau → combination f by ≡ multiple n m.shift
+coordinates_of_drift : (f : Basis) (m : Motion) (n k : ℤ) (c by : Vector) → combination f c ≡ image m.matrix f.tau → combination f by ≡ multiple n m.translation
     → combination f (plus (multiple (n *ℤ k) (minus c only_tau)) (multiple (pos 2 *ℤ UNIT) by)) ≡ multiple n (drift m f.tau k)
 coordinates_of_drift f m n k c by turned shifted =
     combination-plus f (multiple (n *ℤ k) (minus c only_tau)) (multiple (pos 2 *ℤ UNIT) by)
     ∙ (λ i. plus (combination-multiple f (n *ℤ k) (minus c only_tau) i) (combination-multiple f (pos 2 *ℤ UNIT) by i))
     ∙ (λ i. plus (multiple (n *ℤ k) ((combination-minus f c only_tau ∙ (λ j. minus (turned j) (along_tau f j))) i)) (multiple (pos 2 *ℤ UNIT) (shifted i)))
-    ∙ gathered n k (minus (image m.matrix f.tau) f.tau) m.shift
+    ∙ gathered n k (minus (image m.matrix f.tau) f.tau) m.translation
 
 flat_entry : (a c : ℤ) → a *ℤ (c +ℤ negsuc 0 *ℤ pos 0) ≡ a *ℤ c
 flat_entry a c = ap (λ x. a *ℤ x) (add_zero c)
@@ -360,9 +360,9 @@ pub special_in_steps : (g : Listing) (r : Vector) (f : Basis) → IsGroup g → 
     → IsSpecial g r s → (k : ℤ) × (pos 0 ≤ℤ k) × (k <ℤ (pos 2 *ℤ UNIT)) × SameFraction s (height_in_steps (dot r f.tau) k)
 special_in_steps g r f group coprime frame s in_period special =
     let (m, member, (row, twice)) = (special_by_row g r s group coprime in_period.positive).0 special in
-    let (c, is) = whole_edges f (edges_held g f frame.spans) m.shift in
-    let (k, periods) = lattice_periods g r f frame (multiple UNIT m.shift) (subst (IsInLattice g) is (frame.inside c)) in
+    let (c, is) = whole_edges f (edges_held g f frame.spans) m.translation in
+    let (k, periods) = lattice_periods g r f frame (multiple UNIT m.translation) (subst (IsInLattice g) is (frame.inside c)) in
     let d = dot r f.tau in
     let above : pos 1 ≤ℤ d = omega (arith, ints, frame.tau_above) in
-    let same = step_same s.num s.den k d (dot r m.shift) twice (sym (dot-multiple r UNIT m.shift) ∙ periods) in
+    let same = step_same s.num s.den k d (dot r m.translation) twice (sym (dot-multiple r UNIT m.translation) ∙ periods) in
     (k, step_from s.num s.den k d in_period.positive above in_period.from same, step_below s.num s.den k d in_period.positive above in_period.below same, same)

@@ -184,7 +184,7 @@ module _ (g : Listing) (r : Vector) (f : Basis) (ms : List Motion) (group : IsGr
         (differs_stabiliser g r s) ops section lists seen_at
 
   pub seen_once : (o : Point) → IsPoint o → (m : Motion) (op op' : RationalMotion) → IsSeenAs f c o m op → IsSeenAs f c o m op'
-      → (op.matrix ≡ op'.matrix) × (op.side ≡ op'.side) × SameRationals op.shift op'.shift
+      → (op.matrix ≡ op'.matrix) × (op.side ≡ op'.side) × SameRationals op.translation op'.translation
   seen_once o above m op op' seen seen' = (
     matrix_once g r f frame c o above_mean above m m op op' refl seen seen',
     side_once g r f frame c o above_mean above m m op op' refl seen seen',

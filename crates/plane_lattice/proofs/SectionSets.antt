@@ -48,10 +48,10 @@ move_entries : (u x w w' : Vector) (n : ℤ) → minus (plus (multiple UNIT u) (
 unfolding plus multiple
 move_entries u x w w' n = vector_path (move_entry u.x x.x w.x w'.x n) (move_entry u.y x.y w.y w'.y n) (move_entry u.z x.z w.z w'.z n)
 
-pub move_differs : (m k : Motion) (o : Point) → m.matrix ≡ k.matrix → move m o ≡ plus (move k o) (multiple o.over (minus m.shift k.shift))
+pub move_differs : (m k : Motion) (o : Point) → m.matrix ≡ k.matrix → move m o ≡ plus (move k o) (multiple o.over (minus m.translation k.translation))
 move_differs m k o same =
-    move_entries (image m.matrix o.at) o.at m.shift k.shift o.over
-    ∙ ap (λ w. plus (minus (plus (multiple UNIT (image w o.at)) (multiple o.over k.shift)) (multiple UNIT o.at)) (multiple o.over (minus m.shift k.shift))) same
+    move_entries (image m.matrix o.at) o.at m.translation k.translation o.over
+    ∙ ap (λ w. plus (minus (plus (multiple UNIT (image w o.at)) (multiple o.over k.translation)) (multiple UNIT o.at)) (multiple o.over (minus m.translation k.translation))) same
 
 -- ---- translations that differ by a vector of the plane, entry by entry
 
@@ -247,72 +247,72 @@ module _ (g : Listing) (r : Vector) (f : Basis) (frame : IsFrame g r f) (c o : P
   -- ---- motions that differ in the plane are seen as motions that differ by whole vectors
 
   pub whole_difference : (m k : Motion) (op : RationalMotion) (n : LayerMotion) → DiffersInPlane g r m k → IsSeenAs f c o m op
-      → IsSeenAs f c o k (rational_of (planar_of n)) → IsWhole (rational_minus op.shift (in_edges (pair_of n.t)))
+      → IsSeenAs f c o k (rational_of (planar_of n)) → IsWhole (rational_minus op.translation (in_edges (pair_of n.t)))
   whole_difference m k op n differs seen seen' =
-      let (l, is, none) = (plane_lattice g r f frame (minus m.shift k.shift)).0 differs.shift in
-      let p : Pair = record { x = op.shift.x; y = op.shift.y } in
+      let (l, is, none) = (plane_lattice g r f frame (minus m.translation k.translation)).0 differs.translation in
+      let p : Pair = record { x = op.translation.x; y = op.translation.y } in
       let p' = pair_of n.t in
-      let q = op.shift.over in
+      let q = op.translation.over in
       whole_by_coordinates f q p p' l
       (frame.once (multiple edge (flat p)) (plus (multiple q (flat p')) (multiple (q *ℤ edge) l))
       (edge-combination f q p p' l
-      ∙ forth_entries q edge o.over (move m o) (move k o) (plus (multiple p.x f.a) (multiple p.y f.b)) (plus (multiple p'.x f.a) (multiple p'.y f.b)) (minus m.shift k.shift)
-      above_o seen.shift seen'.shift (move_differs m k o differs.matrix)
+      ∙ forth_entries q edge o.over (move m o) (move k o) (plus (multiple p.x f.a) (multiple p.y f.b)) (plus (multiple p'.x f.a) (multiple p'.y f.b)) (minus m.translation k.translation)
+      above_o seen.translation seen'.translation (move_differs m k o differs.matrix)
       ∙ ap (λ v. plus (multiple q (plus (multiple p'.x f.a) (multiple p'.y f.b))) (multiple (q *ℤ edge) v)) (sym is)
       ∙ sym (sum-combination f q p p' l)))
 
   -- and the other way round
   abbrev followed : Motion → Pair → Motion
-  followed k l = record { matrix = k.matrix; shift = plus k.shift (combination f (flat l)) }
+  followed k l = record { matrix = k.matrix; translation = plus k.translation (combination f (flat l)) }
 
   followed_differs : (k : Motion) (l : Pair) → DiffersInPlane g r k (followed k l)
   followed_differs k l =
       differs_sym g r (followed k l) k
-      (record { matrix = refl; shift = (plane_lattice g r f frame _).1 (flat l, sym (plus-minus_first k.shift (combination f (flat l))), refl) })
+      (record { matrix = refl; translation = (plane_lattice g r f frame _).1 (flat l, sym (plus-minus_first k.translation (combination f (flat l))), refl) })
 
   followed_seen : (k : Motion) (op : RationalMotion) (n : LayerMotion) (l : Pair) → IsSeenAs f c o k (rational_of (planar_of n))
       → op.matrix ≡ matrix2_of n.a → op.side ≡ n.e
-      → op.shift.x *ℤ edge -ℤ (pair_of n.t).x *ℤ op.shift.over ≡ op.shift.over *ℤ edge *ℤ l.x
-      → op.shift.y *ℤ edge -ℤ (pair_of n.t).y *ℤ op.shift.over ≡ op.shift.over *ℤ edge *ℤ l.y
+      → op.translation.x *ℤ edge -ℤ (pair_of n.t).x *ℤ op.translation.over ≡ op.translation.over *ℤ edge *ℤ l.x
+      → op.translation.y *ℤ edge -ℤ (pair_of n.t).y *ℤ op.translation.over ≡ op.translation.over *ℤ edge *ℤ l.y
       → IsSeenAs f c o (followed k l) op
   followed_seen k op n l seen matrix side x y =
-      let p : Pair = record { x = op.shift.x; y = op.shift.y } in
+      let p : Pair = record { x = op.translation.x; y = op.translation.y } in
       let p' = pair_of n.t in
-      let q = op.shift.over in record {
+      let q = op.translation.over in record {
         first = seen.first ∙ (λ i. plus (multiple (sym matrix i).first.x f.a) (multiple (sym matrix i).second.x f.b));
         second = seen.second ∙ (λ i. plus (multiple (sym matrix i).first.y f.a) (multiple (sym matrix i).second.y f.b));
         third = seen.third ∙ ap (λ e. multiple (sign_value e) c.at) (sym side);
-        shift = back_entries q edge o.over (move (followed k l) o) (move k o) (plus (multiple p.x f.a) (multiple p.y f.b)) (plus (multiple p'.x f.a) (multiple p'.y f.b))
-            (combination f (flat l)) (omega (arith, ints)) seen.shift
-            (move_differs (followed k l) k o refl ∙ ap (λ v. plus (move k o) (multiple o.over v)) (plus-minus_first k.shift (combination f (flat l))))
+        translation = back_entries q edge o.over (move (followed k l) o) (move k o) (plus (multiple p.x f.a) (multiple p.y f.b)) (plus (multiple p'.x f.a) (multiple p'.y f.b))
+            (combination f (flat l)) (omega (arith, ints)) seen.translation
+            (move_differs (followed k l) k o refl ∙ ap (λ v. plus (move k o) (multiple o.over v)) (plus-minus_first k.translation (combination f (flat l))))
             (sym (edge-combination f q p p' (flat l)) ∙ ap (combination f) (coordinates_by_whole q p p' l x y) ∙ sum-combination f q p p' (flat l));
       }
 
   -- ---- a motion is seen as one, and what is seen is one motion
 
-  pub shift_once : (m : Motion) (op op' : RationalMotion) → IsSeenAs f c o m op → IsSeenAs f c o m op' → SameRationals op.shift op'.shift
+  pub shift_once : (m : Motion) (op op' : RationalMotion) → IsSeenAs f c o m op → IsSeenAs f c o m op' → SameRationals op.translation op'.translation
   unfolding multiple
   shift_once m op op' seen seen' =
-      let p : Pair = record { x = op.shift.x; y = op.shift.y } in
-      let p' : Pair = record { x = op'.shift.x; y = op'.shift.y } in
-      let q = op.shift.over in
-      let q' = op'.shift.over in
+      let p : Pair = record { x = op.translation.x; y = op.translation.y } in
+      let p' : Pair = record { x = op'.translation.x; y = op'.translation.y } in
+      let q = op.translation.over in
+      let q' = op'.translation.over in
       let e = frame.once (multiple q' (flat p)) (multiple q (flat p'))
       (combination-multiple f q' (flat p) ∙ ap (multiple q') (flat-combination f p)
-      ∙ shift_once_entries q q' o.over (move m o) (plus (multiple p.x f.a) (multiple p.y f.b)) (plus (multiple p'.x f.a) (multiple p'.y f.b)) above_o seen.shift seen'.shift
+      ∙ shift_once_entries q q' o.over (move m o) (plus (multiple p.x f.a) (multiple p.y f.b)) (plus (multiple p'.x f.a) (multiple p'.y f.b)) above_o seen.translation seen'.translation
       ∙ ap (multiple q) (sym (flat-combination f p')) ∙ sym (combination-multiple f q (flat p'))) in
       record { x = swap p.x q' ∙ (λ i. (e i).x) ∙ swap q p'.x; y = swap p.y q' ∙ (λ i. (e i).y) ∙ swap q p'.y }
     where
       swap : (a b : ℤ) → a *ℤ b ≡ b *ℤ a
       swap a b = omega (arith, ints)
 
-  pub motion_once : (m k : Motion) (op : RationalMotion) → pos 1 ≤ℤ op.shift.over → IsSeenAs f c o m op → IsSeenAs f c o k op → m ≡ k
+  pub motion_once : (m k : Motion) (op : RationalMotion) → pos 1 ≤ℤ op.translation.over → IsSeenAs f c o m op → IsSeenAs f c o k op → m ≡ k
   motion_once m k op positive seen seen' =
       let same = same_matrix r f frame.right_handed frame.tau_above c.at above_c m.matrix k.matrix
       (seen.first ∙ sym seen'.first) (seen.second ∙ sym seen'.second) (seen.third ∙ sym seen'.third) in
       motion_path same
-      (same_shift_entries op.shift.over o.over (move m o) (move k o) (plus (multiple op.shift.x f.a) (multiple op.shift.y f.b)) m.shift k.shift positive above_o
-      seen.shift seen'.shift (move_differs m k o same))
+      (same_shift_entries op.translation.over o.over (move m o) (move k o) (plus (multiple op.translation.x f.a) (multiple op.translation.y f.b)) m.translation k.translation positive above_o
+      seen.translation seen'.translation (move_differs m k o same))
 
   -- ---- the set is what the list stands for
 
@@ -332,20 +332,20 @@ module _ (g : Listing) (r : Vector) (f : Basis) (frame : IsFrame g r f) (c o : P
           listed = (i, within, get_or_default section i n some within);
           matrix = matrix_once x.motion (motion_at ops i) op (rational_of (planar_of n)) one.has.matrix x.seen there;
           side = side_once x.motion (motion_at ops i) op (rational_of (planar_of n)) one.has.matrix x.seen there;
-          shift = whole_difference x.motion (motion_at ops i) op n one.has x.seen there;
+          translation = whole_difference x.motion (motion_at ops i) op n one.has x.seen there;
         }
 
     from_list : (op : RationalMotion) → InSection section op → IsSeenFrom S f c o op
     from_list op x =
         let (i, within, is) = x.listed in
         let inside : i < length ops = let count = seen.count in omega arith in
-        let l : Pair = record { x = x.shift.x.0; y = x.shift.y.0 } in
+        let l : Pair = record { x = x.translation.x.0; y = x.translation.y.0 } in
         let k = motion_at ops i in record {
           motion = followed k l;
           in_set = closed k (followed k l) (followed_differs k l) (lists.listed i inside);
           seen = followed_seen k op x.motion l
               (subst (λ (n : LayerMotion). IsSeenAs f c o k (rational_of (planar_of n))) is (seen.each i x.motion inside))
-              x.matrix x.side x.shift.x.1 x.shift.y.1;
+              x.matrix x.side x.translation.x.1 x.translation.y.1;
         }
 
     pub section_by_list : (op : RationalMotion) → IsSeenFrom S f c o op ↔ InSection section op
@@ -360,9 +360,9 @@ module _ (g : Listing) (r : Vector) (f : Basis) (frame : IsFrame g r f) (c o : P
         let m = motion_at ops i in
         let k = motion_at ops j in
         let n = get_or section i d in
-        let l : Pair = record { x = whole.shift.x.0; y = whole.shift.y.0 } in
+        let l : Pair = record { x = whole.translation.x.0; y = whole.translation.y.0 } in
         let again : IsSeenAs f c o (followed k l) (rational_of (planar_of n)) =
-        followed_seen k (rational_of (planar_of n)) (get_or section j e) l (seen.each j e inside') whole.matrix whole.side whole.shift.x.1 whole.shift.y.1 in
+        followed_seen k (rational_of (planar_of n)) (get_or section j e) l (seen.each j e inside') whole.matrix whole.side whole.translation.x.1 whole.translation.y.1 in
         let same : followed k l ≡ m = motion_once (followed k l) m (rational_of (planar_of n)) (omega (arith, ints)) again (seen.each i d inside) in
         let one = lists.once k (lists.listed j inside') in
         one.only i inside (subst (DiffersInPlane g r k) same (followed_differs k l)) ∙ sym (one.only j inside' (differs_refl g r k))

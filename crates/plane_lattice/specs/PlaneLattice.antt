@@ -11,7 +11,7 @@ use Rattle.plane_lattice.specs.Coordinates.{floors, volume, scaled, IsPlaneCombi
 -- the motion is the translation by a whole combination of a and b
 pub record IsPlaneShift (f : Basis) (m : Motion) : Type 0 where
   pub matrix : m.matrix ≡ unit_matrix
-  pub shift : IsPlaneCombination f m.shift
+  pub translation : IsPlaneCombination f m.translation
 
 -- how often the vector has a whole a and a whole b: its first two coordinates, rounded down
 abbrev pub whole_part : Basis → Vector → Vector
@@ -23,7 +23,7 @@ home_shift f v = minus v (combination f (whole_part f v))
 
 -- the motion with its translation so reduced
 abbrev pub home_motion : Basis → Motion → Motion
-home_motion f m = record { matrix = m.matrix; shift = home_shift f m.shift }
+home_motion f m = record { matrix = m.matrix; translation = home_shift f m.translation }
 
 -- three numbers of parts as an array
 abbrev pub of_vector : Vector → List Part

@@ -65,7 +65,7 @@ impl Frame {
             (in_cell (parts self.now.tau)))
             (motion_of m.now) (rational_of (planar_of n))) }
         ensures small { IfSome result (λ n. IsPlanarSmall (planar_of n)) }
-        ensures near { IfSome result (λ n. IsPairWithin largest_drift (planar_of n).shift) }
+        ensures near { IfSome result (λ n. IsPairWithin largest_drift (planar_of n).translation) }
     {
         let e = side(m, &self.plane)?;
         let dual = self.dual();
@@ -126,14 +126,14 @@ fn drift(m: &Motion3, tau: &[Part; 3], steps: i64) -> [Part; 3]
 }
 
 /// An entry of it.
-fn drift_along(turned: Part, tau: Part, shift: Part, steps: i64) -> Part
+fn drift_along(turned: Part, tau: Part, translation: Part, steps: i64) -> Part
     requires turned { IsWithin largest_turned turned.0 }
     requires tau { IsWithin largest_entry tau.0 }
-    requires shift { IsWithin (2 ^ 40) shift.0 }
+    requires translation { IsWithin (2 ^ 40) translation.0 }
     requires from { pos 0 ≤ℤ steps }
     requires below { steps <ℤ (pos 2 *ℤ UNIT) }
-    ensures is { result.0 ≡ steps *ℤ (turned.0 -ℤ tau.0) +ℤ pos 2 *ℤ UNIT *ℤ shift.0 }
+    ensures is { result.0 ≡ steps *ℤ (turned.0 -ℤ tau.0) +ℤ pos 2 *ℤ UNIT *ℤ translation.0 }
     ensures small { IsWithin (2 ^ 52) result.0 }
 {
-    Part(steps * (turned.0 - tau.0) + 2 * UNIT * shift.0)
+    Part(steps * (turned.0 - tau.0) + 2 * UNIT * translation.0)
 }

@@ -37,16 +37,16 @@ impl Quotient for Frame {
     /// The motion at home that differs from this one by a whole combination of a and b: its translation has coordinates
     /// from 0 to below 1 along a and b.
     fn home(&self, m: &Motion3) -> Motion3
-        requires { IsVectorWithin (2 ^ 20) (motion_of m.now).shift }
+        requires { IsVectorWithin (2 ^ 20) (motion_of m.now).translation }
         ensures value { motion_of result
             ≡ motion_of (home_of_motion (basis_of_frame self.now) m.now) }
         ensures at_home { IsAtHome (basis_of_frame self.now) (motion_of result) }
         ensures matrix { (motion_of result).matrix ≡ (motion_of m.now).matrix }
         ensures differs { IsPlaneCombination (basis_of_frame self.now)
-            (minus (motion_of m.now).shift (motion_of result).shift) }
-        ensures level { dot (row_of self.now.plane) (motion_of result).shift
-            ≡ dot (row_of self.now.plane) (motion_of m.now).shift }
-        ensures small { IsVectorWithin largest_home (motion_of result).shift }
+            (minus (motion_of m.now).translation (motion_of result).translation) }
+        ensures level { dot (row_of self.now.plane) (motion_of result).translation
+            ≡ dot (row_of self.now.plane) (motion_of m.now).translation }
+        ensures small { IsVectorWithin largest_home (motion_of result).translation }
     {
         let dual = self.dual();
         let whole = whole_part(&dual.scaled(&m.t), dual.volume);

@@ -13,8 +13,8 @@ pub plane_block_product : (m n : PlaneMotion) → followed_by (plane_block m) (p
 unfolding plus dot
 plane_block_product m n =
     motion_path (block_products (in_layer m) (in_layer n))
-    (vector_path (along n.matrix.first.x n.matrix.first.y m.shift.x m.shift.y n.shift.x) (along n.matrix.second.x n.matrix.second.y m.shift.x m.shift.y n.shift.y)
-    (none m.shift.x m.shift.y))
+    (vector_path (along n.matrix.first.x n.matrix.first.y m.translation.x m.translation.y n.translation.x) (along n.matrix.second.x n.matrix.second.y m.translation.x m.translation.y n.translation.y)
+    (none m.translation.x m.translation.y))
   where
     along : (a b x y z : ℤ) → a *ℤ x +ℤ b *ℤ y +ℤ pos 0 *ℤ pos 0 +ℤ z ≡ a *ℤ x +ℤ b *ℤ y +ℤ z
     along a b x y z = omega (arith, ints)

@@ -73,7 +73,7 @@ impl Motion for Motion2 {
 
     ghost IsSmall = { λ m. IsPlanarSmall (in_layer m) };
 
-    ghost MovesWithin = { λ n m. IsPairWithin n m.shift };
+    ghost MovesWithin = { λ n m. IsPairWithin n m.translation };
 
     fn identity() -> Self {
         Motion2::in_plane(&LayerMotion::identity())
@@ -96,7 +96,7 @@ impl Motion for Motion2 {
 
     ghost one_within = { planar_identity_within };
 
-    ghost small_within = { λ a h. h.shift };
+    ghost small_within = { λ a h. h.translation };
 
     ghost product_within = { plane_followed_by_within };
 }

@@ -19,7 +19,7 @@ use Rattle.recognition.proofs.Lattices.{lattice_whole, lattice_every, lattice_ba
 
 -- a listed motion with a rational translation
 abbrev pub rational_of : LayerMotion → RationalMotion
-rational_of m = record { matrix = matrix2_of m.a; side = m.e; shift = in_edges (pair_of m.t) }
+rational_of m = record { matrix = matrix2_of m.a; side = m.e; translation = in_edges (pair_of m.t) }
 
 -- how many parts a vector of a motion has
 abbrev pub cell : ℤ
@@ -36,7 +36,7 @@ no_difference u = record { x = (pos 0, nothing u.x u.over); y = (pos 0, nothing 
     nothing x d = omega (arith, ints)
 
 pub itself : (V : RationalPair → Type 0) (ops : List LayerMotion) (m : LayerMotion) → Contains ops m → V (rational_minus (in_edges (pair_of m.t)) (in_edges (pair_of m.t))) → IsListed V ops (rational_of m)
-itself V ops m h v = record { motion = m; listed = h; matrix = refl; side = refl; shift = v }
+itself V ops m h v = record { motion = m; listed = h; matrix = refl; side = refl; translation = v }
 
 -- the image of a difference
 image_row : (p0 p1 c d x y n0 n1 : ℤ) → IsMultiple (d *ℤ c) (p0 *ℤ (x *ℤ c -ℤ n0 *ℤ d) +ℤ p1 *ℤ (y *ℤ c -ℤ n1 *ℤ d))
@@ -117,22 +117,22 @@ module _ (section : List LayerMotion) (t : LayerType) (p : Matrix2) (x y : ℕ) 
   HasSource n = Any (λ m. IsPaired p x y m n) section
 
   abbrev Result : RationalMotion → Type 0
-  Result op = (like : RationalMotion) × IsRationalPair like.shift × IsListed (IsInLattice t.centred) t.ops.now like × IsCarried p at op like
+  Result op = (like : RationalMotion) × IsRationalPair like.translation × IsListed (IsInLattice t.centred) t.ops.now like × IsCarried p at op like
 
   to_type : Fits section t p x y → (op : RationalMotion) → InSection section op → Result op
   to_type fits op s =
       let m = s.motion in
       let (k, n, within, is, pair) = All-contains HasLike section m fits.forth s.listed in
-      let Shift : Matrix2 → Type 0 = λ a. IsWhole (rational_minus (rational_minus op.shift (rational_image p (in_edges (pair_of n.t)))) (moved_by a at)) in (
+      let Shift : Matrix2 → Type 0 = λ a. IsWhole (rational_minus (rational_minus op.translation (rational_image p (in_edges (pair_of n.t)))) (moved_by a at)) in (
         rational_of n,
         cell_positive,
         itself (IsInLattice t.centred) t.ops.now n (k, within, is) (inl (no_difference (in_edges (pair_of n.t)))),
         record {
           side = s.side ∙ pair.like.side;
           matrix = ap (λ z. product2 z p) s.matrix ∙ pair.like.matrix;
-          shift =
+          translation =
               subst Shift (sym s.matrix)
-              (carried_shift p x y m n op.shift (in_edges (pair_of n.t)) s.shift pair.close (lattice_whole t.centred p fits.lattice (rational_minus (in_edges (pair_of n.t)) (in_edges (pair_of n.t))) (inl (no_difference (in_edges (pair_of n.t))))));
+              (carried_shift p x y m n op.translation (in_edges (pair_of n.t)) s.translation pair.close (lattice_whole t.centred p fits.lattice (rational_minus (in_edges (pair_of n.t)) (in_edges (pair_of n.t))) (inl (no_difference (in_edges (pair_of n.t))))));
         },
       )
 
@@ -141,15 +141,15 @@ module _ (section : List LayerMotion) (t : LayerType) (p : Matrix2) (x y : ℕ) 
       let n = h.motion in
       let (k, m, within, is, pair) = All-contains HasSource t.ops.now n fits.back h.listed in
       let same : op.matrix ≡ matrix2_of m.a = same_matrix t.centred p op.matrix (matrix2_of m.a) fits.lattice (c.matrix ∙ ap (λ z. product2 p z) h.matrix ∙ sym pair.like.matrix) in
-      let Shift : Matrix2 → Type 0 = λ a. IsWhole (rational_minus (rational_minus op.shift (rational_image p like.shift)) (moved_by a at)) in
+      let Shift : Matrix2 → Type 0 = λ a. IsWhole (rational_minus (rational_minus op.translation (rational_image p like.translation)) (moved_by a at)) in
       record {
         motion = m;
         listed = (k, within, is);
         matrix = same;
         side = c.side ∙ h.side ∙ sym pair.like.side;
-        shift =
-            listed_shift p x y m n op.shift like.shift high pair.close (lattice_whole t.centred p fits.lattice (rational_minus like.shift (in_edges (pair_of n.t))) h.shift)
-            (subst Shift same c.shift);
+        translation =
+            listed_shift p x y m n op.translation like.translation high pair.close (lattice_whole t.centred p fits.lattice (rational_minus like.translation (in_edges (pair_of n.t))) h.translation)
+            (subst Shift same c.translation);
       }
 
   pub fits_carries : Fits section t p x y → CarriesListed section t p x y
@@ -173,8 +173,8 @@ module _ (section : List LayerMotion) (t : LayerType) (p : Matrix2) (x y : ℕ) 
         record {
           like = record { side = c.side ∙ i.side; matrix = c.matrix ∙ ap (λ z. product2 p z) i.matrix };
           close =
-              close p x y m n (in_edges (pair_of m.t)) like.shift cell_positive high (no_difference (in_edges (pair_of m.t)))
-              (lattice_whole t.centred p (lattice_back t.centred p h.lattice.whole h.lattice.every) (rational_minus like.shift (in_edges (pair_of n.t))) i.shift) c.shift;
+              close p x y m n (in_edges (pair_of m.t)) like.translation cell_positive high (no_difference (in_edges (pair_of m.t)))
+              (lattice_whole t.centred p (lattice_back t.centred p h.lattice.whole h.lattice.every) (rational_minus like.translation (in_edges (pair_of n.t))) i.translation) c.translation;
         },
       )
 
@@ -182,17 +182,17 @@ module _ (section : List LayerMotion) (t : LayerType) (p : Matrix2) (x y : ℕ) 
   found_source keeps h n listed =
       let lattice = lattice_back t.centred p h.lattice.whole h.lattice.every in
       let (a, e) = moved_matrix t.centred p (matrix2_of n.a) lattice (λ b. All-contains (λ z. KeepsCentring (matrix2_of z.a)) t.ops.now n (keeps b) listed) in
-      let op : RationalMotion = record { matrix = a; side = n.e; shift = carried a p at n } in
-      let high : IsRationalPair op.shift = omega (arith, ints) in
+      let op : RationalMotion = record { matrix = a; side = n.e; translation = carried a p at n } in
+      let high : IsRationalPair op.translation = omega (arith, ints) in
       let i : InSection section op = (h.operations op high).1 (
         rational_of n,
         cell_positive,
         itself (IsInLattice t.centred) t.ops.now n listed (inl (no_difference (in_edges (pair_of n.t)))),
-        record { side = refl; matrix = e; shift = carried_is a p x y n },
+        record { side = refl; matrix = e; translation = carried_is a p x y n },
       ) in
       let m = i.motion in
       let (k, within, is) = i.listed in
-      let Shift : Matrix2 → Type 0 = λ z. IsWhole (rational_minus (rational_minus op.shift (rational_image p (in_edges (pair_of n.t)))) (moved_by z at)) in (
+      let Shift : Matrix2 → Type 0 = λ z. IsWhole (rational_minus (rational_minus op.translation (rational_image p (in_edges (pair_of n.t)))) (moved_by z at)) in (
         k,
         m,
         within,
@@ -200,7 +200,7 @@ module _ (section : List LayerMotion) (t : LayerType) (p : Matrix2) (x y : ℕ) 
         record {
           like = record { side = sym i.side; matrix = ap (λ z. product2 z p) (sym i.matrix) ∙ e };
           close =
-              close p x y m n op.shift (in_edges (pair_of n.t)) high cell_positive i.shift
+              close p x y m n op.translation (in_edges (pair_of n.t)) high cell_positive i.translation
               (lattice_whole t.centred p lattice (rational_minus (in_edges (pair_of n.t)) (in_edges (pair_of n.t))) (inl (no_difference (in_edges (pair_of n.t)))))
               (subst Shift i.matrix (carried_is a p x y n));
         },

@@ -42,7 +42,7 @@ itself list m h = record {
   listed = h;
   matrix = sym (multiple2-one (rod_of m).matrix);
   along = refl;
-  shift = no_difference (rod_of m).shift;
+  translation = no_difference (rod_of m).translation;
 }
 
 -- the three facts of translations: of an operation of the section and a motion, of one of the type and a motion, and of the two motions
@@ -59,14 +59,14 @@ module _ (p : Matrix2) (z : ℕ) (m n : RodOperation) (t t' : Fraction) (e : Sig
   from_sign : IsWhole (rest_along (hand p) (sign_value m.along) (grid_part z) t t') → Rest
   from_sign h = subst (λ d. IsWhole (rest_along (hand p) (sign_value d) (grid_part z) t t')) (sym same) h
 
-  carried_shift : IsWhole (fraction_minus t (part_of_axis m.shift)) → IsWhole (fraction_minus t' (part_of_axis n.shift)) → IsClose p z m n → Rest
-  carried_shift a b c = from_sign (shifts.forth UNIT (ROD_GRID) t.den t'.den (hand p) m.shift t.num t'.num n.shift drift unit_positive a b c)
+  carried_shift : IsWhole (fraction_minus t (part_of_axis m.translation)) → IsWhole (fraction_minus t' (part_of_axis n.translation)) → IsClose p z m n → Rest
+  carried_shift a b c = from_sign (shifts.forth UNIT (ROD_GRID) t.den t'.den (hand p) m.translation t.num t'.num n.translation drift unit_positive a b c)
 
-  close : pos 1 ≤ℤ t.den → pos 1 ≤ℤ t'.den → IsWhole (fraction_minus t (part_of_axis m.shift)) → IsWhole (fraction_minus t' (part_of_axis n.shift)) → Rest → IsClose p z m n
-  close h k a b c = shifts.back UNIT (ROD_GRID) t.den t'.den (hand p) m.shift t.num t'.num n.shift drift unit_positive h k a b (at_sign c)
+  close : pos 1 ≤ℤ t.den → pos 1 ≤ℤ t'.den → IsWhole (fraction_minus t (part_of_axis m.translation)) → IsWhole (fraction_minus t' (part_of_axis n.translation)) → Rest → IsClose p z m n
+  close h k a b c = shifts.back UNIT (ROD_GRID) t.den t'.den (hand p) m.translation t.num t'.num n.translation drift unit_positive h k a b (at_sign c)
 
-  listed_shift : pos 1 ≤ℤ t'.den → IsWhole (fraction_minus t' (part_of_axis n.shift)) → IsClose p z m n → Rest → IsWhole (fraction_minus t (part_of_axis m.shift))
-  listed_shift k b c d = shifts.first UNIT (ROD_GRID) t.den t'.den (hand p) m.shift t.num t'.num n.shift drift unit_positive k grid_positive b c (at_sign d)
+  listed_shift : pos 1 ≤ℤ t'.den → IsWhole (fraction_minus t' (part_of_axis n.translation)) → IsClose p z m n → Rest → IsWhole (fraction_minus t (part_of_axis m.translation))
+  listed_shift k b c d = shifts.first UNIT (ROD_GRID) t.den t'.den (hand p) m.translation t.num t'.num n.translation drift unit_positive k grid_positive b c (at_sign d)
 
 -- the operation of rationals that the change makes of one of the type
 abbrev made_of : Matrix2 → ℕ → RodOperation → RationalRod
@@ -74,8 +74,8 @@ made_of p z n = record {
   matrix = multiple2 (hand p) (product2 (product2 p n.matrix) (adjugate2 p));
   over = hand p *ℤ determinant2 p;
   along = n.along;
-  shift = record {
-    num = ROD_GRID *ℤ (hand p *ℤ n.shift) +ℤ (pos z -ℤ sign_value n.along *ℤ pos z) *ℤ UNIT;
+  translation = record {
+    num = ROD_GRID *ℤ (hand p *ℤ n.translation) +ℤ (pos z -ℤ sign_value n.along *ℤ pos z) *ℤ UNIT;
     den = UNIT *ℤ ROD_GRID;
   };
 }
@@ -89,7 +89,7 @@ made_carried p z n = record {
   matrix =
       multiple2-one (product2 (made_of p z n).matrix p) ∙ multiple2-product2 (hand p) (product2 (product2 p n.matrix) (adjugate2 p)) p
       ∙ ap (multiple2 (hand p)) (undone_right (product2 p n.matrix) p) ∙ multiple2-multiple2 (hand p) (determinant2 p) (product2 p n.matrix);
-  shift = (pos 0, nothing (ROD_GRID) UNIT (hand p) n.shift (pos z -ℤ sign_value n.along *ℤ pos z));
+  translation = (pos 0, nothing (ROD_GRID) UNIT (hand p) n.translation (pos z -ℤ sign_value n.along *ℤ pos z));
 }
   where
     nothing : (g c h q w : ℤ) → ((g *ℤ (h *ℤ q) +ℤ w *ℤ c) *ℤ c -ℤ (h *ℤ q) *ℤ (c *ℤ g)) *ℤ g -ℤ w *ℤ ((c *ℤ g) *ℤ c) ≡ pos 0 *ℤ (((c *ℤ g) *ℤ c) *ℤ g)
@@ -121,7 +121,7 @@ module _ (section ops : List RodMotion) (p : Matrix2) (z : ℕ) where
           matrix =
               multiple2-one (product2 op.matrix p) ∙ ap (λ a. product2 a p) s.matrix ∙ multiple2-product2 op.over (rod_of m).matrix p
               ∙ ap (multiple2 op.over) pair.like.matrix;
-          shift = carried_shift p z (rod_of m) (rod_of n) op.shift (part_of_axis (rod_of n).shift) op.along s.along s.shift (no_difference (rod_of n).shift) pair.close;
+          translation = carried_shift p z (rod_of m) (rod_of n) op.translation (part_of_axis (rod_of n).translation) op.along s.along s.translation (no_difference (rod_of n).translation) pair.close;
         },
       )
 
@@ -141,7 +141,7 @@ module _ (section ops : List RodMotion) (p : Matrix2) (z : ℕ) where
         matrix = same_left op.matrix (multiple2 op.over (rod_of m).matrix) p fits.crossed
             (multiple2_cancel like.over (product2 op.matrix p) (product2 (multiple2 op.over (rod_of m).matrix) p) high.0 columns);
         along = along;
-        shift = listed_shift p z (rod_of m) (rod_of n) op.shift like.shift op.along along high.1 h.shift pair.close c.shift;
+        translation = listed_shift p z (rod_of m) (rod_of n) op.translation like.translation op.along along high.1 h.translation pair.close c.translation;
       }
 
   pub fits_carries : Fits section ops p z → Carries section ops p z
@@ -163,7 +163,7 @@ module _ (section ops : List RodMotion) (p : Matrix2) (z : ℕ) where
                 multiple2_cancel like.over (product2 (rod_of m).matrix p) (product2 p (rod_of n).matrix) high.0
                 (c.matrix ∙ multiple2-one (product2 p like.matrix) ∙ ap (product2 p) i.matrix ∙ product2-multiple2 like.over p (rod_of n).matrix);
           };
-          close = close p z (rod_of m) (rod_of n) (part_of_axis (rod_of m).shift) like.shift (rod_of m).along refl unit_positive high.1 (no_difference (rod_of m).shift) i.shift c.shift;
+          close = close p z (rod_of m) (rod_of n) (part_of_axis (rod_of m).translation) like.translation (rod_of m).along refl unit_positive high.1 (no_difference (rod_of m).translation) i.translation c.translation;
         },
       )
 
@@ -186,7 +186,7 @@ module _ (section ops : List RodMotion) (p : Matrix2) (z : ℕ) where
                 multiple2_cancel op.over (product2 (rod_of m).matrix p) (product2 p (rod_of n).matrix) rational.0
                 (sym (multiple2-product2 op.over (rod_of m).matrix p) ∙ ap (λ a. product2 a p) (sym i.matrix) ∙ sym (multiple2-one (product2 op.matrix p)) ∙ carried.matrix);
           };
-          close = close p z (rod_of m) (rod_of n) op.shift (part_of_axis (rod_of n).shift) (rod_of n).along i.along rational.1 unit_positive i.shift (no_difference (rod_of n).shift) carried.shift;
+          close = close p z (rod_of m) (rod_of n) op.translation (part_of_axis (rod_of n).translation) (rod_of n).along i.along rational.1 unit_positive i.translation (no_difference (rod_of n).translation) carried.translation;
         },
       )
 

@@ -49,32 +49,32 @@ moved_keeping x v z k f = omega (arith, ints)
 close_moved : (p : Matrix2) (m n : RodOperation) (v z : ℕ) (j : ℤ) → pos v ≡ pos z +ℤ j *ℤ (STEP *ℤ UNIT) → IsClose p v m n → IsClose p z m n
 close_moved p m n v z j e (k, f) = by m.along k f
   where
-    by : (s : Sign) (k : ℤ) → ROD_GRID *ℤ (m.shift -ℤ hand p *ℤ n.shift) -ℤ UNIT *ℤ (pos v -ℤ sign_value s *ℤ pos v) ≡ (ROD_GRID *ℤ UNIT) *ℤ k
-        → (l : ℤ) × (ROD_GRID *ℤ (m.shift -ℤ hand p *ℤ n.shift) -ℤ UNIT *ℤ (pos z -ℤ sign_value s *ℤ pos z) ≡ (ROD_GRID *ℤ UNIT) *ℤ l)
-    by Plus k f = (k, moved_keeping (m.shift -ℤ hand p *ℤ n.shift) v z k f)
-    by Minus k f = (k +ℤ j, moved_turning (m.shift -ℤ hand p *ℤ n.shift) v z j k e f)
+    by : (s : Sign) (k : ℤ) → ROD_GRID *ℤ (m.translation -ℤ hand p *ℤ n.translation) -ℤ UNIT *ℤ (pos v -ℤ sign_value s *ℤ pos v) ≡ (ROD_GRID *ℤ UNIT) *ℤ k
+        → (l : ℤ) × (ROD_GRID *ℤ (m.translation -ℤ hand p *ℤ n.translation) -ℤ UNIT *ℤ (pos z -ℤ sign_value s *ℤ pos z) ≡ (ROD_GRID *ℤ UNIT) *ℤ l)
+    by Plus k f = (k, moved_keeping (m.translation -ℤ hand p *ℤ n.translation) v z k f)
+    by Minus k f = (k +ℤ j, moved_turning (m.translation -ℤ hand p *ℤ n.translation) v z j k e f)
 
 close_kept : (p : Matrix2) (m n : RodOperation) (v z : ℕ) → m.along ≡ Plus → IsClose p v m n → IsClose p z m n
 close_kept p m n v z is (k, f) = by m.along k is f
   where
-    by : (s : Sign) (k : ℤ) → s ≡ Plus → ROD_GRID *ℤ (m.shift -ℤ hand p *ℤ n.shift) -ℤ UNIT *ℤ (pos v -ℤ sign_value s *ℤ pos v) ≡ (ROD_GRID *ℤ UNIT) *ℤ k
-        → (l : ℤ) × (ROD_GRID *ℤ (m.shift -ℤ hand p *ℤ n.shift) -ℤ UNIT *ℤ (pos z -ℤ sign_value s *ℤ pos z) ≡ (ROD_GRID *ℤ UNIT) *ℤ l)
-    by Plus k is f = (k, moved_keeping (m.shift -ℤ hand p *ℤ n.shift) v z k f)
+    by : (s : Sign) (k : ℤ) → s ≡ Plus → ROD_GRID *ℤ (m.translation -ℤ hand p *ℤ n.translation) -ℤ UNIT *ℤ (pos v -ℤ sign_value s *ℤ pos v) ≡ (ROD_GRID *ℤ UNIT) *ℤ k
+        → (l : ℤ) × (ROD_GRID *ℤ (m.translation -ℤ hand p *ℤ n.translation) -ℤ UNIT *ℤ (pos z -ℤ sign_value s *ℤ pos z) ≡ (ROD_GRID *ℤ UNIT) *ℤ l)
+    by Plus k is f = (k, moved_keeping (m.translation -ℤ hand p *ℤ n.translation) v z k f)
     by Minus k is f = absurd (cc)
 
 close_turning : (p : Matrix2) (m n : RodOperation) (v z : ℕ) → m.along ≡ Minus → IsOriginOf p m n z → IsClose p v m n
     → (z ≤ v) × ((j : ℤ) × (pos v ≡ pos z +ℤ j *ℤ (STEP *ℤ UNIT)))
 close_turning p m n v z is o (k, f) = by m.along is f
   where
-    by : (s : Sign) → s ≡ Minus → ROD_GRID *ℤ (m.shift -ℤ hand p *ℤ n.shift) -ℤ UNIT *ℤ (pos v -ℤ sign_value s *ℤ pos v) ≡ (ROD_GRID *ℤ UNIT) *ℤ k
+    by : (s : Sign) → s ≡ Minus → ROD_GRID *ℤ (m.translation -ℤ hand p *ℤ n.translation) -ℤ UNIT *ℤ (pos v -ℤ sign_value s *ℤ pos v) ≡ (ROD_GRID *ℤ UNIT) *ℤ k
         → (z ≤ v) × ((j : ℤ) × (pos v ≡ pos z +ℤ j *ℤ (STEP *ℤ UNIT)))
     by Plus is f = absurd (cc)
-    by Minus is f = agrees_from m.shift (hand p *ℤ n.shift) o.rest z v o.reduced o.is k f
+    by Minus is f = agrees_from m.translation (hand p *ℤ n.translation) o.rest z v o.reduced o.is k f
 
 -- ---- lists: a motion of the section has one partner
 
 entries_path : (m n : RodOperation) → m.matrix ≡ n.matrix → m.along ≡ n.along → rod_entries m ≡ rod_entries n
-entries_path m n e f = λ i. rod_entries (record { matrix = e i; along = f i; shift = pos 0 })
+entries_path m n e f = λ i. rod_entries (record { matrix = e i; along = f i; translation = pos 0 })
 
 compare : (i j : ℕ) → (i < j) ⊎ ((i ≡ j) ⊎ (j < i))
 compare i j = grind arith

@@ -19,23 +19,23 @@ use Rattle.recognition.specs.RodTests.{IsSmallRod}
 use Rattle.recognition.specs.RodTypes.{HasChangeOnto, IsOfRodType}
 
 abbrev some_motion : RodMotion
-some_motion = rod_line.translation (pos 0)
+some_motion = rod_line.translation_by (pos 0)
 
 abbrev K : Kind
 K = modulo_lattice rod_line
 
 -- two operations of rods that are the same modulo the axis
-pub same_rod : (m n : RodOperation) → IsSame K m n → (k : ℤ) × (m ≡ record n { shift = n.shift +ℤ k *ℤ UNIT })
+pub same_rod : (m n : RodOperation) → IsSame K m n → (k : ℤ) × (m ≡ record n { translation = n.translation +ℤ k *ℤ UNIT })
 same_rod m n same =
     let (s, lattice, e) = same.is_shift in (
       lattice.times,
       same.is ∙ ap (rod_line.then n) (sym e ∙ lattice.is) ∙ rod_line_laws.after n (lattice.times *ℤ UNIT),
     )
 
-pub moved_same : (n : RodOperation) (k : ℤ) → IsSame K (record n { shift = n.shift +ℤ k *ℤ UNIT }) n
+pub moved_same : (n : RodOperation) (k : ℤ) → IsSame K (record n { translation = n.translation +ℤ k *ℤ UNIT }) n
 moved_same n k = record {
-  shift = rod_of (rod_line.translation (k *ℤ UNIT));
-  is_shift = (rod_line.translation (k *ℤ UNIT), record { times = k; is = refl }, refl);
+  shift = rod_of (rod_line.translation_by (k *ℤ UNIT));
+  is_shift = (rod_line.translation_by (k *ℤ UNIT), record { times = k; is = refl }, refl);
   is = sym (rod_line_laws.after n (k *ℤ UNIT));
 }
 
@@ -69,26 +69,26 @@ module _ (n : ℕ) (t : RodType) (is : IsRodType n t) where
       let listed = is.closure.covers h.operation h.product in
       let (m, in_ops, e) = motion_of_rod ops listed.of listed.listed in
       let (k, same) = same_rod h.operation listed.of listed.same in
-      let o : h.operation ≡ record (rod_of m) { shift = (rod_of m).shift +ℤ k *ℤ UNIT } = same ∙ ap (λ (o : RodOperation). record o { shift = o.shift +ℤ k *ℤ UNIT }) (sym e) in
+      let o : h.operation ≡ record (rod_of m) { translation = (rod_of m).translation +ℤ k *ℤ UNIT } = same ∙ ap (λ (o : RodOperation). record o { translation = o.translation +ℤ k *ℤ UNIT }) (sym e) in
       record {
         motion = m;
         listed = in_ops;
         matrix = h.matrix ∙ ap (λ (o : RodOperation). multiple2 op.over o.matrix) o;
         along = h.along ∙ ap (λ (o : RodOperation). o.along) o;
-        shift = (k, to_list UNIT (rod_of m).shift op.shift.num op.shift.den k (h.shift ∙ ap (λ (o : RodOperation). o.shift *ℤ op.shift.den) o));
+        translation = (k, to_list UNIT (rod_of m).translation op.translation.num op.translation.den k (h.translation ∙ ap (λ (o : RodOperation). o.translation *ℤ op.translation.den) o));
       }
 
   from_listed : (op : RationalRod) → IsListedRod ops op → IsOfRodType n op
   from_listed op h =
-      let (k, e) = h.shift in
+      let (k, e) = h.translation in
       let m = rod_of h.motion in
       record {
-        operation = record m { shift = m.shift +ℤ k *ℤ UNIT };
-        product = is.closure.within (record m { shift = m.shift +ℤ k *ℤ UNIT })
+        operation = record m { translation = m.translation +ℤ k *ℤ UNIT };
+        product = is.closure.within (record m { translation = m.translation +ℤ k *ℤ UNIT })
             (record { of = m; listed = contains_rod ops h.motion h.listed; same = moved_same m k });
         matrix = h.matrix;
         along = h.along;
-        shift = from_list UNIT m.shift op.shift.num op.shift.den k e;
+        translation = from_list UNIT m.translation op.translation.num op.translation.den k e;
       }
 
   module _ (section : List RodMotion) (p : Matrix2) (z : ℕ) where

@@ -63,7 +63,7 @@ module _ (section : List LayerMotion) (t : LayerType) (p : Matrix2) (x y : ℕ) 
       record {
         matrix = a;
         side = h.like.side ∙ sym k.like.side;
-        shift = record {
+        translation = record {
           x = (f.0 -ℤ f'.0, in_cells v.x v'.x (f.0 -ℤ f'.0) x_apart);
           y = (s.0 -ℤ s'.0, in_cells v.y v'.y (s.0 -ℤ s'.0) y_apart);
         };

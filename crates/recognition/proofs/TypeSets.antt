@@ -81,7 +81,7 @@ module _ (c : Bool) (generators : List PlanarMotion) (ops : List LayerMotion) (c
     product : IsProduct (layer_kind c) generators motion
     matrix : op.matrix ≡ motion.matrix
     side : op.side ≡ motion.side
-    shift : SameRationals op.shift (in_edges motion.shift)
+    translation : SameRationals op.translation (in_edges motion.translation)
 
   together : (s o m v e : ℤ) → pos 1 ≤ℤ e → (s *ℤ e -ℤ m *ℤ o) *ℤ e ≡ v *ℤ (o *ℤ e) → s *ℤ e ≡ (m +ℤ v) *ℤ o
   together s o m v e one h =
@@ -92,20 +92,20 @@ module _ (c : Bool) (generators : List PlanarMotion) (ops : List LayerMotion) (c
   made : (op : RationalMotion) → IsListed (IsInLattice c) ops op → Made op
   made op h =
       let m = h.motion in
-      let (v, inside, same) = to_vector c (rational_minus op.shift (in_edges (pair_of m.t))) h.shift in
-      let motion : PlanarMotion = record { matrix = matrix2_of m.a; side = m.e; shift = plus2 (pair_of m.t) v } in
+      let (v, inside, same) = to_vector c (rational_minus op.translation (in_edges (pair_of m.t))) h.translation in
+      let motion : PlanarMotion = record { matrix = matrix2_of m.a; side = m.e; translation = plus2 (pair_of m.t) v } in
       record {
         motion = motion;
         product = closure.within motion (record {
           of = planar_of m;
           listed = Contains-map planar_of ops m h.listed;
-          same = (same_is c motion (planar_of m)).1 (record { matrix = refl; side = refl; shift = subst (InLattice c) (sym (plus2-minus_first (pair_of m.t) v)) inside });
+          same = (same_is c motion (planar_of m)).1 (record { matrix = refl; side = refl; translation = subst (InLattice c) (sym (plus2-minus_first (pair_of m.t) v)) inside });
         });
         matrix = h.matrix;
         side = h.side;
-        shift = record {
-          x = together op.shift.x op.shift.over (pair_of m.t).x v.x edge (omega (arith, ints)) same.x;
-          y = together op.shift.y op.shift.over (pair_of m.t).y v.y edge (omega (arith, ints)) same.y;
+        translation = record {
+          x = together op.translation.x op.translation.over (pair_of m.t).x v.x edge (omega (arith, ints)) same.x;
+          y = together op.translation.y op.translation.over (pair_of m.t).y v.y edge (omega (arith, ints)) same.y;
         };
       }
 
@@ -119,17 +119,17 @@ module _ (c : Bool) (generators : List PlanarMotion) (ops : List LayerMotion) (c
       let l = closure.covers h.motion h.product in
       let (m, within, is) = Contains-from_map planar_of ops l.of l.listed in
       let same = (same_is c h.motion l.of).0 l.same in
-      let Shift : PlanarMotion → Type 0 = λ k. InLattice c (minus2 h.motion.shift k.shift) in
+      let Shift : PlanarMotion → Type 0 = λ k. InLattice c (minus2 h.motion.translation k.translation) in
       record {
         motion = m;
         listed = within;
         matrix = h.matrix ∙ same.matrix ∙ ap (λ (k : PlanarMotion). k.matrix) (sym is);
         side = h.side ∙ same.side ∙ ap (λ (k : PlanarMotion). k.side) (sym is);
-        shift =
-            from_vector c (rational_minus op.shift (in_edges (pair_of m.t))) (minus2 h.motion.shift (pair_of m.t)) (subst Shift (sym is) same.shift)
+        translation =
+            from_vector c (rational_minus op.translation (in_edges (pair_of m.t))) (minus2 h.motion.translation (pair_of m.t)) (subst Shift (sym is) same.translation)
             (record {
-              x = apart_from op.shift.x op.shift.over h.motion.shift.x (pair_of m.t).x edge h.shift.x;
-              y = apart_from op.shift.y op.shift.over h.motion.shift.y (pair_of m.t).y edge h.shift.y;
+              x = apart_from op.translation.x op.translation.over h.motion.translation.x (pair_of m.t).x edge h.translation.x;
+              y = apart_from op.translation.y op.translation.over h.motion.translation.y (pair_of m.t).y edge h.translation.y;
             });
       }
 
@@ -142,12 +142,12 @@ module _ (n : ℕ) (t : LayerType) (h : IsLayerType n t) where
   pub to_operation : (op : RationalMotion) → IsListed (IsInLattice t.centred) t.ops.now op → IsOperation n op
   to_operation op l =
       let m = made c (layer_row n).generators t.ops.now h.closure op (subst (λ b. IsListed (IsInLattice b) t.ops.now op) h.centred l) in
-      record { motion = m.motion; product = m.product; matrix = m.matrix; side = m.side; shift = m.shift }
+      record { motion = m.motion; product = m.product; matrix = m.matrix; side = m.side; translation = m.translation }
 
   pub from_operation : (op : RationalMotion) → IsOperation n op → IsListed (IsInLattice t.centred) t.ops.now op
   from_operation op o =
       subst (λ b. IsListed (IsInLattice b) t.ops.now op) (sym h.centred)
-      (listed c (layer_row n).generators t.ops.now h.closure op (record { motion = o.motion; product = o.product; matrix = o.matrix; side = o.side; shift = o.shift }))
+      (listed c (layer_row n).generators t.ops.now h.closure op (record { motion = o.motion; product = o.product; matrix = o.matrix; side = o.side; translation = o.translation }))
 
   pub to_lattice_vector : (u : RationalPair) → IsInLattice t.centred u → IsLatticeVector n u
   to_lattice_vector u i =

@@ -10,7 +10,7 @@ use Rattle.recognition.specs.Order.{IsBoundedMatrix, IsMatrixBefore, IsTypeNumbe
 
 -- the set has a motion with this matrix and this sign
 abbrev pub HasBlock : (RationalMotion → Type 0) → Matrix2 → Sign → Type 0
-HasBlock Has a e = (op : RationalMotion) × IsRationalPair op.shift × Has op × (op.matrix ≡ a) × (op.side ≡ e)
+HasBlock Has a e = (op : RationalMotion) × IsRationalPair op.translation × Has op × (op.matrix ≡ a) × (op.side ≡ e)
 
 -- the matrix P takes the lattice of the type n onto the whole vectors, and for every A and every sign e the section has a
 -- motion with A and e exactly if the type has an operation (A', e, t') with A P = P A'

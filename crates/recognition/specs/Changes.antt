@@ -28,7 +28,7 @@ pub record IsOperation (n : ℕ) (op : RationalMotion) : Type 0 where
   pub product : IsProduct (layer_kind (layer_row n).centred) (layer_row n).generators motion
   pub matrix : op.matrix ≡ motion.matrix
   pub side : op.side ≡ motion.side
-  pub shift : SameRationals op.shift (in_edges motion.shift)
+  pub translation : SameRationals op.translation (in_edges motion.translation)
 
 -- a vector of its lattice
 pub record IsLatticeVector (n : ℕ) (u : RationalPair) : Type 0 where
@@ -43,7 +43,7 @@ pub record IsLatticeVector (n : ℕ) (u : RationalPair) : Type 0 where
 pub record IsCarried (p : Matrix2) (o : RationalPair) (op like : RationalMotion) : Type 0 where
   pub side : op.side ≡ like.side
   pub matrix : product2 op.matrix p ≡ product2 p like.matrix
-  pub shift : IsWhole (rational_minus (rational_minus op.shift (rational_image p like.shift)) (moved_by op.matrix o))
+  pub translation : IsWhole (rational_minus (rational_minus op.translation (rational_image p like.translation)) (moved_by op.matrix o))
 
 -- the matrix takes the set of vectors onto the whole vectors
 pub record TakesOnto (IsVector : RationalPair → Type 0) (p : Matrix2) : Type 0 where
@@ -55,8 +55,8 @@ pub record TakesOnto (IsVector : RationalPair → Type 0) (p : Matrix2) : Type 0
 -- whole ones, and each motion is in the one set exactly if it is, by the change, some motion of the other
 pub record CarriesSet (Has : RationalMotion → Type 0) (IsVector : RationalPair → Type 0) (HasOther : RationalMotion → Type 0) (p : Matrix2) (o : RationalPair) : Type 0 where
   pub lattice : TakesOnto IsVector p
-  pub operations : (op : RationalMotion) → IsRationalPair op.shift
-      → Has op ↔ ((like : RationalMotion) × IsRationalPair like.shift × HasOther like × IsCarried p o op like)
+  pub operations : (op : RationalMotion) → IsRationalPair op.translation
+      → Has op ↔ ((like : RationalMotion) × IsRationalPair like.translation × HasOther like × IsCarried p o op like)
 
 -- the change with the matrix P and the origin o carries the section onto the layer type n
 abbrev pub Carries : List LayerMotion → ℕ → Matrix2 → RationalPair → Type 0

@@ -26,7 +26,7 @@ rest_along n e r t t' =
 pub record IsCarried (p : Matrix2) (r : Fraction) (op like : RationalRod) : Type 0 where
   pub along : op.along ≡ like.along
   pub matrix : multiple2 like.over (product2 op.matrix p) ≡ multiple2 op.over (product2 p like.matrix)
-  pub shift : IsWhole (rest_along (hand p) (sign_value op.along) r op.shift like.shift)
+  pub translation : IsWhole (rest_along (hand p) (sign_value op.along) r op.translation like.translation)
 
 -- the change by P and r carries the one set of operations onto the other: its cross number is not 0, and an operation is
 -- in the one set exactly where some operation of the other is, after the change, the same

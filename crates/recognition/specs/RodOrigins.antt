@@ -31,5 +31,5 @@ AreApart ops = AllPairs (λ m n. ¬ (rod_entries m ≡ rod_entries n)) (map rod_
 -- the least point of the grid at which the translations of two motions agree that turn the axis
 pub record IsOriginOf (p : Matrix2) (m n : RodOperation) (z : ℕ) : Type 0 where
   pub rest : ℤ
-  pub reduced : IsReduced (m.shift -ℤ hand p *ℤ n.shift) rest
+  pub reduced : IsReduced (m.translation -ℤ hand p *ℤ n.translation) rest
   pub is : pos z ≡ STEP *ℤ rest

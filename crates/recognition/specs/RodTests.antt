@@ -16,7 +16,7 @@ pub record IsLike (p : Matrix2) (m n : RodOperation) : Type 0 where
 
 -- t - n t' - (r - e r), counted in parts of the grid of a part
 abbrev pub rest : Matrix2 → ℕ → RodOperation → RodOperation → ℤ
-rest p z m n = ROD_GRID *ℤ (m.shift -ℤ hand p *ℤ n.shift) -ℤ UNIT *ℤ (pos z -ℤ sign_value m.along *ℤ pos z)
+rest p z m n = ROD_GRID *ℤ (m.translation -ℤ hand p *ℤ n.translation) -ℤ UNIT *ℤ (pos z -ℤ sign_value m.along *ℤ pos z)
 
 -- the translations agree up to a whole multiple of the axis
 abbrev pub IsClose : Matrix2 → ℕ → RodOperation → RodOperation → Type 0

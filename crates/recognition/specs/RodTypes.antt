@@ -20,7 +20,7 @@ pub record IsOfRodType (n : ℕ) (op : RationalRod) : Type 0 where
   pub product : IsProduct (modulo_lattice rod_line) (rod_row n).generators operation
   pub matrix : op.matrix ≡ multiple2 op.over operation.matrix
   pub along : op.along ≡ operation.along
-  pub shift : SameFraction op.shift (part_of_axis operation.shift)
+  pub translation : SameFraction op.translation (part_of_axis operation.translation)
 
 -- the change by P and the point z of the grid carries the section that a list stands for onto the rod type of the number n
 abbrev pub HasChangeOnto : List RodMotion → ℕ → Matrix2 → ℕ → Type 0

@@ -118,7 +118,7 @@ module _ (group : Group) (frame : Frame) (made : IsMadeFor group frame) where
         once = λ i j d before within same.
             all_once g r f some_scanning.0 (own_group group) frame.plane.coprime is_frame some_scanning.1 ops section general_lists
             (seen_as (pos 0) ops section seen some_scanning.0 some_scanning.1) i j d before within
-            (record { matrix = same.matrix; side = same.side; shift = same.shift });
+            (record { matrix = same.matrix; side = same.side; translation = same.translation });
       }
 
       pub general_found : (o : Option Change) → IsFound (InSection section) o → IsGeneralType g r f o
@@ -162,7 +162,7 @@ module _ (group : Group) (frame : Frame) (made : IsMadeFor group frame) where
           once = λ i j d before within same.
               stabiliser_once g r f some_scanning.0 (own_group group) frame.plane.coprime is_frame some_scanning.1 s (height_in_steps (dot r f.tau) k)
               is.in_period.positive (step_high k) at.is ops section special_lists (seen_as k ops section seen some_scanning.0 some_scanning.1)
-              i j d before within (record { matrix = same.matrix; side = same.side; shift = same.shift });
+              i j d before within (record { matrix = same.matrix; side = same.side; translation = same.translation });
         }
 
         pub special_found : (o : Option Change) → IsFound (InSection section) o → IsTypeAt g r f s o

@@ -71,21 +71,21 @@ abbrev is_layer_block : List ℕ → Motion → Bool
 is_layer_block text m =
     let planar = planar_written text in
     same_matrix m.matrix (block_matrix planar)
-    && (int_eq planar.shift.x (pos 2 *ℤ m.shift.x)
-    && (int_eq planar.shift.y (pos 2 *ℤ m.shift.y)
-    && int_eq m.shift.z (pos 0)))
+    && (int_eq planar.translation.x (pos 2 *ℤ m.translation.x)
+    && (int_eq planar.translation.y (pos 2 *ℤ m.translation.y)
+    && int_eq m.translation.z (pos 0)))
 
 layer_block : (text : List ℕ) (m : Motion) → is_layer_block text m ≡ true → IsBlockForm (planar_written text) m
 layer_block text m e =
     let planar = planar_written text in
     let (matrix, e1) = and_parts (same_matrix m.matrix (block_matrix planar)) _ e in
-    let (x, e2) = and_parts (int_eq planar.shift.x (pos 2 *ℤ m.shift.x)) _ e1 in
-    let (y, z) = and_parts (int_eq planar.shift.y (pos 2 *ℤ m.shift.y)) _ e2 in
+    let (x, e2) = and_parts (int_eq planar.translation.x (pos 2 *ℤ m.translation.x)) _ e1 in
+    let (y, z) = and_parts (int_eq planar.translation.y (pos 2 *ℤ m.translation.y)) _ e2 in
     record {
       matrix = (same_matrix-is m.matrix (block_matrix planar)).0 matrix;
-      x = (Decides-int_eq planar.shift.x (pos 2 *ℤ m.shift.x)).0 x;
-      y = (Decides-int_eq planar.shift.y (pos 2 *ℤ m.shift.y)).0 y;
-      z = (Decides-int_eq m.shift.z (pos 0)).0 z;
+      x = (Decides-int_eq planar.translation.x (pos 2 *ℤ m.translation.x)).0 x;
+      y = (Decides-int_eq planar.translation.y (pos 2 *ℤ m.translation.y)).0 y;
+      z = (Decides-int_eq m.translation.z (pos 0)).0 z;
     }
 
 abbrev is_layer_generator : List ℕ → Bool

@@ -30,7 +30,7 @@ centring_line false = []
 abbrev pub block_of_layer : LayerMotion → Motion
 block_of_layer m = record {
   matrix = block_matrix (planar_of m);
-  shift = record { x = int_div (planar_of m).shift.x (pos 2); y = int_div (planar_of m).shift.y (pos 2); z = pos 0 };
+  translation = record { x = int_div (planar_of m).translation.x (pos 2); y = int_div (planar_of m).translation.y (pos 2); z = pos 0 };
 }
 
 -- the block form of a motion of a rod

@@ -43,7 +43,8 @@ pub fn alike_reports()
 pub fn rod_says()
     ensures { (g : Listing) (group : Group) (direction : Direction) (basis : RodBasis)
         (frame : RodFrame) (point : List Part) (rod : Rod) →
-        IsGroupOf g group → IsRodFrameOf group direction basis frame → IsRodOf group frame point rod →
+        IsGroupOf g group → IsRodFrameOf group direction basis frame →
+        IsRodOf group frame point rod →
         IsRodReport g (direction_of direction) (parts basis.a) (parts basis.b) (parts point)
         (rod_report_of rod) }
 {}

@@ -10,7 +10,7 @@ use Rattle.sample.specs.Shears.{shear, sheared}
 
 -- a matrix as a motion that leaves the origin
 abbrev pub linear : Matrix → Motion
-linear m = record { matrix = m; shift = origin }
+linear m = record { matrix = m; translation = origin }
 
 module _ (j : ℤ) where
   abbrev pub S : Matrix
@@ -39,7 +39,7 @@ module _ (j : ℤ) where
   pub sheared_steps : (m : Motion) → followed_by (followed_by (linear T) m) (linear S) ≡ sheared j m
   sheared_steps m =
       motion_path (sym (product_assoc S m.matrix T))
-      (plus-origin (image S (plus (image m.matrix origin) m.shift)) ∙ ap (image S) (ap (λ v. plus v m.shift) (image-origin m.matrix) ∙ origin-plus m.shift))
+      (plus-origin (image S (plus (image m.matrix origin) m.translation)) ∙ ap (image S) (ap (λ v. plus v m.translation) (image-origin m.matrix) ∙ origin-plus m.translation))
 
   -- (A T) (S B) is A B
   between : (A B : Matrix) → product (product A T) (product S B) ≡ product A B
@@ -62,7 +62,7 @@ module _ (j : ℤ) where
       ∙ product_assoc S n.matrix (product m.matrix T)
       ∙ ap (product S) (sym (product_assoc n.matrix m.matrix T))
       ∙ sym (product_assoc S (product n.matrix m.matrix) T))
-      (ap (λ v. plus v (image S n.shift)) (image-sheared n.matrix m.shift) ∙ sym (image-plus S (image n.matrix m.shift) n.shift))
+      (ap (λ v. plus v (image S n.translation)) (image-sheared n.matrix m.translation) ∙ sym (image-plus S (image n.matrix m.translation) n.translation))
 
   pub sheared-identity : sheared j identity ≡ identity
   sheared-identity = motion_path (ap (λ m. product m T) (product-unit_right S) ∙ there_and_back) (image-origin S)

@@ -20,7 +20,7 @@ inverse_matrix m = (if int_eq (determinant2 m) (pos 1) then adjugate2 m else opp
 abbrev undoing : PlanarMotion → PlanarMotion
 undoing m =
     let matrix = inverse_matrix m.matrix in
-    record { matrix = matrix; side = m.side; shift = opposite2 (image2 matrix m.shift) }
+    record { matrix = matrix; side = m.side; translation = opposite2 (image2 matrix m.translation) }
 
 abbrev is_undone : PlanarMotion → Bool
 is_undone m = same_planar (planar_followed_by m (undoing m)) planar_identity && same_planar (planar_followed_by (undoing m) m) planar_identity

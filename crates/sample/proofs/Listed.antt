@@ -23,7 +23,7 @@ type_operations n t h k d within =
     let is = Contains-map planar_of t.ops.now m (Contains-get_or t.ops.now k d within) in
     record {
       entries = All-contains (λ p. IsMatrix2Within 1 p.matrix) ms (planar_of m) h.entries is;
-      reduced = All-contains (λ p. IsReduced p.shift) ms (planar_of m) h.reduced is;
+      reduced = All-contains (λ p. IsReduced p.translation) ms (planar_of m) h.reduced is;
       parts = All-contains (λ p. ¬ HasHalfPart p) ms (planar_of m) h.parts is;
     }
 

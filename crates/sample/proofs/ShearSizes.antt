@@ -84,19 +84,19 @@ module _ (j : ℤ) (within : IsWithin 2 j) where
   unfolding dot
   shift_there n v h = record { x = entry n v.x v.y v.z h.x h.z; y = alone n v.x v.y v.z h.y; z = last n v.x v.y v.z h.z }
 
-  module _ (m : Motion) (matrix : IsMatrixWithin 1 m.matrix) (shift : IsVectorWithin (2 ^ 30) m.shift) where
+  module _ (m : Motion) (matrix : IsMatrixWithin 1 m.matrix) (shift : IsVectorWithin (2 ^ 30) m.translation) where
     -- first back, then the operation
     pub stepped_small : IsSmall (followed_by (linear (shear (neg_ℤ j))) m)
     stepped_small = record {
       matrix = matrix_more _ (lit≤ tt) (matrix_back m.matrix (matrix_more m.matrix (lit≤ tt) matrix));
-      shift = subst (IsVectorWithin (2 ^ 40)) (sym (ap (λ v. plus v m.shift) (image-origin m.matrix) ∙ origin-plus m.shift)) (IsVectorWithin-more shift (lit≤ tt));
+      translation = subst (IsVectorWithin (2 ^ 40)) (sym (ap (λ v. plus v m.translation) (image-origin m.matrix) ∙ origin-plus m.translation)) (IsVectorWithin-more shift (lit≤ tt));
     }
 
     pub sheared_small : IsSmallWithin 50 (sheared j m)
     sheared_small =
         let entries = matrix_back (product (shear j) m.matrix) (matrix_there m.matrix matrix) in
         record {
-          small = record { matrix = matrix_more _ (lit≤ tt) entries; shift = IsVectorWithin-more (shift_there (2 ^ 30) m.shift shift) (lit≤ tt) };
+          small = record { matrix = matrix_more _ (lit≤ tt) entries; translation = IsVectorWithin-more (shift_there (2 ^ 30) m.translation shift) (lit≤ tt) };
           matrix = matrix_more _ (lit≤ tt) entries;
         }
 
@@ -112,10 +112,10 @@ block_within p h = record {
     sign_within Plus = record { most = lit≤ tt }
     sign_within Minus = record { most = lit≤ tt }
 
-pub block_shift_within : (p : PlanarMotion) (b : Motion) → IsBlockForm p b → IsReduced p.shift → IsVectorWithin (2 ^ 30) b.shift
+pub block_shift_within : (p : PlanarMotion) (b : Motion) → IsBlockForm p b → IsReduced p.translation → IsVectorWithin (2 ^ 30) b.translation
 block_shift_within p b k h = record {
-  x = half_within p.shift.x b.shift.x k.x h.x_least h.x_below;
-  y = half_within p.shift.y b.shift.y k.y h.y_least h.y_below;
+  x = half_within p.translation.x b.translation.x k.x h.x_least h.x_below;
+  y = half_within p.translation.y b.translation.y k.y h.y_least h.y_below;
   z = subst (IsWithin (2 ^ 30)) (sym k.z) (record { most = lit≤ tt });
 }
   where

@@ -57,7 +57,7 @@ half_of (pos n) from even = elim (cases_lt (n % 2) 1) [
 ]
 half_of (negsuc n) from even = absurd (omega (arith, ints, from))
 
-block_form : (m : LayerMotion) → IsReduced (planar_of m).shift → ¬ HasHalfPart (planar_of m) → IsBlockForm (planar_of m) (block_of_layer m)
+block_form : (m : LayerMotion) → IsReduced (planar_of m).translation → ¬ HasHalfPart (planar_of m) → IsBlockForm (planar_of m) (block_of_layer m)
 block_form m reduced parts = record {
   matrix = refl;
   x = half_of _ reduced.x_least (λ odd. parts (inl odd));
@@ -69,7 +69,7 @@ identity_form : IsBlockForm planar_identity identity
 identity_form = record { matrix = refl; x = refl; y = refl; z = refl }
 
 one_block : (p q : PlanarMotion) → p.matrix ≡ q.matrix → p.side ≡ q.side → block_matrix p ≡ block_matrix q
-one_block p q matrix side = λ i. block_matrix (record { matrix = matrix i; side = side i; shift = p.shift })
+one_block p q matrix side = λ i. block_matrix (record { matrix = matrix i; side = side i; translation = p.translation })
 
 is_plus : (s : Sign) → sign_value s ≡ pos 1 → s ≡ Plus
 is_plus Plus e = refl
@@ -131,7 +131,7 @@ module _ (n : ℕ) (t : LayerType) (h : IsLayerType n t) (j : ℤ) where
 
   form : (m : LayerMotion) → Contains t.ops.now m → IsBlockForm (planar_of m) (B m)
   form m is =
-      block_form m (All-contains (λ p. IsReduced p.shift) ms (planar_of m) h.reduced (planar m is))
+      block_form m (All-contains (λ p. IsReduced p.translation) ms (planar_of m) h.reduced (planar m is))
       (All-contains (λ p. ¬ HasHalfPart p) ms (planar_of m) h.parts (planar m is))
 
   -- the one translation is by 0
@@ -140,9 +140,9 @@ module _ (n : ℕ) (t : LayerType) (h : IsLayerType n t) (j : ℤ) where
       let (m, within, e) = Contains-from_map (λ m. sheared j (B m)) t.ops.now (translation v) is in
       let unit : (B m).matrix ≡ unit_matrix = unsheared j (B m).matrix (ap (λ (k : Motion). k.matrix) e) in
       let first : planar_of m ≡ planar_identity = only_first ms h.order.first h.apart (planar_of m) (planar m within) (unit_block (planar_of m) unit) in
-      let none : (B m).shift ≡ origin =
-      (λ i. record { x = int_div (first i).shift.x (pos 2); y = int_div (first i).shift.y (pos 2); z = pos 0 }) in
-      ap (λ (k : Motion). k.shift) (sym e) ∙ ap (image (S j)) none ∙ image-origin (S j)
+      let none : (B m).translation ≡ origin =
+      (λ i. record { x = int_div (first i).translation.x (pos 2); y = int_div (first i).translation.y (pos 2); z = pos 0 }) in
+      ap (λ (k : Motion). k.translation) (sym e) ∙ ap (image (S j)) none ∙ image-origin (S j)
 
   abbrev pub g : Listing
   g = with_centrings c ops
@@ -151,19 +151,19 @@ module _ (n : ℕ) (t : LayerType) (h : IsLayerType n t) (j : ℤ) where
   in_g = cell_in_lattice c ops alone
 
   -- what is the same in the plane is the same in space
-  flat_shift : (p q : PlanarMotion) (b d : Motion) → IsBlockForm p b → IsBlockForm q d → InLattice c (minus2 p.shift q.shift) → InCell c (minus b.shift d.shift)
+  flat_shift : (p q : PlanarMotion) (b d : Motion) → IsBlockForm p b → IsBlockForm q d → InLattice c (minus2 p.translation q.translation) → InCell c (minus b.translation d.translation)
   unfolding plus multiple
   flat_shift p q b d k l s =
-      flat_in_cell c (minus2 p.shift q.shift) (minus b.shift d.shift) s (omega (arith, ints, k.x, l.x)) (omega (arith, ints, k.y, l.y)) (omega (arith, ints, k.z, l.z))
+      flat_in_cell c (minus2 p.translation q.translation) (minus b.translation d.translation) s (omega (arith, ints, k.x, l.x)) (omega (arith, ints, k.y, l.y)) (omega (arith, ints, k.z, l.z))
 
-  no_height : (b d : Motion) → b.shift.z ≡ pos 0 → d.shift.z ≡ pos 0 → (minus b.shift d.shift).z ≡ pos 0
+  no_height : (b d : Motion) → b.translation.z ≡ pos 0 → d.translation.z ≡ pos 0 → (minus b.translation d.translation).z ≡ pos 0
   unfolding plus multiple
   no_height b d e f = omega (arith, ints, e, f)
 
   same_in_space : (p q : PlanarMotion) (b d : Motion) → IsBlockForm p b → IsBlockForm q d → AreSame c p q → SameModulo g (sheared j b) (sheared j d)
   same_in_space p q b d k l s = record {
     matrix = ap (λ w. product (product (S j) w) (T j)) (k.matrix ∙ one_block p q s.matrix s.side ∙ sym l.matrix);
-    shift = subst (IsInLattice g) (sym (flat_sheared j (minus b.shift d.shift) (no_height b d k.z l.z)) ∙ image-minus (S j) b.shift d.shift) (in_g (minus b.shift d.shift) (flat_shift p q b d k l s.shift));
+    translation = subst (IsInLattice g) (sym (flat_sheared j (minus b.translation d.translation) (no_height b d k.z l.z)) ∙ image-minus (S j) b.translation d.translation) (in_g (minus b.translation d.translation) (flat_shift p q b d k l s.translation));
   }
 
   -- ---- the group
@@ -290,7 +290,7 @@ module _ (n : ℕ) (t : LayerType) (h : IsLayerType n t) (j : ℤ) where
   small_matrix m is within =
       let p = planar_of m in
       let entries = All-contains (λ p. IsMatrix2Within 1 p.matrix) ms p h.entries (planar m is) in
-      let reduced = All-contains (λ p. IsReduced p.shift) ms p h.reduced (planar m is) in
+      let reduced = All-contains (λ p. IsReduced p.translation) ms p h.reduced (planar m is) in
       (sheared_small j within (B m) (block_within p entries) (block_shift_within p (B m) (form m is) reduced)).matrix
 
   pub not_skewed : IsWithin 2 j → ¬ IsSkewed g upright (sample_frame c)

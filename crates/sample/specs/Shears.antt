@@ -15,5 +15,5 @@ shear j = record {
 abbrev pub sheared : ℤ → Motion → Motion
 sheared j m = record {
   matrix = product (product (shear j) m.matrix) (shear (neg_ℤ j));
-  shift = image (shear j) m.shift;
+  translation = image (shear j) m.translation;
 }

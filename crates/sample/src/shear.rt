@@ -16,7 +16,7 @@ use quotient::Motion;
 pub(crate) fn sheared(m: &Motion3, j: i64) -> Motion3
     requires shear { IsWithin 2 j }
     requires matrix { IsMatrixWithin 1 (motion_of m.now).matrix }
-    requires shift { IsVectorWithin (2 ^ 30) (motion_of m.now).shift }
+    requires translation { IsVectorWithin (2 ^ 30) (motion_of m.now).translation }
     ensures is { motion_of result ≡ sheared j (motion_of m.now) }
     ensures small { IsSmallWithin 50 (motion_of result) }
 {
@@ -25,7 +25,7 @@ pub(crate) fn sheared(m: &Motion3, j: i64) -> Motion3
 
 /// The change of coordinates to x + j z, y, z.
 fn shear(j: i64) -> Motion3
-    ensures { motion_of result ≡ record { matrix = shear j; shift = origin } }
+    ensures { motion_of result ≡ record { matrix = shear j; translation = origin } }
 {
     Motion3 {
         w: [[1, 0, j], [0, 1, 0], [0, 0, 1]],

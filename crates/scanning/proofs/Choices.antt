@@ -23,10 +23,10 @@ dot-minus r v w = dot-plus r v (opposite w) ∙ ap (λ n. dot r v +ℤ n) (dot-m
 
 module _ (g : Listing) (r : Vector) (f : Basis) (frame : IsFrame g r f) (S : Motion → Type 0) (m : Motion) where
   -- under the row members of the lattice give whole numbers of periods
-  pub periods_between : (n : Motion) → SameModulo g n m → (k : ℤ) × (dot r n.shift -ℤ dot r m.shift ≡ k *ℤ dot r f.tau)
+  pub periods_between : (n : Motion) → SameModulo g n m → (k : ℤ) × (dot r n.translation -ℤ dot r m.translation ≡ k *ℤ dot r f.tau)
   periods_between n same =
-      let (c, is) = frame.spans (minus n.shift m.shift) same.shift in
-      (c.z, sym (dot-minus r n.shift m.shift) ∙ ap (dot r) (sym is) ∙ in_tau c)
+      let (c, is) = frame.spans (minus n.translation m.translation) same.translation in
+      (c.z, sym (dot-minus r n.translation m.translation) ∙ ap (dot r) (sym is) ∙ in_tau c)
     where
       zeros : (x y z : ℤ) → x *ℤ pos 0 +ℤ y *ℤ pos 0 +ℤ z ≡ z
       zeros x y z = omega (arith, ints)
@@ -40,7 +40,7 @@ module _ (g : Listing) (r : Vector) (f : Basis) (frame : IsFrame g r f) (S : Mot
           ∙ zeros c.x c.y (c.z *ℤ dot r f.tau)
 
   -- where the set asks that the row gives one number on the translation, and the motion is whole periods from it, nothing else is chosen
-  pub some_choice : (target : ℤ) → ((n : Motion) → n.matrix ≡ m.matrix → S n → dot r n.shift ≡ target)
+  pub some_choice : (target : ℤ) → ((n : Motion) → n.matrix ≡ m.matrix → S n → dot r n.translation ≡ target)
       → (h : Motion) → S h → IsAtHome f h → SameModulo g h m → IsChoice (SameModulo g) (IsAtHome f) S m (Some h)
   some_choice target asks h member home same =
       (member, home, same, λ n member' home' same'. home_once g r f frame n h home' home (differs n member' same'))
@@ -49,9 +49,9 @@ module _ (g : Listing) (r : Vector) (f : Basis) (frame : IsFrame g r f) (S : Mot
       differs n member' same' =
           let both = same_trans g n m h same' (same_sym g h m same) in record {
             matrix = both.matrix;
-            shift = (
-              both.shift,
-              dot-minus r n.shift h.shift ∙ (λ i. asks n same'.matrix member' i -ℤ asks h same.matrix member i) ∙ nothing target,
+            translation = (
+              both.translation,
+              dot-minus r n.translation h.translation ∙ (λ i. asks n same'.matrix member' i -ℤ asks h same.matrix member i) ∙ nothing target,
             );
           }
         where
@@ -59,10 +59,10 @@ module _ (g : Listing) (r : Vector) (f : Basis) (frame : IsFrame g r f) (S : Mot
           nothing a = omega (arith, ints)
 
   -- and where it is not whole periods from it, nothing is
-  pub no_choice : (target : ℤ) → ((n : Motion) → n.matrix ≡ m.matrix → S n → dot r n.shift ≡ target)
-      → ((k : ℤ) → target -ℤ dot r m.shift ≡ k *ℤ dot r f.tau → ⊥) → IsChoice (SameModulo g) (IsAtHome f) S m None
+  pub no_choice : (target : ℤ) → ((n : Motion) → n.matrix ≡ m.matrix → S n → dot r n.translation ≡ target)
+      → ((k : ℤ) → target -ℤ dot r m.translation ≡ k *ℤ dot r f.tau → ⊥) → IsChoice (SameModulo g) (IsAtHome f) S m None
   no_choice target asks apart n member home same =
-      let (k, is) = periods_between n same in apart k (ap (λ t. t -ℤ dot r m.shift) (sym (asks n same.matrix member)) ∙ is)
+      let (k, is) = periods_between n same in apart k (ap (λ t. t -ℤ dot r m.translation) (sym (asks n same.matrix member)) ∙ is)
 
 -- ---- the members by rows
 
@@ -95,7 +95,7 @@ module _ (g : Listing) (r : Vector) (f : Basis) (frame : IsFrame g r f) where
 
     -- what is asked of those with its matrix
     asks : (turned : Option ℤ) (e : Sign) → HasSign e → (t : ℤ) → asked e turned ≡ Some t
-        → (n : Motion) → n.matrix ≡ m.matrix → InRows g r turned n → dot r n.shift ≡ t
+        → (n : Motion) → n.matrix ≡ m.matrix → InRows g r turned n → dot r n.translation ≡ t
     asks None Plus row t is n matrix (member, keeps) = let zero : pos 0 ≡ t = cc in keeps.1 ∙ zero
     asks None Minus row t is n matrix member = absurd (cc is)
     asks (Some u) Plus row t is n matrix (member, inl keeps) = let zero : pos 0 ≡ t = cc in keeps.1 ∙ zero
@@ -106,7 +106,7 @@ module _ (g : Listing) (r : Vector) (f : Basis) (frame : IsFrame g r f) where
 
     -- and is enough
     in_rows : (turned : Option ℤ) (e : Sign) → HasSign e → (t : ℤ) → asked e turned ≡ Some t
-        → (n : Motion) → n.matrix ≡ m.matrix → IsMember g n → dot r n.shift ≡ t → InRows g r turned n
+        → (n : Motion) → n.matrix ≡ m.matrix → IsMember g n → dot r n.translation ≡ t → InRows g r turned n
     in_rows None Plus row t is n matrix member at = let zero : t ≡ pos 0 = cc in (member, (same_row n matrix ∙ row ∙ multiple-one r, at ∙ zero))
     in_rows None Minus row t is n matrix member at = absurd (cc is)
     in_rows (Some u) Plus row t is n matrix member at =
@@ -115,14 +115,14 @@ module _ (g : Listing) (r : Vector) (f : Basis) (frame : IsFrame g r f) where
 
     module _ (turned : Option ℤ) (e : Sign) (row : HasSign e) (t : ℤ) (is : asked e turned ≡ Some t) where
       -- a motion at home with what is asked
-      pub at_shift : IsMember g m → (h : Motion) → SameModulo g h m → IsAtHome f h → dot r h.shift ≡ t
+      pub at_shift : IsMember g m → (h : Motion) → SameModulo g h m → IsAtHome f h → dot r h.translation ≡ t
           → IsChoice (SameModulo g) (IsAtHome f) (InRows g r turned) m (Some h)
       at_shift member h same home at =
           some_choice g r f frame (InRows g r turned) m t (asks turned e row t is) h
           (in_rows turned e row t is h same.matrix (same_member g h m same member) at) home same
 
       -- no whole number of periods leads to it
-      pub off_shift : ((k : ℤ) → ¬ (dot r f.tau *ℤ k ≡ t -ℤ dot r m.shift)) → IsChoice (SameModulo g) (IsAtHome f) (InRows g r turned) m None
+      pub off_shift : ((k : ℤ) → ¬ (dot r f.tau *ℤ k ≡ t -ℤ dot r m.translation)) → IsChoice (SameModulo g) (IsAtHome f) (InRows g r turned) m None
       off_shift none =
           no_choice g r f frame (InRows g r turned) m t (asks turned e row t is)
           (λ k apart. none k (flipped (dot r f.tau) k ∙ sym apart))

@@ -48,14 +48,14 @@ module _ (g : Listing) (r : Vector) (f : Basis) (frame : IsFrame g r f) (group :
       let (n, listed, alike) = same_listed g ms same member.of member.listed in
       let close : SameModulo g m n = same_trans g m member.of n member.same (same_sym g n member.of alike) in
       let (k, apart) = periods_between g r f frame (IsMember g) n m close in (
-        dot r m.shift,
+        dot r m.translation,
         sym twice,
         record {
           op = n;
           listed = listed;
           row = ap (row_times r) (sym close.matrix) ∙ row;
           periods = k;
-          is = moved (dot r m.shift) (dot r n.shift) (k *ℤ dot r f.tau) apart;
+          is = moved (dot r m.translation) (dot r n.translation) (k *ℤ dot r f.tau) apart;
         },
       )
     where
@@ -68,7 +68,7 @@ module _ (g : Listing) (r : Vector) (f : Basis) (frame : IsFrame g r f) (group :
       let m = raised f k turned.op in
       (special_by_row g r s group coprime high).1 (
         m,
-        same_member g m turned.op (raised_same g r f frame k turned.op turned.op turned.op (same_refl g turned.op) refl (same_refl g turned.op).shift)
+        same_member g m turned.op (raised_same g r f frame k turned.op turned.op turned.op (same_refl g turned.op) refl (same_refl g turned.op).translation)
             (All-contains (IsMember g) ms turned.op (same_members g ms same) turned.listed),
         (turned.row, sym level ∙ ap (λ z. s.den *ℤ z) (turned.is ∙ sym (raised_shift r f k turned.op))),
       )
@@ -101,7 +101,7 @@ module _ (g : Listing) (r : Vector) (f : Basis) (frame : IsFrame g r f) (group :
           listed = turned.listed;
           row = turned.row;
           periods = turned.periods +ℤ pos 2 *ℤ q;
-          is = linear (dot r f.tau ∷ q ∷ t0 ∷ t ∷ dot r turned.op.shift ∷ turned.periods ∷ []) (var 3) (var 4 ⊕ (var 5 ⊕ num (pos 2) ⊗ var 1) ⊗ var 0)
+          is = linear (dot r f.tau ∷ q ∷ t0 ∷ t ∷ dot r turned.op.translation ∷ turned.periods ∷ []) (var 3) (var 4 ⊕ (var 5 ⊕ num (pos 2) ⊗ var 1) ⊗ var 0)
               (given (num (negsuc 0)) (var 2 ⊕ num (pos 2) ⊗ var 0 ⊗ var 1) (var 3) ∷ given (num (pos 1)) (var 2) (var 4 ⊕ var 5 ⊗ var 0) ∷ []) tt (whole, (turned.is, tt));
         }
 
@@ -111,7 +111,7 @@ module _ (g : Listing) (r : Vector) (f : Basis) (frame : IsFrame g r f) (group :
           listed = turned.listed;
           row = turned.row;
           periods = turned.periods -ℤ pos 2 *ℤ q;
-          is = linear (dot r f.tau ∷ q ∷ t0 ∷ t ∷ dot r turned.op.shift ∷ turned.periods ∷ []) (var 2) (var 4 ⊕ (var 5 ⊝ num (pos 2) ⊗ var 1) ⊗ var 0)
+          is = linear (dot r f.tau ∷ q ∷ t0 ∷ t ∷ dot r turned.op.translation ∷ turned.periods ∷ []) (var 2) (var 4 ⊕ (var 5 ⊝ num (pos 2) ⊗ var 1) ⊗ var 0)
               (given (num (pos 1)) (var 2 ⊕ num (pos 2) ⊗ var 0 ⊗ var 1) (var 3) ∷ given (num (pos 1)) (var 3) (var 4 ⊕ var 5 ⊗ var 0) ∷ []) tt (whole, (turned.is, tt));
         }
 

@@ -24,25 +24,25 @@ use Rattle.scanning.proofs.Shifts.{shift_within}
 
 module _ (g : Listing) (r : Vector) (f : Basis) (frame : IsFrame g r f) (m n h : Motion) where
   -- a whole combination of a and b is in the lattice
-  pub home_same : SameModulo g n m → h.matrix ≡ n.matrix → IsPlaneCombination f (minus n.shift h.shift) → SameModulo g h m
+  pub home_same : SameModulo g n m → h.matrix ≡ n.matrix → IsPlaneCombination f (minus n.translation h.translation) → SameModulo g h m
   home_same same matrix (c, combined, flat) =
-      same_trans g h n m (same_sym g n h (record { matrix = sym matrix; shift = subst (IsInLattice g) combined (frame.inside c) })) same
+      same_trans g h n m (same_sym g n h (record { matrix = sym matrix; translation = subst (IsInLattice g) combined (frame.inside c) })) same
 
   pub home_motion : IsVectorWithin (unsigned_abs INDEX) r → IsVectorWithin largest_entry f.a → IsVectorWithin largest_entry f.b → IsVectorWithin largest_entry f.tau
-      → IsSmallWithin (unsigned_abs MAX_ENTRY) m → n.matrix ≡ m.matrix → IsVectorWithin (unsigned_abs UNIT) n.shift
-      → h.matrix ≡ n.matrix → dot r h.shift ≡ dot r n.shift → IsAtHome f h → IsHomeMotion r f h
+      → IsSmallWithin (unsigned_abs MAX_ENTRY) m → n.matrix ≡ m.matrix → IsVectorWithin (unsigned_abs UNIT) n.translation
+      → h.matrix ≡ n.matrix → dot r h.translation ≡ dot r n.translation → IsAtHome f h → IsHomeMotion r f h
   home_motion row a b tau small reduced near matrix shift_is home =
       let span : ℕ = largest_shift (unsigned_abs UNIT) in
       let P : ℤ → Type 0 = IsWithin span in
-      let at : IsWithin span (dot r h.shift) = subst P (sym shift_is) (shift_within (unsigned_abs UNIT) r n.shift row near) in
+      let at : IsWithin span (dot r h.translation) = subst P (sym shift_is) (shift_within (unsigned_abs UNIT) r n.translation row near) in
       record {
         home = home;
-        shift = at;
+        translation = at;
         small = record {
           matrix = subst (IsMatrixWithin (unsigned_abs MAX_ENTRY)) (sym (matrix ∙ reduced)) small.matrix;
           small = record {
             matrix = subst (IsMatrixWithin 500) (sym (matrix ∙ reduced)) small.small.matrix;
-            shift = IsVectorWithin-more (home_within g r f frame h home span largest_entry a b tau (IsWithin-more at (more span (dot r f.tau) (omega (arith, ints, frame.tau_above))))) (lit≤ tt);
+            translation = IsVectorWithin-more (home_within g r f frame h home span largest_entry a b tau (IsWithin-more at (more span (dot r f.tau) (omega (arith, ints, frame.tau_above))))) (lit≤ tt);
           };
         };
       }

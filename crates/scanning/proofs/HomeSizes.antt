@@ -39,8 +39,8 @@ entry_within o n e x y z a b t v positive is hx hy hz ha hb ht =
 
 module _ (g : Listing) (r : Vector) (f : Basis) (frame : IsFrame g r f) (m : Motion) (home : IsAtHome f m) (n : ℕ) where
   -- z d = o (hkl).w
-  along : home.by.z *ℤ dot r f.tau ≡ home.over *ℤ dot r m.shift
-  along = sym (dot-combination g r f frame home.by) ∙ ap (dot r) home.is ∙ dot-multiple r home.over m.shift
+  along : home.by.z *ℤ dot r f.tau ≡ home.over *ℤ dot r m.translation
+  along = sym (dot-combination g r f frame home.by) ∙ ap (dot r) home.is ∙ dot-multiple r home.over m.translation
 
   along_within : (o d z w : ℤ) → pos 1 ≤ℤ o → pos 1 ≤ℤ d → z *ℤ d ≡ o *ℤ w → IsWithin (n * nat_abs d) w → IsWithin (nat_abs o * n) z
   along_within o d z w ho hd e small = record { most = cancelled (nat_abs o) (nat_abs d) (nat_abs z) (nat_abs w) (omega (arith, ints)) (sym (abs-mul z d) ∙ ap nat_abs e ∙ abs-mul o w) small.most }
@@ -50,15 +50,15 @@ module _ (g : Listing) (r : Vector) (f : Basis) (frame : IsFrame g r f) (m : Mot
 
   -- where (hkl).w is at most n periods, the translation is at most n + 2 times as large as a, b and tau
   pub home_within : (e : ℕ) → IsVectorWithin e f.a → IsVectorWithin e f.b → IsVectorWithin e f.tau
-      → IsWithin (n * nat_abs (dot r f.tau)) (dot r m.shift) → IsVectorWithin (e + e + n * e) m.shift
+      → IsWithin (n * nat_abs (dot r f.tau)) (dot r m.translation) → IsVectorWithin (e + e + n * e) m.translation
   unfolding plus multiple
   home_within e a b t shift =
       let o = home.over in
       let x = within_from o home.by.x home.x_from home.x_below in
       let y = within_from o home.by.y home.y_from home.y_below in
-      let z = along_within o (dot r f.tau) home.by.z (dot r m.shift) home.positive (omega (arith, ints, frame.tau_above)) along shift in
+      let z = along_within o (dot r f.tau) home.by.z (dot r m.translation) home.positive (omega (arith, ints, frame.tau_above)) along shift in
       record {
-        x = entry_within o n e home.by.x home.by.y home.by.z f.a.x f.b.x f.tau.x m.shift.x home.positive (ap (λ (u : Vector). u.x) home.is) x y z a.x b.x t.x;
-        y = entry_within o n e home.by.x home.by.y home.by.z f.a.y f.b.y f.tau.y m.shift.y home.positive (ap (λ (u : Vector). u.y) home.is) x y z a.y b.y t.y;
-        z = entry_within o n e home.by.x home.by.y home.by.z f.a.z f.b.z f.tau.z m.shift.z home.positive (ap (λ (u : Vector). u.z) home.is) x y z a.z b.z t.z;
+        x = entry_within o n e home.by.x home.by.y home.by.z f.a.x f.b.x f.tau.x m.translation.x home.positive (ap (λ (u : Vector). u.x) home.is) x y z a.x b.x t.x;
+        y = entry_within o n e home.by.x home.by.y home.by.z f.a.y f.b.y f.tau.y m.translation.y home.positive (ap (λ (u : Vector). u.y) home.is) x y z a.y b.y t.y;
+        z = entry_within o n e home.by.x home.by.y home.by.z f.a.z f.b.z f.tau.z m.translation.z home.positive (ap (λ (u : Vector). u.z) home.is) x y z a.z b.z t.z;
       }

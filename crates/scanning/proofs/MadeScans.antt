@@ -49,13 +49,13 @@ module _ (frame : Frame) (g : Listing) (is_frame : IsFrame g (row_of frame.plane
 
   -- the matrix of a member is that of a listed operation
   operation_small : All (IsSmallWithin (unsigned_abs MAX_ENTRY)) g.ops → (m : Motion) → IsMember g m → IsAtHome f m
-      → IsWithin (2 * nat_abs (dot r f.tau)) (dot r m.shift) → IsSmallWithin (unsigned_abs MAX_ENTRY) m
+      → IsWithin (2 * nat_abs (dot r f.tau)) (dot r m.translation) → IsSmallWithin (unsigned_abs MAX_ENTRY) m
   operation_small small m member home shift =
       let of = All-contains (IsSmallWithin (unsigned_abs MAX_ENTRY)) g.ops member.of small member.listed in record {
         matrix = subst (IsMatrixWithin (unsigned_abs MAX_ENTRY)) (sym member.same.matrix) of.matrix;
         small = record {
           matrix = subst (IsMatrixWithin 500) (sym member.same.matrix) of.small.matrix;
-          shift = IsVectorWithin-more
+          translation = IsVectorWithin-more
               (home_within g r f is_frame m home 2 largest_entry frame.a_in_range frame.b_in_range frame.tau_in_range shift) (lit≤ tt);
         };
       }
@@ -78,7 +78,7 @@ module _ (frame : Frame) (g : Listing) (is_frame : IsFrame g (row_of frame.plane
         (λ k h.
         let m = motion_at (map motion_of general) k in
         let is = general_list.listed k h in
-        operation_small small m is.0.0 is.1 (no_shift (2 * nat_abs (dot r f.tau)) (dot r m.shift) ((all_by_row g r m group frame.plane.coprime).0 is.0).1.1))
+        operation_small small m is.0.0 is.1 (no_shift (2 * nat_abs (dot r f.tau)) (dot r m.translation) ((all_by_row g r m group frame.plane.coprime).0 is.0).1.1))
 
     pub general_rows : All (IsGeneralOperation r f) (map motion_of general)
     general_rows =
@@ -126,14 +126,14 @@ module _ (frame : Frame) (g : Listing) (is_frame : IsFrame g (row_of frame.plane
     -- ---- the operations at the special heights
 
     row_shift : (i : ℕ) (e : Height) → i < length hs → (m : Motion) → KeepsRow r m ⊎ TurnsRow r (fraction_of (get_or hs i e).s) m
-        → IsWithin (2 * nat_abs (dot r f.tau)) (dot r m.shift)
-    row_shift i e h m (inl keeps) = no_shift (2 * nat_abs (dot r f.tau)) (dot r m.shift) keeps.1
+        → IsWithin (2 * nat_abs (dot r f.tau)) (dot r m.translation)
+    row_shift i e h m (inl keeps) = no_shift (2 * nat_abs (dot r f.tau)) (dot r m.translation) keeps.1
     row_shift i e h m (inr turns) =
         let s = fraction_of (get_or hs i e).s in
         let t = get_or are.levels i (pos 0) in
         let is = height_is frame ms hs are i e h in
-        let level : dot r m.shift ≡ t = mul_left_cancel_pos s.den (dot r m.shift) t is.form.positive (sym turns.1 ∙ sym (has_level frame ms hs are i e h)) in
-        two_periods (dot r f.tau) frame.period.0 (dot r m.shift) t frame.tau_gives level is.within.from is.within.below
+        let level : dot r m.translation ≡ t = mul_left_cancel_pos s.den (dot r m.translation) t is.form.positive (sym turns.1 ∙ sym (has_level frame ms hs are i e h)) in
+        two_periods (dot r f.tau) frame.period.0 (dot r m.translation) t frame.tau_gives level is.within.from is.within.below
       where
         two_periods : (d d' x t : ℤ) → d ≡ d' → x ≡ t → pos 0 ≤ℤ t → t <ℤ (pos 2 *ℤ d') → IsWithin (2 * nat_abs d) x
         two_periods d d' x t of_d is from below = record { most = let size = ap nat_abs of_d in let x_size = ap nat_abs is in omega (arith, ints) }

@@ -22,8 +22,8 @@ module _ (g : Listing) (r : Vector) (f : Basis) (frame : IsFrame g r f) (group :
   t = multiple k f.tau
 
   -- sameness and one (hkl).w
-  in_plane : (m n : Motion) → SameModulo g m n → dot r m.shift ≡ dot r n.shift → DiffersInPlane g r m n
-  in_plane m n same shift = record { matrix = same.matrix; shift = (same.shift, dot-minus_same r m.shift n.shift shift) }
+  in_plane : (m n : Motion) → SameModulo g m n → dot r m.translation ≡ dot r n.translation → DiffersInPlane g r m n
+  in_plane m n same shift = record { matrix = same.matrix; translation = (same.translation, dot-minus_same r m.translation n.translation shift) }
 
   kept_is_conjugated : (m : Motion) → IsMember g m → KeepsRow r m → DiffersInPlane g r (lifted t m) m
   kept_is_conjugated m member keeps = in_plane (lifted t m) m (lifted_same g group t (tau_multiple g r f frame k) m member) ((lifted_keeps r f k m keeps).1 ∙ sym keeps.1)
@@ -33,7 +33,7 @@ module _ (g : Listing) (r : Vector) (f : Basis) (frame : IsFrame g r f) (group :
       let up = raised f (pos 2 *ℤ k) m in
       in_plane (lifted t m) up
       (same_trans g (lifted t m) m up (lifted_same g group t (tau_multiple g r f frame k) m member)
-      (same_sym g up m (raised_same g r f frame (pos 2 *ℤ k) m m m (same_refl g m) refl (same_refl g m).shift)))
+      (same_sym g up m (raised_same g r f frame (pos 2 *ℤ k) m m m (same_refl g m) refl (same_refl g m).translation)))
       (lifted_turn r f k m row ∙ sym (raised_shift r f (pos 2 *ℤ k) m))
 
   moved_is_conjugated : (s : Height) (m n : Motion) → IsMember g m → IsAtHome f m → KeepsRow r m ⊎ TurnsRow r s m → IsMoved r f k m n

@@ -12,7 +12,7 @@ use Rattle.symmetry.proofs.FrameLaws.{tau_multiple}
 
 -- the motion, and then the translation by k tau
 abbrev pub raised : Basis → ℤ → Motion → Motion
-raised f k m = record { matrix = m.matrix; shift = plus m.shift (multiple k f.tau) }
+raised f k m = record { matrix = m.matrix; translation = plus m.translation (multiple k f.tau) }
 
 -- ---- at home
 
@@ -37,7 +37,7 @@ raised_at_home f k m home = record {
   over = home.over;
   positive = home.positive;
   by = higher home.over k home.by;
-  is = combination-higher f home.over k home.by m.shift home.is;
+  is = combination-higher f home.over k home.by m.translation home.is;
   x_from = home.x_from;
   x_below = home.x_below;
   y_from = home.y_from;
@@ -46,8 +46,8 @@ raised_at_home f k m home = record {
 
 -- ---- (hkl).w
 
-pub raised_shift : (r : Vector) (f : Basis) (k : ℤ) (m : Motion) → dot r (raised f k m).shift ≡ dot r m.shift +ℤ k *ℤ dot r f.tau
-raised_shift r f k m = dot-plus r m.shift (multiple k f.tau) ∙ ap (λ z. dot r m.shift +ℤ z) (dot-multiple r k f.tau)
+pub raised_shift : (r : Vector) (f : Basis) (k : ℤ) (m : Motion) → dot r (raised f k m).translation ≡ dot r m.translation +ℤ k *ℤ dot r f.tau
+raised_shift r f k m = dot-plus r m.translation (multiple k f.tau) ∙ ap (λ z. dot r m.translation +ℤ z) (dot-multiple r k f.tau)
 
 -- ---- sameness
 
@@ -58,11 +58,11 @@ by_way h m n t = vector_path (omega (arith, ints)) (omega (arith, ints)) (omega 
 
 -- where h differs by the lattice from n, and n from m
 pub raised_same : (g : Listing) (r : Vector) (f : Basis) → IsFrame g r f → (k : ℤ) (h m n : Motion) → SameModulo g n m
-    → h.matrix ≡ n.matrix → IsInLattice g (minus n.shift h.shift) → SameModulo g (raised f k h) m
+    → h.matrix ≡ n.matrix → IsInLattice g (minus n.translation h.translation) → SameModulo g (raised f k h) m
 raised_same g r f frame k h m n same matrix shift = record {
   matrix = matrix ∙ same.matrix;
-  shift = subst (IsInLattice g) (by_way h.shift m.shift n.shift (multiple k f.tau))
-      (lattice-plus g (plus (minus n.shift m.shift) (opposite (minus n.shift h.shift))) (multiple k f.tau)
-      (lattice-plus g (minus n.shift m.shift) (opposite (minus n.shift h.shift)) same.shift (lattice-opposite g (minus n.shift h.shift) shift))
+  translation = subst (IsInLattice g) (by_way h.translation m.translation n.translation (multiple k f.tau))
+      (lattice-plus g (plus (minus n.translation m.translation) (opposite (minus n.translation h.translation))) (multiple k f.tau)
+      (lattice-plus g (minus n.translation m.translation) (opposite (minus n.translation h.translation)) same.translation (lattice-opposite g (minus n.translation h.translation) shift))
       (tau_multiple g r f frame k));
 }

@@ -30,15 +30,15 @@ residue_within v e = record {
   z = reduced_within v.z (ap (λ (u : Vector). u.z) e);
 }
 
-module _ (lattice : Lattice) (m n : Motion) (matrix : n.matrix ≡ m.matrix) (home : IsHome lattice m.shift n.shift) where
+module _ (lattice : Lattice) (m n : Motion) (matrix : n.matrix ≡ m.matrix) (home : IsHome lattice m.translation n.translation) where
   pub reduced_same : (g : Listing) → IsLatticeOf g lattice → SameModulo g n m
-  reduced_same g same = record { matrix = matrix; shift = (same _).0 home.same }
+  reduced_same g same = record { matrix = matrix; translation = (same _).0 home.same }
 
   pub reduced_small : IsSmall m → IsSmall n
   reduced_small small = record {
     matrix = subst (IsMatrixWithin 500) (sym matrix) small.matrix;
-    shift = IsVectorWithin-more (residue_within n.shift home.reduced) (lit≤ tt);
+    translation = IsVectorWithin-more (residue_within n.translation home.reduced) (lit≤ tt);
   }
 
-  pub reduced_near : IsVectorWithin (2 ^ 20) n.shift
-  reduced_near = IsVectorWithin-more (residue_within n.shift home.reduced) (lit≤ tt)
+  pub reduced_near : IsVectorWithin (2 ^ 20) n.translation
+  reduced_near = IsVectorWithin-more (residue_within n.translation home.reduced) (lit≤ tt)

@@ -27,7 +27,7 @@ module _ (g : Listing) (r : Vector) (s : Height) (group : IsGroup g) (coprime : 
     where
       back : InRowStabiliser g r s m → InRows g r None m
       back (member, inl keeps) = (member, keeps)
-      back (member, inr turns) = absurd (none (dot r m.shift) (sym turns.1))
+      back (member, inr turns) = absurd (none (dot r m.translation) (sym turns.1))
   by_level (Some t) is m = (on, back)
     where
       on : InRows g r (Some t) m → InRowStabiliser g r s m
@@ -36,7 +36,7 @@ module _ (g : Listing) (r : Vector) (s : Height) (group : IsGroup g) (coprime : 
 
       back : InRowStabiliser g r s m → InRows g r (Some t) m
       back (member, inl keeps) = (member, inl keeps)
-      back (member, inr turns) = (member, inr (turns.0, mul_left_cancel_pos s.den (dot r m.shift) t high (sym turns.1 ∙ sym is)))
+      back (member, inr turns) = (member, inr (turns.0, mul_left_cancel_pos s.den (dot r m.translation) t high (sym turns.1 ∙ sym is)))
 
   -- with the level of a height: the stabiliser of its plane
   pub rows_of_stabiliser : (turned : Option ℤ) → LevelOf turned → (m : Motion) → InRows g r turned m ↔ InStabiliser g r s m

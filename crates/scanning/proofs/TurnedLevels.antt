@@ -76,14 +76,14 @@ module _ (r : Vector) (d : ℤ) where
         ];
   }
 
-  pub turned_taken : (ms : List Motion) (m : Motion) (ts : List ℤ) (t k : ℤ) → Turns m → pos 0 ≤ℤ t → t <ℤ d → t ≡ dot r m.shift +ℤ k *ℤ d
+  pub turned_taken : (ms : List Motion) (m : Motion) (ts : List ℤ) (t k : ℤ) → Turns m → pos 0 ≤ℤ t → t <ℤ d → t ≡ dot r m.translation +ℤ k *ℤ d
       → AreTurned r d ms ts → AreTurned r d (ms ++ m ∷ []) ((ts ++ t ∷ []) ++ (t +ℤ d) ∷ [])
   turned_taken ms m ts t k row from below is are = record {
     within = All-push (IsInTwoPeriods d) (ts ++ t ∷ []) (t +ℤ d) (All-push (IsInTwoPeriods d) ts t are.within (record { from = from; below = omega (arith, ints) }))
         (record { from = omega (arith, ints); below = omega (arith, ints) });
     each = All-push (IsTurned r d more) (ts ++ t ∷ []) (t +ℤ d)
         (All-push (IsTurned r d more) ts t (All-weaker (IsTurned r d ms) (IsTurned r d more) (turned_later ms m) ts are.each) (here t k is))
-        (here (t +ℤ d) (k +ℤ pos 1) (ap (λ z. z +ℤ d) is ∙ once_more (dot r m.shift) k d));
+        (here (t +ℤ d) (k +ℤ pos 1) (ap (λ z. z +ℤ d) is ∙ once_more (dot r m.translation) k d));
     whole = λ u h turned.
         elim (Contains-push_cases ms m turned.op turned.listed) [
           | inl before ↦
@@ -92,15 +92,15 @@ module _ (r : Vector) (d : ℤ) where
               (are.whole u h (record { op = turned.op; listed = before; row = turned.row; periods = turned.periods; is = turned.is })))
           | inr same ↦
               one_of u
-              (nothing_between d (dot r m.shift) t u k turned.periods from below h.from h.below is
-              (turned.is ∙ ap (λ (n : Motion). dot r n.shift +ℤ turned.periods *ℤ d) (sym same)))
+              (nothing_between d (dot r m.translation) t u k turned.periods from below h.from h.below is
+              (turned.is ∙ ap (λ (n : Motion). dot r n.translation +ℤ turned.periods *ℤ d) (sym same)))
         ];
   }
     where
       more : List Motion
       more = ms ++ m ∷ []
 
-      here : (u l : ℤ) → u ≡ dot r m.shift +ℤ l *ℤ d → IsTurned r d (ms ++ m ∷ []) u
+      here : (u l : ℤ) → u ≡ dot r m.translation +ℤ l *ℤ d → IsTurned r d (ms ++ m ∷ []) u
       here u l e = record { op = m; listed = Contains-push ms m; row = row; periods = l; is = e }
 
       once_more : (x k d : ℤ) → x +ℤ k *ℤ d +ℤ d ≡ x +ℤ (k +ℤ pos 1) *ℤ d
@@ -122,7 +122,7 @@ module _ (r : Vector) (d : ℤ) where
       (subst (λ ns. AreTurned r d ns ts) (one_more ms i e h) (turned_passed (map motion_of (take i ms)) (motion_of (get_or ms i e)) ts not are))
 
   pub taken_more : (ms : List Motion3) (i : ℕ) (e : Motion3) (ts more : List ℤ) (t k : ℤ) → more ≡ (ts ++ t ∷ []) ++ (t +ℤ d) ∷ [] → i < length ms
-      → Turns (motion_of (get_or ms i e)) → pos 0 ≤ℤ t → t <ℤ d → t ≡ dot r (motion_of (get_or ms i e)).shift +ℤ k *ℤ d
+      → Turns (motion_of (get_or ms i e)) → pos 0 ≤ℤ t → t <ℤ d → t ≡ dot r (motion_of (get_or ms i e)).translation +ℤ k *ℤ d
       → AreTurned r d (map motion_of (take i ms)) ts → AreTurned r d (map motion_of (take (i + 1) ms)) more
   taken_more ms i e ts more t k is h row from below at are =
       subst (AreTurned r d (map motion_of (take (i + 1) ms))) (sym is)

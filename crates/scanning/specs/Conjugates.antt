@@ -8,4 +8,4 @@ use Rattle.symmetry.specs.Frames.{Basis}
 pub record IsMoved (r : Vector) (f : Basis) (k : ℤ) (m n : Motion) : Type 0 where
   pub kept : row_times r m.matrix ≡ r → n ≡ m
   pub turned : row_times r m.matrix ≡ opposite r
-      → n ≡ record { matrix = m.matrix; shift = plus m.shift (multiple (pos 2 *ℤ k) f.tau) }
+      → n ≡ record { matrix = m.matrix; translation = plus m.translation (multiple (pos 2 *ℤ k) f.tau) }

@@ -15,7 +15,7 @@ pub record IsTurned (r : Vector) (d : ℤ) (ops : List Motion) (t : ℤ) : Type 
   pub listed : Contains ops op
   pub row : row_times r op.matrix ≡ opposite r
   pub periods : ℤ
-  pub is : t ≡ dot r op.shift +ℤ periods *ℤ d
+  pub is : t ≡ dot r op.translation +ℤ periods *ℤ d
 
 -- from 0 to below two periods
 pub record IsInTwoPeriods (d t : ℤ) : Type 0 where

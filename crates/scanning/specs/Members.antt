@@ -21,7 +21,7 @@ use Rattle.scanning.specs.Bounds.{largest_shift}
 -- the members that keep the row, and those that turn it with this (hkl).w, in parts; none of the latter where none is given
 abbrev pub InRows : Listing → Vector → Option ℤ → Motion → Type 0
 InRows g r None m = FixesEveryPlaneByRow g r m
-InRows g r (Some t) m = IsMember g m × (KeepsRow r m ⊎ ((row_times r m.matrix ≡ opposite r) × (dot r m.shift ≡ t)))
+InRows g r (Some t) m = IsMember g m × (KeepsRow r m ⊎ ((row_times r m.matrix ≡ opposite r) × (dot r m.translation ≡ t)))
 
 -- the (hkl).w of the former is 0, and of the latter what is given
 abbrev pub asked : Sign → Option ℤ → Option ℤ
@@ -32,7 +32,7 @@ asked Minus turned = turned
 pub record IsHomeMotion (r : Vector) (f : Basis) (m : Motion) : Type 0 where
   pub home : IsAtHome f m
   pub small : IsSmallWithin (unsigned_abs MAX_ENTRY) m
-  pub shift : IsWithin (largest_shift (unsigned_abs UNIT)) (dot r m.shift)
+  pub translation : IsWithin (largest_shift (unsigned_abs UNIT)) (dot r m.translation)
 
 -- the same of a motion and a frame of the code
 abbrev pub IsHomeOf : Frame → Motion3 → Type 0

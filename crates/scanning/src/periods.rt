@@ -16,9 +16,9 @@ use plane_lattice::Frame;
 pub(crate) fn periods_to(asked: i64, m: &Motion3, frame: &Frame) -> Option<i64>
     requires asked { IsWithin largest_level asked }
     requires motion { IsSmall (motion_of m.now) }
-    requires shift { IsWithin (largest_shift (unsigned_abs UNIT))
-        (dot (row_of frame.now.plane) (motion_of m.now).shift) }
-    ensures is { let apart = asked -ℤ dot (row_of frame.now.plane) (motion_of m.now).shift in
+    requires translation { IsWithin (largest_shift (unsigned_abs UNIT))
+        (dot (row_of frame.now.plane) (motion_of m.now).translation) }
+    ensures is { let apart = asked -ℤ dot (row_of frame.now.plane) (motion_of m.now).translation in
         MatchOption result
         ((k : ℤ) → ¬ (frame.now.period.0 *ℤ k ≡ apart)) (λ k. frame.now.period.0 *ℤ k ≡ apart) }
     ensures small { IfSome result (IsWithin largest_count) }

@@ -14,12 +14,12 @@ use motions::Motion3;
 /// First the motion, and then the translation by a multiple of a vector.
 #[tactic(auto, unfolding(symmetry::specs::Vectors::multiple, symmetry::specs::Vectors::plus))]
 pub(crate) fn raised(m: &Motion3, count: i64, vector: &[Part; 3]) -> Motion3
-    requires motion { IsVectorWithin largest_home (motion_of m.now).shift }
+    requires motion { IsVectorWithin largest_home (motion_of m.now).translation }
     requires count { IsWithin largest_count count }
     requires vector { IsVectorWithin (1000 * unsigned_abs UNIT) (parts vector.now) }
     ensures { motion_of result ≡ record {
       matrix = (motion_of m.now).matrix;
-      shift = plus (motion_of m.now).shift (multiple count (parts vector.now));
+      translation = plus (motion_of m.now).translation (multiple count (parts vector.now));
     } }
 {
     Motion3 {

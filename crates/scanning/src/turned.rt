@@ -51,7 +51,7 @@ fn turned_level(m: &Motion3, frame: &Frame) -> Option<i64>
     ensures { let turns = row_times (row_of frame.now.plane) (motion_of m.now).matrix
         ≡ opposite (row_of frame.now.plane) in
         MatchOption result (¬ turns) (λ t. turns × (pos 0 ≤ℤ t) × (t <ℤ frame.now.period.0)
-        × ((k : ℤ) × (t ≡ dot (row_of frame.now.plane) (motion_of m.now).shift
+        × ((k : ℤ) × (t ≡ dot (row_of frame.now.plane) (motion_of m.now).translation
         +ℤ k *ℤ frame.now.period.0))) }
 {
     match side(m, &frame.plane)? {

@@ -23,7 +23,7 @@ use Rattle.slabs.proofs.Orders.{bounded_is_constant, follows}
 
 -- (hkl).w is low + high, which is counted in parts
 abbrev IsSum : Vector → Height → Height → Motion → Type 0
-IsSum r low high m = (low.den *ℤ high.den) *ℤ dot r m.shift ≡ (low.num *ℤ high.den +ℤ high.num *ℤ low.den) *ℤ UNIT
+IsSum r low high m = (low.den *ℤ high.den) *ℤ dot r m.translation ≡ (low.num *ℤ high.den +ℤ high.num *ℤ low.den) *ℤ UNIT
 
 module _ (low high : Height) (is_low : IsHeight low) (is_high : IsHeight high) where
   pub twice_positive : pos 1 ≤ℤ (pos 2 *ℤ low.den *ℤ high.den)
@@ -61,8 +61,8 @@ module _ (low high : Height) (is_low : IsHeight low) (is_high : IsHeight high) w
       let a = low.den *ℤ high.den in
       let b = low.num *ℤ high.den +ℤ high.num *ℤ low.den in
       let same : q.num *ℤ (pos 2 *ℤ a) ≡ b *ℤ q.den = ap (λ x. q.num *ℤ x) (sym (mul_assoc (pos 2) low.den high.den)) ∙ middle_form.same in (
-        λ sum. (turned, sum_is_twice (dot r m.shift) q.num q.den UNIT a b (one-le-mul low.den high.den is_low is_high) same sum),
-        λ turns. twice_is_sum (dot r m.shift) q.num q.den UNIT a b middle_form.positive same turns.1,
+        λ sum. (turned, sum_is_twice (dot r m.translation) q.num q.den UNIT a b (one-le-mul low.den high.den is_low is_high) same sum),
+        λ turns. twice_is_sum (dot r m.translation) q.num q.den UNIT a b middle_form.positive same turns.1,
       )
 
 -- ---- from points to rows
@@ -74,7 +74,7 @@ module _ (r : Vector) (low high : Height) (m : Motion) (is_low : IsHeight low) (
   turned = row_times r m.matrix
 
   abbrev shift : ℤ
-  shift = dot r m.shift
+  translation = dot r m.translation
 
   -- a point of the plane low, moved by a whole multiple of a column that the row takes to 0
   abbrev beside : Vector → ℤ → Point
@@ -241,9 +241,9 @@ module _ (r : Vector) (low high : Height) (m : Motion) (is_low : IsHeight low) (
 module _ (r : Vector) (low high : Height) (m : Motion) (is_low : IsHeight low) (is_high : IsHeight high) where
   -- where the image of a point of the slab is
   image_of : (e : ℤ) → row_times r m.matrix ≡ multiple e r → (p : Point)
-      → dot r (moved m p).at ≡ UNIT *ℤ (e *ℤ dot r p.at) +ℤ p.over *ℤ dot r m.shift
+      → dot r (moved m p).at ≡ UNIT *ℤ (e *ℤ dot r p.at) +ℤ p.over *ℤ dot r m.translation
   image_of e same p =
-      dot-moved r m p ∙ ap (λ x. UNIT *ℤ x +ℤ p.over *ℤ dot r m.shift) (ap (λ t. dot t p.at) same ∙ multiple-dot e r p.at)
+      dot-moved r m p ∙ ap (λ x. UNIT *ℤ x +ℤ p.over *ℤ dot r m.translation) (ap (λ t. dot t p.at) same ∙ multiple-dot e r p.at)
 
   pub kept_slab : KeepsRow r m → KeepsSlab r low high m
   kept_slab k p point in_it =
@@ -265,10 +265,10 @@ module _ (r : Vector) (low high : Height) (m : Motion) (is_low : IsHeight low) (
       let is = image_of (negsuc 0) same p in record {
         from = subst (λ x. (low.num *ℤ (UNIT *ℤ p.over)) ≤ℤ (x *ℤ low.den)) (sym is)
             (follows high.den (UNIT *ℤ low.den) _ _ _ _ is_high (positive UNIT low.den (omega (arith, ints)) is_low) in_it.to
-            (from_high UNIT low.num low.den high.num high.den (dot r p.at) p.over (dot r m.shift) sum));
+            (from_high UNIT low.num low.den high.num high.den (dot r p.at) p.over (dot r m.translation) sum));
         to = subst (λ x. (x *ℤ high.den) ≤ℤ (high.num *ℤ (UNIT *ℤ p.over))) (sym is)
             (follows low.den (UNIT *ℤ high.den) _ _ _ _ is_low (positive UNIT high.den (omega (arith, ints)) is_high) in_it.from
-            (from_low UNIT low.num low.den high.num high.den (dot r p.at) p.over (dot r m.shift) sum));
+            (from_low UNIT low.num low.den high.num high.den (dot r p.at) p.over (dot r m.translation) sum));
       }
     where
       positive : (a b : ℤ) → pos 1 ≤ℤ a → pos 1 ≤ℤ b → pos 0 ≤ℤ (a *ℤ b)

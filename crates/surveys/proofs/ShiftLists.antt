@@ -66,16 +66,16 @@ module _ (r : Vector) (d : ℤ) where
         | inr same ↦ absurd (not (ap (λ (n : Motion). row_times r n.matrix) same ∙ is.turned.row))
       ])
 
-  pub shifts_taken : (ms : List Motion) (m : Motion) (ts us : List ℤ) (t k : ℤ) → Turns r d m → pos 0 ≤ℤ t → t <ℤ d → t ≡ dot r m.shift +ℤ k *ℤ d
+  pub shifts_taken : (ms : List Motion) (m : Motion) (ts us : List ℤ) (t k : ℤ) → Turns r d m → pos 0 ≤ℤ t → t <ℤ d → t ≡ dot r m.translation +ℤ k *ℤ d
       → IsWith ts t us → ListsSet (IsTurnedShift r d ms) ts → ListsSet (IsTurnedShift r d (ms ++ m ∷ [])) us
   shifts_taken ms m ts us t k row from below at with so_far =
       lists_same (λ u. IsTurnedShift r d ms u ⊎ (u ≡ t)) (IsTurnedShift r d (ms ++ m ∷ [])) us
       (λ u in_it. elim in_it [ inl old ↦ later ms m u old | inr e ↦ subst (IsTurnedShift r d (ms ++ m ∷ [])) (sym e) here ])
       (λ u is. elim (Contains-push_cases ms m is.turned.op is.turned.listed) [
         | inl before ↦ inl (before_it ms m u is before)
-        | inr same ↦ inr (one_rest d u t (neg_ℤ is.turned.periods) (neg_ℤ k) (dot r m.shift) is.from is.below from below
-            (taken_off u (dot r m.shift) is.turned.periods d (is.turned.is ∙ ap (λ (n : Motion). dot r n.shift +ℤ is.turned.periods *ℤ d) (sym same)))
-            (taken_off t (dot r m.shift) k d at))
+        | inr same ↦ inr (one_rest d u t (neg_ℤ is.turned.periods) (neg_ℤ k) (dot r m.translation) is.from is.below from below
+            (taken_off u (dot r m.translation) is.turned.periods d (is.turned.is ∙ ap (λ (n : Motion). dot r n.translation +ℤ is.turned.periods *ℤ d) (sym same)))
+            (taken_off t (dot r m.translation) k d at))
       ])
       (lists_with (IsTurnedShift r d ms) ts t us so_far with)
     where
@@ -96,7 +96,7 @@ module _ (r : Vector) (d : ℤ) where
         (subst (ListsSet (IsTurnedShift r d (take i (map motion_of ops)))) (sym is) so_far))
 
     pub taken_more : d ≤ℤ UNIT → (t k : ℤ) → IsWith ts (again t) us → Turns r d (motion_of (get_or ops i e)) → pos 0 ≤ℤ t → t <ℤ d
-        → t ≡ dot r (motion_of (get_or ops i e)).shift +ℤ k *ℤ d → ListsSet (IsTurnedShift r d (take (i + 1) (map motion_of ops))) us
+        → t ≡ dot r (motion_of (get_or ops i e)).translation +ℤ k *ℤ d → ListsSet (IsTurnedShift r d (take (i + 1) (map motion_of ops))) us
     taken_more most t k with row from below at =
         to_more (shifts_taken (take i (map motion_of ops)) (motion_of (get_or ops i e)) ts us t k row from below at
         (subst (λ z. IsWith ts z us) (shift_again t d from below most) with) so_far)

@@ -38,7 +38,7 @@ module _ (r : Vector) (d : ℤ) (ops : List Motion) where
     listed = is.listed;
     row = is.row;
     periods = is.periods +ℤ k;
-    is = linear (t ∷ u ∷ k ∷ d ∷ dot r is.op.shift ∷ is.periods ∷ []) (var 1) (var 4 ⊕ (var 5 ⊕ var 2) ⊗ var 3)
+    is = linear (t ∷ u ∷ k ∷ d ∷ dot r is.op.translation ∷ is.periods ∷ []) (var 1) (var 4 ⊕ (var 5 ⊕ var 2) ⊗ var 3)
         (given (num (pos 1)) (var 1) (var 0 ⊕ var 2 ⊗ var 3) ∷ given (num (pos 1)) (var 0) (var 4 ⊕ var 5 ⊗ var 3) ∷ []) tt (e, (is.is, tt));
   }
 
@@ -111,13 +111,13 @@ module _ (g : Listing) (r : Vector) (d : ℤ) (group : IsGroup g) (coprime : IsC
       below = height_below UNIT (half x).num (half x).den x (omega (arith, ints)) (half_form x).positive (half_level x) d is.within.below;
     },
     (special_by_row g r (half x) group coprime (half_form x).positive).1 (
-      record { matrix = is.turned.op.matrix; shift = plus is.turned.op.shift by },
+      record { matrix = is.turned.op.matrix; translation = plus is.turned.op.translation by },
       record {
         of = is.turned.op;
         listed = is.turned.listed;
         same = record {
           matrix = refl;
-          shift = subst (IsInLattice g) (sym (plus-minus_first is.turned.op.shift by)) (lattice-multiple g is.turned.periods period.taken.0 period.taken.1);
+          translation = subst (IsInLattice g) (sym (plus-minus_first is.turned.op.translation by)) (lattice-multiple g is.turned.periods period.taken.0 period.taken.1);
         };
       },
       (is.turned.row, sym (half_level x) ∙ ap (λ z. (half x).den *ℤ z) (is.turned.is ∙ sym shift)),
@@ -127,20 +127,20 @@ module _ (g : Listing) (r : Vector) (d : ℤ) (group : IsGroup g) (coprime : IsC
       by : Vector
       by = multiple is.turned.periods period.taken.0
 
-      shift : dot r (plus is.turned.op.shift by) ≡ dot r is.turned.op.shift +ℤ is.turned.periods *ℤ d
+      shift : dot r (plus is.turned.op.translation by) ≡ dot r is.turned.op.translation +ℤ is.turned.periods *ℤ d
       shift =
-          dot-plus r is.turned.op.shift by
-          ∙ ap (λ z. dot r is.turned.op.shift +ℤ z) (dot-multiple r is.turned.periods period.taken.0 ∙ ap (λ z. is.turned.periods *ℤ z) period.taken.2)
+          dot-plus r is.turned.op.translation by
+          ∙ ap (λ z. dot r is.turned.op.translation +ℤ z) (dot-multiple r is.turned.periods period.taken.0 ∙ ap (λ z. is.turned.periods *ℤ z) period.taken.2)
 
   from_height : (s : Height) → IsSpecialHeight s → (x : ℤ) × IsSpecialLevel r d g.ops x × (half x ≡ s)
   from_height s (inside, special) =
       let (m, member, (row, twice)) = (special_by_row g r s group coprime inside.positive).0 special in
-      let x = dot r m.shift in
+      let x = dot r m.translation in
       let level : IsLevel s x = sym twice in
-      let (k, value) = whole_periods g r d period (minus m.shift member.of.shift) member.same.shift in
-      let shift : x ≡ dot r member.of.shift +ℤ k *ℤ d =
-      ap (dot r) (sym (minus-plus m.shift member.of.shift)) ∙ dot-plus r (minus m.shift member.of.shift) member.of.shift
-      ∙ ap (λ z. z +ℤ dot r member.of.shift) value ∙ turned_round (k *ℤ d) (dot r member.of.shift) in (
+      let (k, value) = whole_periods g r d period (minus m.translation member.of.translation) member.same.translation in
+      let shift : x ≡ dot r member.of.translation +ℤ k *ℤ d =
+      ap (dot r) (sym (minus-plus m.translation member.of.translation)) ∙ dot-plus r (minus m.translation member.of.translation) member.of.translation
+      ∙ ap (λ z. z +ℤ dot r member.of.translation) value ∙ turned_round (k *ℤ d) (dot r member.of.translation) in (
         x,
         record {
           within = record {

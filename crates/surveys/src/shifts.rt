@@ -56,7 +56,7 @@ fn turned_shift(m: &Motion3, plane: &Miller, period: Part) -> Option<i64>
     ensures { let turns = row_times (row_of plane.now) (motion_of m.now).matrix
         ≡ opposite (row_of plane.now) in
         MatchOption result (¬ turns) (λ t. turns × (pos 0 ≤ℤ t) × (t <ℤ period.0)
-        × ((k : ℤ) × (t ≡ dot (row_of plane.now) (motion_of m.now).shift +ℤ k *ℤ period.0))) }
+        × ((k : ℤ) × (t ≡ dot (row_of plane.now) (motion_of m.now).translation +ℤ k *ℤ period.0))) }
 {
     match side(m, plane)? {
         Sign::Plus => None,

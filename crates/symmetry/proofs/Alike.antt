@@ -53,10 +53,10 @@ module _ (g h : Listing) (alike : AreAlike g h) where
   member_from m = (alike.members m).1
 
   pub same_to : (m n : Motion) → SameModulo g m n → SameModulo h m n
-  same_to m n p = record { matrix = p.matrix; shift = (alike.lattice (minus m.shift n.shift)).0 p.shift }
+  same_to m n p = record { matrix = p.matrix; translation = (alike.lattice (minus m.translation n.translation)).0 p.translation }
 
   pub same_from : (m n : Motion) → SameModulo h m n → SameModulo g m n
-  same_from m n p = record { matrix = p.matrix; shift = (alike.lattice (minus m.shift n.shift)).1 p.shift }
+  same_from m n p = record { matrix = p.matrix; translation = (alike.lattice (minus m.translation n.translation)).1 p.translation }
 
   -- the sameness of g in place of that of h, and back
   order_to : (ops : List Motion) (m n : Motion) → ComesBefore (SameModulo g) ops m n → ComesBefore (SameModulo h) ops m n

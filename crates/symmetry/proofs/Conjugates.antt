@@ -21,12 +21,12 @@ use Rattle.symmetry.proofs.VectorLaws.{dot-multiple, dot-plus, multiple-dot, vec
 
 -- the translation w - W t + t
 abbrev pub lifted : Vector → Motion → Motion
-lifted t m = record { matrix = m.matrix; shift = plus (plus (opposite (image m.matrix t)) m.shift) t }
+lifted t m = record { matrix = m.matrix; translation = plus (plus (opposite (image m.matrix t)) m.translation) t }
 
 pub conjugated_is : (t : Vector) (m : Motion) → conjugated t m ≡ lifted t m
 conjugated_is t m =
     motion_path (product-unit_left (product m.matrix unit_matrix) ∙ product-unit_right m.matrix)
-    (ap (λ v. plus v t) (image-unit (plus (image m.matrix (opposite t)) m.shift) ∙ ap (λ v. plus v m.shift) (image-multiple m.matrix (negsuc 0) t)))
+    (ap (λ v. plus v t) (image-unit (plus (image m.matrix (opposite t)) m.translation) ∙ ap (λ v. plus v m.translation) (image-multiple m.matrix (negsuc 0) t)))
 
 -- ---- there and back
 
@@ -41,14 +41,14 @@ down_and_up a t w = vector_path (omega (arith, ints)) (omega (arith, ints)) (ome
 pub lifted-lowered : (t : Vector) (m : Motion) → lifted t (lifted (opposite t) m) ≡ m
 lifted-lowered t m =
     motion_path refl
-    (ap (λ a. plus (plus (opposite (image m.matrix t)) (plus (plus (opposite a) m.shift) (opposite t))) t) (image-multiple m.matrix (negsuc 0) t)
-    ∙ up_and_down (image m.matrix t) t m.shift)
+    (ap (λ a. plus (plus (opposite (image m.matrix t)) (plus (plus (opposite a) m.translation) (opposite t))) t) (image-multiple m.matrix (negsuc 0) t)
+    ∙ up_and_down (image m.matrix t) t m.translation)
 
 pub lowered-lifted : (t : Vector) (m : Motion) → lifted (opposite t) (lifted t m) ≡ m
 lowered-lifted t m =
     motion_path refl
-    (ap (λ a. plus (plus (opposite a) (plus (plus (opposite (image m.matrix t)) m.shift) t)) (opposite t)) (image-multiple m.matrix (negsuc 0) t)
-    ∙ down_and_up (image m.matrix t) t m.shift)
+    (ap (λ a. plus (plus (opposite a) (plus (plus (opposite (image m.matrix t)) m.translation) t)) (opposite t)) (image-multiple m.matrix (negsuc 0) t)
+    ∙ down_and_up (image m.matrix t) t m.translation)
 
 -- ---- differences
 
@@ -59,9 +59,9 @@ lifted_apart a t v w = vector_path (omega (arith, ints)) (omega (arith, ints)) (
 pub lifted_differs : (g : Listing) (r t : Vector) (m n : Motion) → DiffersInPlane g r m n → DiffersInPlane g r (lifted t m) (lifted t n)
 lifted_differs g r t m n p = record {
   matrix = p.matrix;
-  shift = subst (InPlaneLattice g r)
-      (lifted_apart (opposite (image m.matrix t)) t m.shift n.shift
-      ∙ ap (λ w. minus (plus (plus (opposite (image m.matrix t)) m.shift) t) (plus (plus (opposite (image w t)) n.shift) t)) p.matrix) p.shift;
+  translation = subst (InPlaneLattice g r)
+      (lifted_apart (opposite (image m.matrix t)) t m.translation n.translation
+      ∙ ap (λ w. minus (plus (plus (opposite (image m.matrix t)) m.translation) t) (plus (plus (opposite (image w t)) n.translation) t)) p.matrix) p.translation;
 }
 
 -- ---- in a group
@@ -81,18 +81,18 @@ module _ (g : Listing) (group : IsGroup g) (t : Vector) (in_it : IsInLattice g t
   pub lifted_same : (m : Motion) → IsMember g m → SameModulo g (lifted t m) m
   lifted_same m member = record {
     matrix = refl;
-    shift = subst (IsInLattice g) (lifted_by (image m.matrix t) t m.shift)
+    translation = subst (IsInLattice g) (lifted_by (image m.matrix t) t m.translation)
         (lattice-plus g (opposite (image m.matrix t)) t (lattice-opposite g (image m.matrix t) (member_keeps g group m member t in_it)) in_it);
   }
 
 -- ---- from one plane to another
 
 -- what the row gives
-lifted_level : (r t : Vector) (m : Motion) → dot r (lifted t m).shift ≡ negsuc 0 *ℤ dot (row_times r m.matrix) t +ℤ dot r m.shift +ℤ dot r t
+lifted_level : (r t : Vector) (m : Motion) → dot r (lifted t m).translation ≡ negsuc 0 *ℤ dot (row_times r m.matrix) t +ℤ dot r m.translation +ℤ dot r t
 lifted_level r t m =
-    dot-plus r (plus (opposite (image m.matrix t)) m.shift) t
-    ∙ ap (λ x. x +ℤ dot r t) (dot-plus r (opposite (image m.matrix t)) m.shift)
-    ∙ ap (λ x. x +ℤ dot r m.shift +ℤ dot r t) (dot-multiple r (negsuc 0) (image m.matrix t) ∙ ap (λ x. negsuc 0 *ℤ x) (sym (row_times-dot r m.matrix t)))
+    dot-plus r (plus (opposite (image m.matrix t)) m.translation) t
+    ∙ ap (λ x. x +ℤ dot r t) (dot-plus r (opposite (image m.matrix t)) m.translation)
+    ∙ ap (λ x. x +ℤ dot r m.translation +ℤ dot r t) (dot-multiple r (negsuc 0) (image m.matrix t) ∙ ap (λ x. negsuc 0 *ℤ x) (sym (row_times-dot r m.matrix t)))
 
 module _ (r : Vector) (f : Basis) (k : ℤ) where
   pub lifted_keeps : (m : Motion) → KeepsRow r m → KeepsRow r (lifted (multiple k f.tau) m)
@@ -103,12 +103,12 @@ module _ (r : Vector) (f : Basis) (k : ℤ) where
       nothing : (x : ℤ) → negsuc 0 *ℤ x +ℤ pos 0 +ℤ x ≡ pos 0
       nothing x = omega (arith, ints)
 
-  pub lifted_turn : (m : Motion) → row_times r m.matrix ≡ opposite r → dot r (lifted (multiple k f.tau) m).shift ≡ dot r m.shift +ℤ pos 2 *ℤ k *ℤ dot r f.tau
+  pub lifted_turn : (m : Motion) → row_times r m.matrix ≡ opposite r → dot r (lifted (multiple k f.tau) m).translation ≡ dot r m.translation +ℤ pos 2 *ℤ k *ℤ dot r f.tau
   lifted_turn m row =
       let t = multiple k f.tau in
-      lifted_level r t m ∙ (λ i. negsuc 0 *ℤ (ap (λ v. dot v t) row ∙ multiple-dot (negsuc 0) r t) i +ℤ dot r m.shift +ℤ dot r t)
-      ∙ (λ i. negsuc 0 *ℤ (negsuc 0 *ℤ dot-multiple r k f.tau i) +ℤ dot r m.shift +ℤ dot-multiple r k f.tau i)
-      ∙ twice (dot r m.shift) k (dot r f.tau)
+      lifted_level r t m ∙ (λ i. negsuc 0 *ℤ (ap (λ v. dot v t) row ∙ multiple-dot (negsuc 0) r t) i +ℤ dot r m.translation +ℤ dot r t)
+      ∙ (λ i. negsuc 0 *ℤ (negsuc 0 *ℤ dot-multiple r k f.tau i) +ℤ dot r m.translation +ℤ dot-multiple r k f.tau i)
+      ∙ twice (dot r m.translation) k (dot r f.tau)
     where
       twice : (w k d : ℤ) → negsuc 0 *ℤ (negsuc 0 *ℤ (k *ℤ d)) +ℤ w +ℤ k *ℤ d ≡ w +ℤ pos 2 *ℤ k *ℤ d
       twice w k d =
@@ -119,7 +119,7 @@ module _ (r : Vector) (f : Basis) (k : ℤ) where
   lifted_turns s s' high above m (row, twice) = (
     row,
     sym (ap (λ x. s'.den *ℤ x) (lifted_turn m row)
-        ∙ level_above UNIT s.num s.den (dot r m.shift) high (sym twice) (dot r f.tau) k s'.num s'.den above),
+        ∙ level_above UNIT s.num s.den (dot r m.translation) high (sym twice) (dot r f.tau) k s'.num s'.den above),
   )
 
 -- where one height is k periods above the other, conjugation by k tau leads from the stabiliser of the one to that of the other

@@ -107,25 +107,25 @@ module _ (g : Listing) (r : Vector) (f : Basis) (frame : IsFrame g r f) where
   pub special_by_listed : (s : Height) → IsGroup g → IsCoprime r → IsHeight s
       → IsSpecial g r s
       ↔ ((n : Motion) × (k : ℤ) × Contains g.ops n × (row_times r n.matrix ≡ opposite r)
-      × (pos 2 *ℤ s.num *ℤ UNIT ≡ s.den *ℤ (dot r n.shift +ℤ k *ℤ dot r f.tau)))
+      × (pos 2 *ℤ s.num *ℤ UNIT ≡ s.den *ℤ (dot r n.translation +ℤ k *ℤ dot r f.tau)))
   special_by_listed s group coprime high = (
     λ special.
         let (m, p, (row, twice)) = (special_by_row g r s group coprime high).0 special in
-        let (k, value) = lattice_periods (minus m.shift p.of.shift) p.same.shift in
-        let shift : dot r m.shift ≡ dot r p.of.shift +ℤ k *ℤ dot r f.tau =
-        ap (dot r) (sym (minus-plus m.shift p.of.shift)) ∙ dot-plus r (minus m.shift p.of.shift) p.of.shift
-        ∙ ap (λ x. x +ℤ dot r p.of.shift) value ∙ +ℤ_comm (k *ℤ dot r f.tau) (dot r p.of.shift) in
+        let (k, value) = lattice_periods (minus m.translation p.of.translation) p.same.translation in
+        let shift : dot r m.translation ≡ dot r p.of.translation +ℤ k *ℤ dot r f.tau =
+        ap (dot r) (sym (minus-plus m.translation p.of.translation)) ∙ dot-plus r (minus m.translation p.of.translation) p.of.translation
+        ∙ ap (λ x. x +ℤ dot r p.of.translation) value ∙ +ℤ_comm (k *ℤ dot r f.tau) (dot r p.of.translation) in
         (p.of, k, p.listed, ap (row_times r) (sym p.same.matrix) ∙ row, twice ∙ ap (λ x. s.den *ℤ x) shift),
     λ (n, k, listed, row, twice).
         let t = multiple k f.tau in
-        let shift : dot r (plus n.shift t) ≡ dot r n.shift +ℤ k *ℤ dot r f.tau =
-        dot-plus r n.shift t ∙ ap (λ x. dot r n.shift +ℤ x) (dot-multiple r k f.tau) in
+        let shift : dot r (plus n.translation t) ≡ dot r n.translation +ℤ k *ℤ dot r f.tau =
+        dot-plus r n.translation t ∙ ap (λ x. dot r n.translation +ℤ x) (dot-multiple r k f.tau) in
         (special_by_row g r s group coprime high).1 (
-          record { matrix = n.matrix; shift = plus n.shift t },
+          record { matrix = n.matrix; translation = plus n.translation t },
           record {
             of = n;
             listed = listed;
-            same = record { matrix = refl; shift = subst (IsInLattice g) (sym (plus-minus_first n.shift t)) (tau_multiple k) };
+            same = record { matrix = refl; translation = subst (IsInLattice g) (sym (plus-minus_first n.translation t)) (tau_multiple k) };
           },
           (row, twice ∙ ap (λ x. s.den *ℤ x) (sym shift)),
         ),

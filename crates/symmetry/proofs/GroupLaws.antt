@@ -86,21 +86,21 @@ module _ (g : Listing) (group : IsGroup g) where
         listed = one.listed;
         same = record {
           matrix = one.same.matrix;
-          shift = subst (IsInLattice g) (ap (plus t) (origin-plus (opposite one.of.shift)))
-              (lattice-plus g t (minus origin one.of.shift) h one.same.shift);
+          translation = subst (IsInLattice g) (ap (plus t) (origin-plus (opposite one.of.translation)))
+              (lattice-plus g t (minus origin one.of.translation) h one.same.translation);
         };
       }
 
   -- a translation that is a member is by a lattice vector
   pub member_translation : (t : Vector) → IsMember g (translation t) → IsInLattice g t
   member_translation t p =
-      subst (IsInLattice g) (minus-plus t p.of.shift) (lattice-plus g (minus t p.of.shift) p.of.shift p.same.shift of_in)
+      subst (IsInLattice g) (minus-plus t p.of.translation) (lattice-plus g (minus t p.of.translation) p.of.translation p.same.translation of_in)
     where
-      of_is : p.of ≡ translation p.of.shift
+      of_is : p.of ≡ translation p.of.translation
       of_is = motion_path (sym p.same.matrix) refl
 
-      of_in : IsInLattice g p.of.shift
-      of_in = lattice-made g p.of.shift (inr (inr (subst (Contains g.ops) of_is p.listed)))
+      of_in : IsInLattice g p.of.translation
+      of_in = lattice-made g p.of.translation (inr (inr (subst (Contains g.ops) of_is p.listed)))
 
   -- a member's matrix takes the lattice into itself
   pub member_keeps : (m : Motion) → IsMember g m → KeepsLattice g m.matrix
@@ -115,12 +115,12 @@ module _ (g : Listing) (group : IsGroup g) where
       n : Motion
       n = i.0
 
-      shifts : plus (image m.matrix (plus (image unit_matrix n.shift) t)) m.shift ≡ image m.matrix t
+      shifts : plus (image m.matrix (plus (image unit_matrix n.translation) t)) m.translation ≡ image m.matrix t
       shifts =
-          ap (λ v. plus (image m.matrix v) m.shift) (ap (λ v. plus v t) (image-unit n.shift) ∙ plus_comm n.shift t)
-          ∙ ap (λ v. plus v m.shift) (image-plus m.matrix t n.shift)
-          ∙ plus_assoc (image m.matrix t) (image m.matrix n.shift) m.shift
-          ∙ ap (λ (k : Motion). plus (image m.matrix t) k.shift) i.3
+          ap (λ v. plus (image m.matrix v) m.translation) (ap (λ v. plus v t) (image-unit n.translation) ∙ plus_comm n.translation t)
+          ∙ ap (λ v. plus v m.translation) (image-plus m.matrix t n.translation)
+          ∙ plus_assoc (image m.matrix t) (image m.matrix n.translation) m.translation
+          ∙ ap (λ (k : Motion). plus (image m.matrix t) k.translation) i.3
           ∙ plus-origin (image m.matrix t)
 
       conjugated : followed_by (followed_by n (translation t)) m ≡ translation (image m.matrix t)

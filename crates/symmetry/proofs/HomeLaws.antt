@@ -43,27 +43,27 @@ module _ (g : Listing) (r : Vector) (f : Basis) (frame : IsFrame g r f) where
   module _ (m : Motion) where
     -- the translation by a, b and tau, times the determinant
     abbrev coordinates : Vector
-    coordinates = record { x = dot (cross f.b f.tau) m.shift; y = dot (cross f.tau f.a) m.shift; z = dot (cross f.a f.b) m.shift }
+    coordinates = record { x = dot (cross f.b f.tau) m.translation; y = dot (cross f.tau f.a) m.translation; z = dot (cross f.a f.b) m.translation }
 
     -- how often it has a whole a and a whole b
     abbrev whole : Vector
     whole = record { x = (floor coordinates.x volume volume_positive).0; y = (floor coordinates.y volume volume_positive).0; z = pos 0 }
 
     abbrev home : Motion
-    home = record { matrix = m.matrix; shift = minus m.shift (combination f whole) }
+    home = record { matrix = m.matrix; translation = minus m.translation (combination f whole) }
 
     home_differs : DiffersInPlane g r m home
     home_differs = record {
       matrix = refl;
-      shift = subst (InPlaneLattice g r) (sym (minus-minus m.shift (combination f whole)))
+      translation = subst (InPlaneLattice g r) (sym (minus-minus m.translation (combination f whole)))
           ((plane_lattice g r f frame (combination f whole)).1 (whole, refl, refl));
     }
 
-    home_is : combination f (minus coordinates (multiple volume whole)) ≡ multiple volume home.shift
+    home_is : combination f (minus coordinates (multiple volume whole)) ≡ multiple volume home.translation
     home_is =
         combination-minus f coordinates (multiple volume whole) ∙ ap (minus (combination f coordinates)) (combination-multiple f volume whole)
-        ∙ ap (λ v. minus v (multiple volume (combination f whole))) (cramer f m.shift)
-        ∙ sym (multiple-minus volume m.shift (combination f whole))
+        ∙ ap (λ v. minus v (multiple volume (combination f whole))) (cramer f m.translation)
+        ∙ sym (multiple-minus volume m.translation (combination f whole))
 
     home_at_home : IsAtHome f home
     unfolding plus multiple
@@ -84,18 +84,18 @@ module _ (g : Listing) (r : Vector) (f : Basis) (frame : IsFrame g r f) where
 
   pub home_once : (m n : Motion) → IsAtHome f m → IsAtHome f n → DiffersInPlane g r m n → m ≡ n
   home_once m n p q differs =
-      let (c, is, flat) = (plane_lattice g r f frame (minus m.shift n.shift)).0 differs.shift in
+      let (c, is, flat) = (plane_lattice g r f frame (minus m.translation n.translation)).0 differs.translation in
       let apart = minus (multiple q.over p.by) (multiple p.over q.by) in
       let coordinates_is : apart ≡ multiple (p.over *ℤ q.over) c =
       frame.once apart (multiple (p.over *ℤ q.over) c)
       (combination-minus f (multiple q.over p.by) (multiple p.over q.by)
       ∙ (λ i. minus (combination-multiple f q.over p.by i) (combination-multiple f p.over q.by i))
       ∙ (λ i. minus (multiple q.over (p.is i)) (multiple p.over (q.is i)))
-      ∙ multiples-minus p.over q.over m.shift n.shift
+      ∙ multiples-minus p.over q.over m.translation n.translation
       ∙ ap (multiple (p.over *ℤ q.over)) (sym is) ∙ sym (combination-multiple f (p.over *ℤ q.over) c)) in
       let zero = whole_difference p.over q.over p.by q.by c coordinates_is (p.x_from, p.x_below) (q.x_from, q.x_below) (p.y_from, p.y_below) (q.y_from, q.y_below) in
-      let none : minus m.shift n.shift ≡ origin = sym is ∙ ap (combination f) (vector_path zero.0 zero.1 flat) ∙ combination-origin f in
-      motion_path differs.matrix (sym (minus-plus m.shift n.shift) ∙ ap (λ v. plus v n.shift) none ∙ origin-plus n.shift)
+      let none : minus m.translation n.translation ≡ origin = sym is ∙ ap (combination f) (vector_path zero.0 zero.1 flat) ∙ combination-origin f in
+      motion_path differs.matrix (sym (minus-plus m.translation n.translation) ∙ ap (λ v. plus v n.translation) none ∙ origin-plus n.translation)
 
   -- ---- and so of a set that has every motion that differs by the plane lattice from one of its own
 
@@ -114,7 +114,7 @@ module _ (g : Listing) (r : Vector) (f : Basis) (frame : IsFrame g r f) where
 
 -- members of the stabiliser with one matrix have one (hkl).w
 stabiliser_shift : (g : Listing) (r : Vector) (s : Height) (m n : Motion) → IsCoprime r → IsHeight s → m.matrix ≡ n.matrix
-    → InRowStabiliser g r s m → InRowStabiliser g r s n → dot r m.shift ≡ dot r n.shift
+    → InRowStabiliser g r s m → InRowStabiliser g r s n → dot r m.translation ≡ dot r n.translation
 stabiliser_shift g r s m n coprime high e (_, inl k) (_, inl l) = k.1 ∙ sym l.1
 stabiliser_shift g r s m n coprime high e (_, inl k) (_, inr t) = absurd (not_opposite r coprime (sym k.0 ∙ ap (row_times r) e ∙ t.0))
 stabiliser_shift g r s m n coprime high e (_, inr t) (_, inl k) = absurd (not_opposite r coprime (sym k.0 ∙ ap (row_times r) (sym e) ∙ t.0))
@@ -127,4 +127,4 @@ stabiliser_home_once g r f s m n frame group coprime high in_m in_n home_m home_
     let row_m = (stabiliser_by_row g r s m group coprime high).0 in_m in
     let row_n = (stabiliser_by_row g r s n group coprime high).0 in_n in
     let level = stabiliser_shift g r s m n coprime high same.matrix row_m row_n in
-    home_once g r f frame m n home_m home_n (record { matrix = same.matrix; shift = (same.shift, dot-minus_same r m.shift n.shift level) })
+    home_once g r f frame m n home_m home_n (record { matrix = same.matrix; translation = (same.translation, dot-minus_same r m.translation n.translation level) })

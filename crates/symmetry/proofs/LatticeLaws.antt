@@ -48,18 +48,18 @@ lattice-image g m keeps _ (subtracted t v k made) =
 -- ---- sameness
 
 pub same_refl : (g : Listing) (m : Motion) → SameModulo g m m
-same_refl g m = record { matrix = refl; shift = subst (IsInLattice g) (sym (minus-same m.shift)) zero_vector }
+same_refl g m = record { matrix = refl; translation = subst (IsInLattice g) (sym (minus-same m.translation)) zero_vector }
 
 pub same_sym : (g : Listing) (m n : Motion) → SameModulo g m n → SameModulo g n m
 same_sym g m n p = record {
   matrix = sym p.matrix;
-  shift = subst (IsInLattice g) (opposite-minus m.shift n.shift) (lattice-opposite g (minus m.shift n.shift) p.shift);
+  translation = subst (IsInLattice g) (opposite-minus m.translation n.translation) (lattice-opposite g (minus m.translation n.translation) p.translation);
 }
 
 pub same_trans : (g : Listing) (k m n : Motion) → SameModulo g k m → SameModulo g m n → SameModulo g k n
 same_trans g k m n p q = record {
   matrix = p.matrix ∙ q.matrix;
-  shift = subst (IsInLattice g) (minus-plus-minus k.shift m.shift n.shift) (lattice-plus g (minus k.shift m.shift) (minus m.shift n.shift) p.shift q.shift);
+  translation = subst (IsInLattice g) (minus-plus-minus k.translation m.translation n.translation) (lattice-plus g (minus k.translation m.translation) (minus m.translation n.translation) p.translation q.translation);
 }
 
 -- a listed motion is a member, and so is what is the same as a member
@@ -75,13 +75,13 @@ pub same-followed_by : (g : Listing) (m n m' n' : Motion)
     → SameModulo g m m' → SameModulo g n n' → SameModulo g (followed_by m n) (followed_by m' n')
 same-followed_by g m n m' n' keeps p q = record {
   matrix = λ i. product (q.matrix i) (p.matrix i);
-  shift = subst (IsInLattice g) shifts
-      (lattice-plus g (image n'.matrix (minus m.shift m'.shift)) (minus n.shift n'.shift) (keeps (minus m.shift m'.shift) p.shift) q.shift);
+  translation = subst (IsInLattice g) shifts
+      (lattice-plus g (image n'.matrix (minus m.translation m'.translation)) (minus n.translation n'.translation) (keeps (minus m.translation m'.translation) p.translation) q.translation);
 }
   where
-    shifts : plus (image n'.matrix (minus m.shift m'.shift)) (minus n.shift n'.shift)
-        ≡ minus (plus (image n.matrix m.shift) n.shift) (plus (image n'.matrix m'.shift) n'.shift)
+    shifts : plus (image n'.matrix (minus m.translation m'.translation)) (minus n.translation n'.translation)
+        ≡ minus (plus (image n.matrix m.translation) n.translation) (plus (image n'.matrix m'.translation) n'.translation)
     shifts =
-        ap (λ v. plus v (minus n.shift n'.shift)) (image-minus n'.matrix m.shift m'.shift)
-        ∙ minus-exchange (image n'.matrix m.shift) (image n'.matrix m'.shift) n.shift n'.shift
-        ∙ ap (λ w. minus (plus (image w m.shift) n.shift) (plus (image n'.matrix m'.shift) n'.shift)) (sym q.matrix)
+        ap (λ v. plus v (minus n.translation n'.translation)) (image-minus n'.matrix m.translation m'.translation)
+        ∙ minus-exchange (image n'.matrix m.translation) (image n'.matrix m'.translation) n.translation n'.translation
+        ∙ ap (λ w. minus (plus (image w m.translation) n.translation) (plus (image n'.matrix m'.translation) n'.translation)) (sym q.matrix)

@@ -6,35 +6,35 @@ use Rattle.symmetry.proofs.VectorLaws.{plus_assoc, plus-origin, origin-plus, min
 use Rattle.symmetry.proofs.MatrixLaws.{image-plus, image-multiple, image-product, image-unit, image-origin, product_assoc, product-unit_left, product-unit_right}
 
 -- two motions are equal when their parts are
-pub motion_path : {m n : Motion} → m.matrix ≡ n.matrix → m.shift ≡ n.shift → m ≡ n
-motion_path p q = λ i. record { matrix = p i; shift = q i }
+pub motion_path : {m n : Motion} → m.matrix ≡ n.matrix → m.translation ≡ n.translation → m ≡ n
+motion_path p q = λ i. record { matrix = p i; translation = q i }
 
 pub followed_by-assoc : (k m n : Motion) → followed_by (followed_by k m) n ≡ followed_by k (followed_by m n)
 followed_by-assoc k m n =
     motion_path (sym (product_assoc n.matrix m.matrix k.matrix))
-    (ap (λ v. plus v n.shift) (image-plus n.matrix (image m.matrix k.shift) m.shift)
-    ∙ plus_assoc (image n.matrix (image m.matrix k.shift)) (image n.matrix m.shift) n.shift
-    ∙ ap (λ v. plus v (plus (image n.matrix m.shift) n.shift)) (sym (image-product n.matrix m.matrix k.shift)))
+    (ap (λ v. plus v n.translation) (image-plus n.matrix (image m.matrix k.translation) m.translation)
+    ∙ plus_assoc (image n.matrix (image m.matrix k.translation)) (image n.matrix m.translation) n.translation
+    ∙ ap (λ v. plus v (plus (image n.matrix m.translation) n.translation)) (sym (image-product n.matrix m.matrix k.translation)))
 
 pub followed_by-identity : (m : Motion) → followed_by m identity ≡ m
 followed_by-identity m =
-    motion_path (product-unit_left m.matrix) (ap (λ v. plus v origin) (image-unit m.shift) ∙ plus-origin m.shift)
+    motion_path (product-unit_left m.matrix) (ap (λ v. plus v origin) (image-unit m.translation) ∙ plus-origin m.translation)
 
 pub identity-followed_by : (m : Motion) → followed_by identity m ≡ m
 identity-followed_by m =
-    motion_path (product-unit_right m.matrix) (ap (λ v. plus v m.shift) (image-origin m.matrix) ∙ origin-plus m.shift)
+    motion_path (product-unit_right m.matrix) (ap (λ v. plus v m.translation) (image-origin m.matrix) ∙ origin-plus m.translation)
 
 -- the motion that takes back what m does, where the matrix w is the inverse of m's
 abbrev pub inverse_by : Matrix → Motion → Motion
-inverse_by w m = record { matrix = w; shift = opposite (image w m.shift) }
+inverse_by w m = record { matrix = w; translation = opposite (image w m.translation) }
 
 pub followed_by-inverse_by : (w : Matrix) (m : Motion) → product w m.matrix ≡ unit_matrix → followed_by m (inverse_by w m) ≡ identity
-followed_by-inverse_by w m e = motion_path e (minus-same (image w m.shift))
+followed_by-inverse_by w m e = motion_path e (minus-same (image w m.translation))
 
 pub inverse_by-followed_by : (w : Matrix) (m : Motion) → product m.matrix w ≡ unit_matrix → followed_by (inverse_by w m) m ≡ identity
 inverse_by-followed_by w m e =
     motion_path e
-    (ap (λ v. plus v m.shift)
-    (image-multiple m.matrix (negsuc 0) (image w m.shift)
-    ∙ ap opposite (sym (image-product m.matrix w m.shift) ∙ ap (λ n. image n m.shift) e ∙ image-unit m.shift))
-    ∙ opposite-plus_same m.shift)
+    (ap (λ v. plus v m.translation)
+    (image-multiple m.matrix (negsuc 0) (image w m.translation)
+    ∙ ap opposite (sym (image-product m.matrix w m.translation) ∙ ap (λ n. image n m.translation) e ∙ image-unit m.translation))
+    ∙ opposite-plus_same m.translation)

@@ -91,7 +91,7 @@ module _ (g : Listing) (r : Vector) (f : Basis) (frame : IsFrame g r f) (group :
               (
                 both.1.periods +ℤ k,
                 subst (λ x. (x *ℤ s.num *ℤ UNIT +ℤ s.den *ℤ (h.shift +ℤ (both.1.periods +ℤ k) *ℤ d)) *ℤ t.den ≡ t.num *ℤ (UNIT *ℤ s.den)) (sym both.0)
-                    (subst (λ x. (e *ℤ s.num *ℤ UNIT +ℤ s.den *ℤ x) *ℤ t.den ≡ t.num *ℤ (UNIT *ℤ s.den)) (regrouped (dot r n.shift) h.shift both.1.periods k d both.1.shift) moves),
+                    (subst (λ x. (e *ℤ s.num *ℤ UNIT +ℤ s.den *ℤ x) *ℤ t.den ≡ t.num *ℤ (UNIT *ℤ s.den)) (regrouped (dot r n.translation) h.shift both.1.periods k d both.1.shift) moves),
               ),
             ),
         λ (i, h, within, is, both).
@@ -104,7 +104,7 @@ module _ (g : Listing) (r : Vector) (f : Basis) (frame : IsFrame g r f) (group :
               listed,
               subst (λ (h : HeightMotion). IsSign h.sign) is (are.signs i h within),
               moves.row,
-              subst (λ x. (h.sign *ℤ s.num *ℤ UNIT +ℤ s.den *ℤ x) *ℤ t.den ≡ t.num *ℤ (UNIT *ℤ s.den)) (taken_off (dot r n.shift) h.shift moves.periods k d moves.shift) takes,
+              subst (λ x. (h.sign *ℤ s.num *ℤ UNIT +ℤ s.den *ℤ x) *ℤ t.den ≡ t.num *ℤ (UNIT *ℤ s.den)) (taken_off (dot r n.translation) h.shift moves.periods k d moves.shift) takes,
             ),
       )
 
@@ -117,7 +117,7 @@ module _ (g : Listing) (r : Vector) (f : Basis) (frame : IsFrame g r f) (group :
     member_to h m listed moves =
         let b = periods_below d above s high h in
         row_by_listed g r f frame group coprime s (goes_to h) m h.sign (neg_ℤ (moves.periods +ℤ b)) listed moves.row
-        (into_period h.sign s.num UNIT s.den (dot r m.shift) h.shift b moves.periods d (goes_to h).num (goes_to h).den moves.shift (same_rest d above s high h))
+        (into_period h.sign s.num UNIT s.den (dot r m.translation) h.shift b moves.periods d (goes_to h).num (goes_to h).den moves.shift (same_rest d above s high h))
 
     in_orbit : (h : HeightMotion) → IsSign h.sign → (m : Motion) → Contains g.ops m → MovesPlanes r d m h → AreInOneOrbit g r s (goes_to h)
     in_orbit h sign m listed moves =
@@ -129,7 +129,7 @@ module _ (g : Listing) (r : Vector) (f : Basis) (frame : IsFrame g r f) (group :
           listed,
           sign,
           moves.row,
-          into_period h.sign s.num UNIT s.den (dot r m.shift) h.shift b moves.periods d (goes_to h).num (goes_to h).den moves.shift (same_rest d above s high h),
+          into_period h.sign s.num UNIT s.den (dot r m.translation) h.shift b moves.periods d (goes_to h).num (goes_to h).den moves.shift (same_rest d above s high h),
         )
 
     abbrev heights : List Height
@@ -158,8 +158,8 @@ module _ (g : Listing) (r : Vector) (f : Basis) (frame : IsFrame g r f) (group :
         let by = both.1 in
         let same : SameFraction t (goes_to h) =
         only_in_period d above s high h t (by.periods +ℤ k) inside
-        (from_period h.sign s.num UNIT s.den (dot r n.shift) h.shift by.periods k d t.num t.den by.shift
-        (subst (λ x. (x *ℤ s.num *ℤ UNIT +ℤ s.den *ℤ (dot r n.shift +ℤ k *ℤ d)) *ℤ t.den ≡ t.num *ℤ (UNIT *ℤ s.den)) (sym is_sign) moves)) in
+        (from_period h.sign s.num UNIT s.den (dot r n.translation) h.shift by.periods k d t.num t.den by.shift
+        (subst (λ x. (x *ℤ s.num *ℤ UNIT +ℤ s.den *ℤ (dot r n.translation +ℤ k *ℤ d)) *ℤ t.den ≡ t.num *ℤ (UNIT *ℤ s.den)) (sym is_sign) moves)) in
         (i, goes_to h, subst (λ n. i < n) (sym (length-map hs goes_to)) within, get_or-map goes_to hs i h (goes_to h) within ∙ ap goes_to is, same)
 
     module _ (general : ¬ IsSpecial g r s) where

@@ -15,10 +15,10 @@ use Rattle.symmetry.proofs.Coprime.{unit_column}
 
 -- what the row gives at a moved point
 pub dot-moved : (r : Vector) (g : Motion) (p : Point)
-    → dot r (moved g p).at ≡ UNIT *ℤ dot (row_times r g.matrix) p.at +ℤ p.over *ℤ dot r g.shift
+    → dot r (moved g p).at ≡ UNIT *ℤ dot (row_times r g.matrix) p.at +ℤ p.over *ℤ dot r g.translation
 dot-moved r g p =
-    dot-plus r _ _ ∙ (λ i. dot-multiple r UNIT (image g.matrix p.at) i +ℤ dot-multiple r p.over g.shift i)
-    ∙ ap (λ n. UNIT *ℤ n +ℤ p.over *ℤ dot r g.shift) (sym (row_times-dot r g.matrix p.at))
+    dot-plus r _ _ ∙ (λ i. dot-multiple r UNIT (image g.matrix p.at) i +ℤ dot-multiple r p.over g.translation i)
+    ∙ ap (λ n. UNIT *ℤ n +ℤ p.over *ℤ dot r g.translation) (sym (row_times-dot r g.matrix p.at))
 
 -- ---- from points to rows
 
@@ -44,25 +44,25 @@ module _ (r : Vector) (s s' : Height) (g : Motion) (high : IsHeight s) (high' : 
 
   module _ (maps : MapsPlane r s s' g) where
     -- what the base point's image says
-    at_base : (UNIT *ℤ (s.num *ℤ dot turned u) +ℤ s.den *ℤ dot r g.shift) *ℤ s'.den ≡ s'.num *ℤ (UNIT *ℤ s.den)
+    at_base : (UNIT *ℤ (s.num *ℤ dot turned u) +ℤ s.den *ℤ dot r g.translation) *ℤ s'.den ≡ s'.num *ℤ (UNIT *ℤ s.den)
     at_base =
         ap (λ n. n *ℤ s'.den)
-        (ap (λ n. UNIT *ℤ n +ℤ s.den *ℤ dot r g.shift) (sym (dot-multiple turned s.num u)) ∙ sym (dot-moved r g base))
+        (ap (λ n. UNIT *ℤ n +ℤ s.den *ℤ dot r g.translation) (sym (dot-multiple turned s.num u)) ∙ sym (dot-moved r g base))
         ∙ maps base high base_on
 
     -- what the image of a point beside it says
     at_beside : (e : Vector) → dot r e ≡ pos 0
-        → (UNIT *ℤ (s.num *ℤ dot turned u +ℤ dot turned e) +ℤ s.den *ℤ dot r g.shift) *ℤ s'.den ≡ s'.num *ℤ (UNIT *ℤ s.den)
+        → (UNIT *ℤ (s.num *ℤ dot turned u +ℤ dot turned e) +ℤ s.den *ℤ dot r g.translation) *ℤ s'.den ≡ s'.num *ℤ (UNIT *ℤ s.den)
     at_beside e z =
         ap (λ n. n *ℤ s'.den)
-        (ap (λ n. UNIT *ℤ n +ℤ s.den *ℤ dot r g.shift) (sym (dot-plus turned base.at e ∙ ap (λ n. n +ℤ dot turned e) (dot-multiple turned s.num u)))
+        (ap (λ n. UNIT *ℤ n +ℤ s.den *ℤ dot r g.translation) (sym (dot-plus turned base.at e ∙ ap (λ n. n +ℤ dot turned e) (dot-multiple turned s.num u)))
         ∙ sym (dot-moved r g (beside e)))
         ∙ maps (beside e) high (beside_on e z)
 
     -- the turned row takes to 0 what the row takes to 0
     both_zero : (e : Vector) → dot r e ≡ pos 0 → dot turned e ≡ pos 0
     both_zero e z =
-        compared UNIT (s.num *ℤ dot turned u) (dot turned e) (s.den *ℤ dot r g.shift) s'.den (omega (arith, ints)) high'
+        compared UNIT (s.num *ℤ dot turned u) (dot turned e) (s.den *ℤ dot r g.translation) s'.den (omega (arith, ints)) high'
         (at_base ∙ sym (at_beside e z))
       where
         compared : (n a b c q : ℤ) → pos 1 ≤ℤ n → pos 1 ≤ℤ q → (n *ℤ a +ℤ c) *ℤ q ≡ (n *ℤ (a +ℤ b) +ℤ c) *ℤ q → b ≡ pos 0
@@ -88,7 +88,7 @@ module _ (r : Vector) (s s' : Height) (g : Motion) (high : IsHeight s) (high' : 
     moves_row : (e : ℤ) → dot turned u ≡ e → MovesRow r s s' e g
     moves_row e c = (
       row_path turned (multiple e r) (λ v. proportional v ∙ ap (λ n. dot r v *ℤ n) c ∙ *ℤ_comm (dot r v) e ∙ sym (multiple-dot e r v)),
-      ap (λ n. (n +ℤ s.den *ℤ dot r g.shift) *ℤ s'.den) (turned_round e s.num UNIT ∙ ap (λ n. UNIT *ℤ (s.num *ℤ n)) (sym c)) ∙ at_base,
+      ap (λ n. (n +ℤ s.den *ℤ dot r g.translation) *ℤ s'.den) (turned_round e s.num UNIT ∙ ap (λ n. UNIT *ℤ (s.num *ℤ n)) (sym c)) ∙ at_base,
     )
       where
         turned_round : (e p n : ℤ) → e *ℤ p *ℤ n ≡ n *ℤ (p *ℤ e)
@@ -115,9 +115,9 @@ module _ (r : Vector) (s s' : Height) (g : Motion) (high : IsHeight s) (high' : 
 pub maps_from_row : (r : Vector) (s s' : Height) (e : ℤ) (g : Motion) → IsHeight s → MovesRow r s s' e g → MapsPlane r s s' g
 maps_from_row r s s' e g high k p h on =
     ap (λ n. n *ℤ s'.den)
-    (dot-moved r g p ∙ ap (λ t. UNIT *ℤ dot t p.at +ℤ p.over *ℤ dot r g.shift) k.0
-    ∙ ap (λ n. UNIT *ℤ n +ℤ p.over *ℤ dot r g.shift) (multiple-dot e r p.at))
-    ∙ by_unit UNIT (dot r p.at) p.over s.den s.num (dot r g.shift) e s'.num s'.den high on k.1
+    (dot-moved r g p ∙ ap (λ t. UNIT *ℤ dot t p.at +ℤ p.over *ℤ dot r g.translation) k.0
+    ∙ ap (λ n. UNIT *ℤ n +ℤ p.over *ℤ dot r g.translation) (multiple-dot e r p.at))
+    ∙ by_unit UNIT (dot r p.at) p.over s.den s.num (dot r g.translation) e s'.num s'.den high on k.1
   where
     by_unit : (n a m q p d e p' q' : ℤ) → pos 1 ≤ℤ q → a *ℤ q ≡ p *ℤ m
         → (e *ℤ p *ℤ n +ℤ q *ℤ d) *ℤ q' ≡ p' *ℤ (n *ℤ q) → (n *ℤ (e *ℤ a) +ℤ m *ℤ d) *ℤ q' ≡ p' *ℤ (n *ℤ m)

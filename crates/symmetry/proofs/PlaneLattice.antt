@@ -20,22 +20,22 @@ plane_lattice-opposite g r t p = (lattice-opposite g t p.0, dot-multiple r (negs
 -- ---- motions that differ by the plane lattice
 
 pub differs_in_lattice : (g : Listing) (r : Vector) (m n : Motion) → DiffersInPlane g r m n → SameModulo g m n
-differs_in_lattice g r m n p = record { matrix = p.matrix; shift = p.shift.0 }
+differs_in_lattice g r m n p = record { matrix = p.matrix; translation = p.translation.0 }
 
 pub differs_refl : (g : Listing) (r : Vector) (m : Motion) → DiffersInPlane g r m m
-differs_refl g r m = record { matrix = refl; shift = ((same_refl g m).shift, ap (dot r) (minus-same m.shift) ∙ dot-origin r) }
+differs_refl g r m = record { matrix = refl; translation = ((same_refl g m).translation, ap (dot r) (minus-same m.translation) ∙ dot-origin r) }
 
 pub differs_sym : (g : Listing) (r : Vector) (m n : Motion) → DiffersInPlane g r m n → DiffersInPlane g r n m
 differs_sym g r m n p = record {
   matrix = sym p.matrix;
-  shift = subst (InPlaneLattice g r) (opposite-minus m.shift n.shift) (plane_lattice-opposite g r (minus m.shift n.shift) p.shift);
+  translation = subst (InPlaneLattice g r) (opposite-minus m.translation n.translation) (plane_lattice-opposite g r (minus m.translation n.translation) p.translation);
 }
 
 pub differs_trans : (g : Listing) (r : Vector) (k m n : Motion) → DiffersInPlane g r k m → DiffersInPlane g r m n → DiffersInPlane g r k n
 differs_trans g r k m n p q = record {
   matrix = p.matrix ∙ q.matrix;
-  shift = subst (InPlaneLattice g r) (minus-plus-minus k.shift m.shift n.shift)
-      (plane_lattice-plus g r (minus k.shift m.shift) (minus m.shift n.shift) p.shift q.shift);
+  translation = subst (InPlaneLattice g r) (minus-plus-minus k.translation m.translation n.translation)
+      (plane_lattice-plus g r (minus k.translation m.translation) (minus m.translation n.translation) p.translation q.translation);
 }
 
 -- ---- what the stabilisers have with each motion
@@ -44,10 +44,10 @@ pub differs_member : (g : Listing) (r : Vector) (m n : Motion) → DiffersInPlan
 differs_member g r m n p = same_member g n m (same_sym g m n (differs_in_lattice g r m n p))
 
 -- (hkl).w is one number
-pub differs_shift : (g : Listing) (r : Vector) (m n : Motion) → DiffersInPlane g r m n → dot r m.shift ≡ dot r n.shift
+pub differs_shift : (g : Listing) (r : Vector) (m n : Motion) → DiffersInPlane g r m n → dot r m.translation ≡ dot r n.translation
 differs_shift g r m n p =
-    ap (dot r) (sym (minus-plus m.shift n.shift)) ∙ dot-plus r (minus m.shift n.shift) n.shift
-    ∙ ap (λ x. x +ℤ dot r n.shift) p.shift.1 ∙ zero_add (dot r n.shift)
+    ap (dot r) (sym (minus-plus m.translation n.translation)) ∙ dot-plus r (minus m.translation n.translation) n.translation
+    ∙ ap (λ x. x +ℤ dot r n.translation) p.translation.1 ∙ zero_add (dot r n.translation)
 
 pub differs_maps : (g : Listing) (r : Vector) (s s' : Height) (m n : Motion) → DiffersInPlane g r m n → MapsPlane r s s' m → MapsPlane r s s' n
 differs_maps g r s s' m n differs maps p h on =

@@ -32,10 +32,10 @@ row_times-followed_by r m n e f p q =
 
 -- and its (hkl).w
 pub dot-followed_by : (r : Vector) (m n : Motion) (f : ℤ) → row_times r n.matrix ≡ multiple f r
-    → dot r (followed_by m n).shift ≡ f *ℤ dot r m.shift +ℤ dot r n.shift
+    → dot r (followed_by m n).translation ≡ f *ℤ dot r m.translation +ℤ dot r n.translation
 dot-followed_by r m n f q =
-    dot-plus r (image n.matrix m.shift) n.shift
-    ∙ ap (λ x. x +ℤ dot r n.shift) (sym (row_times-dot r n.matrix m.shift) ∙ ap (λ (v : Vector). dot v m.shift) q ∙ multiple-dot f r m.shift)
+    dot-plus r (image n.matrix m.translation) n.translation
+    ∙ ap (λ x. x +ℤ dot r n.translation) (sym (row_times-dot r n.matrix m.translation) ∙ ap (λ (v : Vector). dot v m.translation) q ∙ multiple-dot f r m.translation)
 
 -- the inverse has the same sign
 row_times-inverse : (r : Vector) (m n : Motion) (e : ℤ) → IsSign e → row_times r m.matrix ≡ multiple e r → followed_by n m ≡ identity
@@ -77,26 +77,26 @@ unmoved n p q d z =
 module _ (r : Vector) where
   pub MovesRow-identity : (s : Height) → MovesRow r s s (pos 1) identity
   MovesRow-identity s =
-      (row_times-unit r ∙ sym (multiple-one r), unmoved UNIT s.num s.den (dot r identity.shift) (dot-origin r))
+      (row_times-unit r ∙ sym (multiple-one r), unmoved UNIT s.num s.den (dot r identity.translation) (dot-origin r))
 
   pub MovesRow-product : (s t u : Height) (e f : ℤ) (m n : Motion) → IsHeight t → MovesRow r s t e m → MovesRow r t u f n
       → MovesRow r s u (e *ℤ f) (followed_by m n)
   MovesRow-product s t u e f m n high p q = (
     row_times-followed_by r m n e f p.0 q.0,
     ap (λ x. (e *ℤ f *ℤ s.num *ℤ UNIT +ℤ s.den *ℤ x) *ℤ u.den) (dot-followed_by r m n f q.0)
-        ∙ joined UNIT e s.num s.den (dot r m.shift) f t.num t.den (dot r n.shift) u.num u.den high p.1 q.1,
+        ∙ joined UNIT e s.num s.den (dot r m.translation) f t.num t.den (dot r n.translation) u.num u.den high p.1 q.1,
   )
 
   pub MovesRow-inverse : (s t : Height) (e : ℤ) (m n : Motion) → IsSign e → MovesRow r s t e m
       → followed_by m n ≡ identity → followed_by n m ≡ identity → MovesRow r t s e n
   MovesRow-inverse s t e m n sign p after before =
-      (row, back UNIT e s.num s.den (dot r m.shift) t.num t.den (dot r n.shift) (sign-square e sign) p.1 none)
+      (row, back UNIT e s.num s.den (dot r m.translation) t.num t.den (dot r n.translation) (sign-square e sign) p.1 none)
     where
       row : row_times r n.matrix ≡ multiple e r
       row = row_times-inverse r m n e sign p.0 before
 
-      none : e *ℤ dot r m.shift +ℤ dot r n.shift ≡ pos 0
-      none = sym (dot-followed_by r m n e row) ∙ ap (λ (k : Motion). dot r k.shift) after ∙ dot-origin r
+      none : e *ℤ dot r m.translation +ℤ dot r n.translation ≡ pos 0
+      none = sym (dot-followed_by r m n e row) ∙ ap (λ (k : Motion). dot r k.translation) after ∙ dot-origin r
 
 -- ---- orbits
 
@@ -144,22 +144,22 @@ module _ (g : Listing) (r : Vector) (group : IsGroup g) (coprime : IsCoprime r) 
 -- a listed operation with e times the row, and k periods, that take the one height to the other
 abbrev pub MovesByListed : Listing → Vector → Basis → Height → Height → Type 0
 MovesByListed g r f s t = (n : Motion) × (e : ℤ) × (k : ℤ) × Contains g.ops n × IsSign e × (row_times r n.matrix ≡ multiple e r)
-    × ((e *ℤ s.num *ℤ UNIT +ℤ s.den *ℤ (dot r n.shift +ℤ k *ℤ dot r f.tau)) *ℤ t.den ≡ t.num *ℤ (UNIT *ℤ s.den))
+    × ((e *ℤ s.num *ℤ UNIT +ℤ s.den *ℤ (dot r n.translation +ℤ k *ℤ dot r f.tau)) *ℤ t.den ≡ t.num *ℤ (UNIT *ℤ s.den))
 
 module _ (g : Listing) (r : Vector) (f : Basis) (frame : IsFrame g r f) (group : IsGroup g) (coprime : IsCoprime r) where
   -- with the periods it is a member
   pub row_by_listed : (s t : Height) (n : Motion) (e k : ℤ) → Contains g.ops n → row_times r n.matrix ≡ multiple e r
-      → (e *ℤ s.num *ℤ UNIT +ℤ s.den *ℤ (dot r n.shift +ℤ k *ℤ dot r f.tau)) *ℤ t.den ≡ t.num *ℤ (UNIT *ℤ s.den)
+      → (e *ℤ s.num *ℤ UNIT +ℤ s.den *ℤ (dot r n.translation +ℤ k *ℤ dot r f.tau)) *ℤ t.den ≡ t.num *ℤ (UNIT *ℤ s.den)
       → (m : Motion) × IsMember g m × MovesRow r s t e m
   row_by_listed s t n e k listed row moves =
       let v = multiple k f.tau in
-      let shift : dot r (plus n.shift v) ≡ dot r n.shift +ℤ k *ℤ dot r f.tau =
-      dot-plus r n.shift v ∙ ap (λ x. dot r n.shift +ℤ x) (dot-multiple r k f.tau) in (
-        record { matrix = n.matrix; shift = plus n.shift v },
+      let shift : dot r (plus n.translation v) ≡ dot r n.translation +ℤ k *ℤ dot r f.tau =
+      dot-plus r n.translation v ∙ ap (λ x. dot r n.translation +ℤ x) (dot-multiple r k f.tau) in (
+        record { matrix = n.matrix; translation = plus n.translation v },
         record {
           of = n;
           listed = listed;
-          same = record { matrix = refl; shift = subst (IsInLattice g) (sym (plus-minus_first n.shift v)) (tau_multiple g r f frame k) };
+          same = record { matrix = refl; translation = subst (IsInLattice g) (sym (plus-minus_first n.translation v)) (tau_multiple g r f frame k) };
         },
         (row, subst (λ x. (e *ℤ s.num *ℤ UNIT +ℤ s.den *ℤ x) *ℤ t.den ≡ t.num *ℤ (UNIT *ℤ s.den)) (sym shift) moves),
       )
@@ -168,10 +168,10 @@ module _ (g : Listing) (r : Vector) (f : Basis) (frame : IsFrame g r f) (group :
   orbit_by_listed s t high high' = (
     λ o.
         let (m, e, member, sign, p) = (orbit_by_row g r group coprime s t high high').0 o in
-        let (k, value) = lattice_periods g r f frame (minus m.shift member.of.shift) member.same.shift in
-        let shift : dot r m.shift ≡ dot r member.of.shift +ℤ k *ℤ dot r f.tau =
-        ap (dot r) (sym (minus-plus m.shift member.of.shift)) ∙ dot-plus r (minus m.shift member.of.shift) member.of.shift
-        ∙ ap (λ x. x +ℤ dot r member.of.shift) value ∙ +ℤ_comm (k *ℤ dot r f.tau) (dot r member.of.shift) in (
+        let (k, value) = lattice_periods g r f frame (minus m.translation member.of.translation) member.same.translation in
+        let shift : dot r m.translation ≡ dot r member.of.translation +ℤ k *ℤ dot r f.tau =
+        ap (dot r) (sym (minus-plus m.translation member.of.translation)) ∙ dot-plus r (minus m.translation member.of.translation) member.of.translation
+        ∙ ap (λ x. x +ℤ dot r member.of.translation) value ∙ +ℤ_comm (k *ℤ dot r f.tau) (dot r member.of.translation) in (
           member.of,
           e,
           k,

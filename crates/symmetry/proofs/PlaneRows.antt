@@ -32,16 +32,16 @@ turned x y = (λ e. omega (arith, ints), λ e. omega (arith, ints))
 module _ (r : Vector) (s : Height) (g : Motion) (high : IsHeight s) where
   kept_is_moved : MovesRow r s s (pos 1) g ↔ KeepsRow r g
   kept_is_moved =
-      let same = same_height (pos 1) s.num s.den (dot r g.shift) UNIT high in
-      let one = kept (s.num *ℤ UNIT) (s.den *ℤ dot r g.shift) in (
+      let same = same_height (pos 1) s.num s.den (dot r g.translation) UNIT high in
+      let one = kept (s.num *ℤ UNIT) (s.den *ℤ dot r g.translation) in (
         λ k. (k.0 ∙ multiple-one r, mul_left_cancel_pos s.den _ (pos 0) high (one.0 (same.0 k.1) ∙ sym (mul_zero s.den))),
         λ k. (k.0 ∙ sym (multiple-one r), same.1 (one.1 (ap (λ x. s.den *ℤ x) k.1 ∙ mul_zero s.den))),
       )
 
   pub turned_is_moved : MovesRow r s s (negsuc 0) g ↔ TurnsRow r s g
   turned_is_moved =
-      let same = same_height (negsuc 0) s.num s.den (dot r g.shift) UNIT high in
-      let two = turned (s.num *ℤ UNIT) (s.den *ℤ dot r g.shift) in (
+      let same = same_height (negsuc 0) s.num s.den (dot r g.translation) UNIT high in
+      let two = turned (s.num *ℤ UNIT) (s.den *ℤ dot r g.translation) in (
         λ k. (k.0, mul_assoc (pos 2) s.num UNIT ∙ two.0 (same.0 k.1)),
         λ k. (k.0, same.1 (two.1 (sym (mul_assoc (pos 2) s.num UNIT) ∙ k.1))),
       )

@@ -19,7 +19,7 @@ abbrev diagonal : ℤ → ℤ → ℤ → Matrix
 diagonal x y z = record { first = vector x (pos 0) (pos 0); second = vector (pos 0) y (pos 0); third = vector (pos 0) (pos 0) z }
 
 abbrev still : Matrix → Motion
-still m = record { matrix = m; shift = origin }
+still m = record { matrix = m; translation = origin }
 
 -- half a cell edge
 abbrev half : ℤ
@@ -46,7 +46,7 @@ quarter = record { num = pos 1; den = pos 4 }
 
 -- x-1/2,-y+1/2,z
 abbrev glide : Motion
-glide = record { matrix = diagonal (pos 1) (negsuc 0) (pos 1); shift = vector (neg_ℤ half) half (pos 0) }
+glide = record { matrix = diagonal (pos 1) (negsuc 0) (pos 1); translation = vector (neg_ℤ half) half (pos 0) }
 
 -- the signs of the listed operations, and c', which is 0,1/2,0
 rotation_keeps : sign_at row (still (diagonal (negsuc 0) (pos 1) (negsuc 0))) ≡ pos 1
@@ -76,7 +76,7 @@ same_as_mirror : SameModulo listing glide (motion_at listing.ops 3)
 unfolding plus multiple
 same_as_mirror = record {
   matrix = refl;
-  shift = subtracted (vector half half (pos 0)) (vector UNIT (pos 0) (pos 0))
+  translation = subtracted (vector half half (pos 0)) (vector UNIT (pos 0) (pos 0))
       (added origin (vector half half (pos 0)) zero_vector (inr (inl (1, lit< tt, refl)))) (inl (0, lit< tt, refl));
 }
 

@@ -80,14 +80,14 @@ IsSpecial g r s = (m : Motion) × InStabiliser g r s m × ¬ (FixesEveryPlane g 
 -- translations that differ by a vector of the plane lattice, and one matrix
 pub record DiffersInPlane (g : Listing) (r : Vector) (m n : Motion) : Type 0 where
   pub matrix : m.matrix ≡ n.matrix
-  pub shift : InPlaneLattice g r (minus m.shift n.shift)
+  pub translation : InPlaneLattice g r (minus m.translation n.translation)
 
 -- at home: the translation is x a + y b + k tau with 0 <= x < 1, 0 <= y < 1 and rational k
 pub record IsAtHome (f : Basis) (m : Motion) : Type 0 where
   pub over : ℤ
   pub positive : pos 1 ≤ℤ over
   pub by : Vector
-  pub is : combination f by ≡ multiple over m.shift
+  pub is : combination f by ≡ multiple over m.translation
   pub x_from : pos 0 ≤ℤ by.x
   pub x_below : by.x <ℤ over
   pub y_from : pos 0 ≤ℤ by.y

@@ -21,7 +21,7 @@ edges =
 -- a vector that the lattice is made of: an edge, a centring vector, or a listed translation
 abbrev pub Generates : Listing → Vector → Type 0
 Generates g v =
-    Contains edges v ⊎ (Contains g.centrings v ⊎ Contains g.ops (record { matrix = unit_matrix; shift = v }))
+    Contains edges v ⊎ (Contains g.centrings v ⊎ Contains g.ops (record { matrix = unit_matrix; translation = v }))
 
 -- the lattice L: every vector that comes from 0 by adding and subtracting such vectors
 pub data IsInLattice (g : Listing) : Vector → Type 0 where
@@ -32,7 +32,7 @@ pub data IsInLattice (g : Listing) : Vector → Type 0 where
 -- one matrix, and vectors that differ by a member of L
 pub record SameModulo (g : Listing) (m n : Motion) : Type 0 where
   pub matrix : m.matrix ≡ n.matrix
-  pub shift : IsInLattice g (minus m.shift n.shift)
+  pub translation : IsInLattice g (minus m.translation n.translation)
 
 -- the group G: the motions that are the same as a listed one modulo L
 pub record IsMember (g : Listing) (m : Motion) : Type 0 where

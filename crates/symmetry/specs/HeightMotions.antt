@@ -19,7 +19,7 @@ pub record HeightMotion : Type 0 where
 pub record MovesPlanes (r : Vector) (d : ℤ) (m : Motion) (h : HeightMotion) : Type 0 where
   pub row : row_times r m.matrix ≡ multiple h.sign r
   pub periods : ℤ
-  pub shift : dot r m.shift ≡ h.shift +ℤ periods *ℤ d
+  pub shift : dot r m.translation ≡ h.shift +ℤ periods *ℤ d
 
 -- with a whole number of periods it takes the plane of the one height to that of the other: e s + t + k d = s'
 abbrev pub TakesHeight : ℤ → Height → Height → HeightMotion → Type 0

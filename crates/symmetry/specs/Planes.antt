@@ -32,18 +32,18 @@ KeepsPlane r s g = MapsPlane r s s g
 
 -- (hkl) W = (hkl) and (hkl).w = 0
 abbrev pub KeepsRow : Vector → Motion → Type 0
-KeepsRow r g = (row_times r g.matrix ≡ r) × (dot r g.shift ≡ pos 0)
+KeepsRow r g = (row_times r g.matrix ≡ r) × (dot r g.translation ≡ pos 0)
 
 -- (hkl) W = -(hkl) and 2 p/q = (hkl).w, which is counted in parts
 abbrev pub TurnsRow : Vector → Height → Motion → Type 0
 TurnsRow r s g =
-    (row_times r g.matrix ≡ opposite r) × (pos 2 *ℤ s.num *ℤ UNIT ≡ s.den *ℤ dot r g.shift)
+    (row_times r g.matrix ≡ opposite r) × (pos 2 *ℤ s.num *ℤ UNIT ≡ s.den *ℤ dot r g.translation)
 
 -- (hkl) W = e (hkl) and e p/q + (hkl).w = p'/q'
 abbrev pub MovesRow : Vector → Height → Height → ℤ → Motion → Type 0
 MovesRow r s s' e g =
     (row_times r g.matrix ≡ multiple e r)
-    × ((e *ℤ s.num *ℤ UNIT +ℤ s.den *ℤ dot r g.shift) *ℤ s'.den ≡ s'.num *ℤ (UNIT *ℤ s.den))
+    × ((e *ℤ s.num *ℤ UNIT +ℤ s.den *ℤ dot r g.translation) *ℤ s'.den ≡ s'.num *ℤ (UNIT *ℤ s.den))
 
 -- the matrix has an inverse of whole entries
 pub record IsInvertible (w : Matrix) : Type 0 where

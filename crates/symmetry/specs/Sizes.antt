@@ -19,4 +19,4 @@ pub record IsMatrixWithin (bound : ℕ) (m : Matrix) : Type 0 where
 -- a small motion: matrix entries at most 500 in size, and translations at most 2^40 parts
 pub record IsSmall (m : Motion) : Type 0 where
   pub matrix : IsMatrixWithin 500 m.matrix
-  pub shift : IsVectorWithin (2 ^ 40) m.shift
+  pub translation : IsVectorWithin (2 ^ 40) m.translation

@@ -7,15 +7,18 @@ ghost use Rattle.symmetry.specs.Groups.{Generates, IsGroup, IsInLattice, IsListe
 /// The lattice has the vectors that it is made of, their sums, differences and opposites.
 pub fn lattice_is_group()
     ensures made { (g : Listing) (v : Vector) → Generates g v → IsInLattice g v }
-    ensures sums { (g : Listing) (s : Vector) (t : Vector) → IsInLattice g s → IsInLattice g t → IsInLattice g (plus s t) }
-    ensures differences { (g : Listing) (s : Vector) (t : Vector) → IsInLattice g s → IsInLattice g t → IsInLattice g (minus s t) }
+    ensures sums { (g : Listing) (s : Vector) (t : Vector) → IsInLattice g s → IsInLattice g t →
+        IsInLattice g (plus s t) }
+    ensures differences { (g : Listing) (s : Vector) (t : Vector) → IsInLattice g s →
+        IsInLattice g t → IsInLattice g (minus s t) }
     ensures opposites { (g : Listing) (t : Vector) → IsInLattice g t → IsInLattice g (opposite t) }
 {}
 
 /// To be the same modulo the lattice is an equivalence.
 pub fn sameness_is_equivalence()
     ensures reflexive { (g : Listing) (m : Motion) → SameModulo g m m }
-    ensures symmetric { (g : Listing) (m : Motion) (n : Motion) → SameModulo g m n → SameModulo g n m }
+    ensures symmetric { (g : Listing) (m : Motion) (n : Motion) → SameModulo g m n →
+        SameModulo g n m }
     ensures transitive { (g : Listing) (k : Motion) (m : Motion) (n : Motion) →
         SameModulo g k m → SameModulo g m n → SameModulo g k n }
 {}
@@ -28,7 +31,8 @@ pub fn group_by_listed()
 /// In a group the members with unit matrix are the translations by the lattice, and each member takes the lattice into
 /// itself.
 pub fn lattice_in_group()
-    ensures translations { (g : Listing) (t : Vector) → IsGroup g → IsMember g (translation t) ↔ IsInLattice g t }
-    ensures images { (g : Listing) (m : Motion) (t : Vector) → IsGroup g → IsMember g m → IsInLattice g t →
-        IsInLattice g (image m.matrix t) }
+    ensures translations { (g : Listing) (t : Vector) → IsGroup g →
+        IsMember g (translation t) ↔ IsInLattice g t }
+    ensures images { (g : Listing) (m : Motion) (t : Vector) → IsGroup g → IsMember g m →
+        IsInLattice g t → IsInLattice g (image m.matrix t) }
 {}

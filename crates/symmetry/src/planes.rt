@@ -9,21 +9,22 @@ ghost use Rattle.symmetry.specs.Frames.{IsSpecial};
 /// The plane theorem: a motion whose matrix has an inverse of whole entries takes every point of one plane to a point of
 /// another exactly where (hkl) W = e (hkl) and e p/q + (hkl).w = p'/q', with e = 1 or e = -1.
 pub fn image_by_row()
-    ensures { (r : Vector) (s : Height) (s' : Height) (g : Motion) → IsCoprime r → IsHeight s → IsHeight s' → IsInvertible g.matrix →
+    ensures { (r : Vector) (s : Height) (s' : Height) (g : Motion) → IsCoprime r → IsHeight s →
+        IsHeight s' → IsInvertible g.matrix →
         MapsPlane r s s' g ↔ (MovesRow r s s' (pos 1) g ⊎ MovesRow r s s' (negsuc 0) g) }
 {}
 
 /// It maps a plane to itself exactly where (hkl) W = (hkl) and (hkl).w = 0, or (hkl) W = -(hkl) and (hkl).w is twice the
 /// height.
 pub fn plane_by_row()
-    ensures { (r : Vector) (s : Height) (g : Motion) → IsCoprime r → IsHeight s → IsInvertible g.matrix →
-        KeepsPlane r s g ↔ (KeepsRow r g ⊎ TurnsRow r s g) }
+    ensures { (r : Vector) (s : Height) (g : Motion) → IsCoprime r → IsHeight s →
+        IsInvertible g.matrix → KeepsPlane r s g ↔ (KeepsRow r g ⊎ TurnsRow r s g) }
 {}
 
 /// So rows tell which members of a group map one plane to itself, and which map every plane of the orientation to itself.
 pub fn stabiliser_by_rows()
-    ensures each { (g : Listing) (r : Vector) (s : Height) (m : Motion) → IsGroup g → IsCoprime r → IsHeight s →
-        InStabiliser g r s m ↔ InRowStabiliser g r s m }
+    ensures each { (g : Listing) (r : Vector) (s : Height) (m : Motion) → IsGroup g → IsCoprime r →
+        IsHeight s → InStabiliser g r s m ↔ InRowStabiliser g r s m }
     ensures every { (g : Listing) (r : Vector) (m : Motion) → IsGroup g → IsCoprime r →
         FixesEveryPlane g r m ↔ FixesEveryPlaneByRow g r m }
 {}

@@ -21,7 +21,7 @@ use Rattle.triplets.specs.declared.triplet.Nth.{Nth}
 use Rattle.triplets.specs.declared.triplet.Nth.TheVariants.{First, Second, Third}
 use Rattle.triplets.specs.declared.triplet.TripletReader.{TripletReader}
 use Rattle.triplets.specs.Marks.{mark, IsMarkInRange}
-use Rattle.triplets.specs.Rows.{signed, with_entry, with_shift, IsRoomy}
+use Rattle.triplets.specs.Rows.{signed, with_entry, with_translation, IsRoomy}
 use Rattle.triplets.specs.Denominators.{unit, parts, further_digit}
 use Rattle.triplets.specs.PartReading.{begin, settled, part_step, on_blank, on_sign, on_digit, on_slash, on_new_letter_at, below_or, with_letter, IsSmall, IsSpotSmall}
 use Rattle.triplets.specs.TripletReading.{in_part, next_part, comma_at, step}
@@ -46,8 +46,8 @@ entry_room : (n : ℕ) (a : Axis) (v : ℤ) (r : rows.Row) → IsRowWithin n r �
 entry_room n X v r h = omega arith
 entry_room n a v r h = omega arith
 
-shift_room : (n : ℕ) (s : Sign) (v : ℕ) (r : rows.Row) → v < 1000 * unit → IsRowWithin n r → IsRowWithin (n + 1) (with_shift s v r)
-shift_room n s v r b h = let most = moved_size r.shift s v in omega arith
+shift_room : (n : ℕ) (s : Sign) (v : ℕ) (r : rows.Row) → v < 1000 * unit → IsRowWithin n r → IsRowWithin (n + 1) (with_translation s v r)
+shift_room n s v r b h = let most = moved_size r.translation s v in omega arith
 
 pub parts_small : (d v : ℕ) → v < 1000 → parts d * v < 1000 * unit
 parts_small d v h = lt_of_le_of_lt (mul-le-mul_right v (div-le_self unit d)) (omega arith)
@@ -157,8 +157,8 @@ roomy_size : (z : ℤ) → nat_abs z ≤ 2 ^ 50 → (neg_ℤ (pos (2 ^ 50)) ≤�
 roomy_size (pos m) h = (omega (arith, ints), omega (arith, ints))
 roomy_size (negsuc m) h = (omega (arith, ints), omega (arith, ints))
 
-roomy : (r : rows.Row) → nat_abs r.shift ≤ 2 ^ 50 → IsRoomy r
-roomy r h = let z = roomy_size r.shift h in record { above = z.0; below = z.1 }
+roomy : (r : rows.Row) → nat_abs r.translation ≤ 2 ^ 50 → IsRoomy r
+roomy r h = let z = roomy_size r.translation h in record { above = z.0; below = z.1 }
 
 pub small : (n : ℕ) (p : PartReader) → n ≤ 16777216 → IsPartWithin n p → IsSmall p
 small n p b h = record { row = roomy p.row (omega (arith, h.0)); spot = small_spot p.spot h.1 }

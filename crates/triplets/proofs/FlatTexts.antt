@@ -42,7 +42,7 @@ part_without : (w : Written Pairs) → IsWithout (part_row Pairs w)
 part_without w = term_without (lead_sign w.lead) w.last (lead_letters w.lead) (lead_row w.lead) w.new (lead_without w.lead w.good)
 
 operation_flat : (v w : Written Pairs) → IsFlat (motion_with (part_row Pairs v) (part_row Pairs w) axis_row)
-operation_flat v w = record { row_x = refl; row_y = refl; row_z = refl; column_x = part_without v; column_y = part_without w; shift = refl }
+operation_flat v w = record { row_x = refl; row_y = refl; row_z = refl; column_x = part_without v; column_y = part_without w; translation = refl }
 
 abbrev IsLevel : Vector → Type 0
 IsLevel v = v.z ≡ pos 0

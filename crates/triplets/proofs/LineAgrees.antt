@@ -182,7 +182,7 @@ vec_sign nt spot s v f b q g i h e = not_going _ q e
 
 pub vec_comma : (nt : Notation) → (o : Option PartReader) (n : Nth) (v : VectorReader) (f : LineSeen) (q : LinePlace) → v.nth ≡ n → LineAgrees (places.Coordinates v) f → coordinate_comma nt o v ≡ going q → LineAgrees q (line_seen_step f 44)
 vec_comma nt None n v f q i h e = not_going _ q e
-vec_comma nt (Some p) n v f q i h e = vec_next nt n v p.row.shift f q (h.0.commas ∙ ap index i) h.1 (ap (λ m. next_coordinate nt m v p.row.shift) (sym i) ∙ e)
+vec_comma nt (Some p) n v f q i h e = vec_next nt n v p.row.translation f q (h.0.commas ∙ ap index i) h.1 (ap (λ m. next_coordinate nt m v p.row.translation) (sym i) ∙ e)
   where
     vec_next : (nt : Notation) (n : Nth) (v : VectorReader) (x : ℤ) (f : LineSeen) (q : LinePlace) → f.commas ≡ index n → f.bracket ≡ 40 → next_coordinate nt n v x ≡ going q → LineAgrees q (line_seen_step f 44)
     vec_next nt First v x f q c h e = to_place _ q (line_seen_step f 44) e (known_comma f Second (omega (arith, c)), h, refl, refl, λ z. absurd cc)

@@ -46,7 +46,7 @@ bounded_next nt Third n v x q e = not_going _ q e
 
 bounded_comma : (nt : Notation) → (o : Option PartReader) (n : ℕ) (v : VectorReader) (q : LinePlace) → coordinate_comma nt o v ≡ going q → IsPlaceWithin n q
 bounded_comma nt None n v q e = not_going _ q e
-bounded_comma nt (Some p) n v q e = bounded_next nt v.nth n v p.row.shift q e
+bounded_comma nt (Some p) n v q e = bounded_next nt v.nth n v p.row.translation q e
 
 bounded_closed : (nt : Notation) → (m : Nth) (o : Option PartReader) (n : ℕ) (v : VectorReader) (q : LinePlace) → closed_at nt m o v ≡ going q → IsPlaceWithin n q
 bounded_closed nt First None n v q e = not_going _ q e

@@ -124,13 +124,13 @@ vec_sign_kind spot s v k w = stopped_is _ k w
 
 pub vec_comma_kind : (nt : Notation) → (o : Option PartReader) (n : Nth) (v : VectorReader) (f : LineSeen) (S : Axis → Bool) (k : TextKind) → settled v.part ≡ o → v.nth ≡ n → LineAgrees (places.Coordinates v) f → coordinate_comma nt o v ≡ stopped k → LineKindOf nt f S 44 k
 vec_comma_kind nt None n v f S k e i h w = subst (LineKindOf nt f S 44) (sym (stopped_is _ k w)) (early_kind nt f v.part v.nth S h.0 (settles_none v.part.spot v.part.row v.part.used v.part.sign e))
-vec_comma_kind nt (Some p) First v f S k e i h w = absurd (let z = ap (λ n. next_coordinate nt n v p.row.shift) (sym i) ∙ w in cc)
-vec_comma_kind Triplets (Some p) Second v f S k e i h w = absurd (let z = ap (λ n. next_coordinate Triplets n v p.row.shift) (sym i) ∙ w in cc)
+vec_comma_kind nt (Some p) First v f S k e i h w = absurd (let z = ap (λ n. next_coordinate nt n v p.row.translation) (sym i) ∙ w in cc)
+vec_comma_kind Triplets (Some p) Second v f S k e i h w = absurd (let z = ap (λ n. next_coordinate Triplets n v p.row.translation) (sym i) ∙ w in cc)
 vec_comma_kind Pairs (Some p) Second v f S k e i h w =
-    subst (LineKindOf Pairs f S 44) (sym (stopped_is _ k (ap (λ n. next_coordinate Pairs n v p.row.shift) (sym i) ∙ w)))
+    subst (LineKindOf Pairs f S 44) (sym (stopped_is _ k (ap (λ n. next_coordinate Pairs n v p.row.translation) (sym i) ∙ w)))
     (extra_kind Pairs f v.part Second S (subst (PartKnown f v.part) i h.0) (omega arith) (settles_some v.part.spot v.part.row v.part.used v.part.sign p e))
 vec_comma_kind nt (Some p) Third v f S k e i h w =
-    subst (LineKindOf nt f S 44) (sym (stopped_is _ k (ap (λ n. next_coordinate nt n v p.row.shift) (sym i) ∙ w)))
+    subst (LineKindOf nt f S 44) (sym (stopped_is _ k (ap (λ n. next_coordinate nt n v p.row.translation) (sym i) ∙ w)))
     (extra_kind nt f v.part Third S (subst (PartKnown f v.part) i h.0) (all_commas nt) (settles_some v.part.spot v.part.row v.part.used v.part.sign p e))
 
 -- a bracket where no coordinate is whole, and where too few are

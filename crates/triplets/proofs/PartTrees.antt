@@ -142,17 +142,17 @@ letter_step a (negsuc n) text row letters small free none terms =
     inr (next_term text _ row letters _ _ _ terms (letter_tree a (negsuc n) small (λ e. cc)) free)
 
 number_stands : (t : ℤ) (text : List ℕ) (row : Row) (letters : Used) → ¬ (t ≡ pos 0) → IsWithin 999 (lowest_terms t UNIT).num
-    → row.shift ≡ pos 0 → AreTerms text row letters → IsSome (text ++ number_term t) (record row { shift = t }) letters
+    → row.translation ≡ pos 0 → AreTerms text row letters → IsSome (text ++ number_term t) (record row { translation = t }) letters
 number_stands t text row letters shows short none terms =
-    restated _ (text ++ number_term t) (record row { shift = row.shift +ℤ t }) (record row { shift = t }) letters letters
-    refl (ap (λ v. record row { shift = v }) (ap (λ v. v +ℤ t) none ∙ zero_add t)) refl
+    restated _ (text ++ number_term t) (record row { translation = row.translation +ℤ t }) (record row { translation = t }) letters letters
+    refl (ap (λ v. record row { translation = v }) (ap (λ v. v +ℤ t) none ∙ zero_add t)) refl
     (next_term text (number_term t) row letters _ _ _ terms (number_tree t short shows) tt)
 
-number_step : (t : ℤ) (text : List ℕ) (row : Row) (letters : Used) → IsWithin 999 (lowest_terms t UNIT).num → row.shift ≡ pos 0
-    → AreTerms text row letters → AreTerms (text ++ number_term t) (record row { shift = t }) letters
+number_step : (t : ℤ) (text : List ℕ) (row : Row) (letters : Used) → IsWithin 999 (lowest_terms t UNIT).num → row.translation ≡ pos 0
+    → AreTerms text row letters → AreTerms (text ++ number_term t) (record row { translation = t }) letters
 unfolding AreTerms
 number_step (pos zero) text row letters short none terms =
-    same_terms text row (record row { shift = pos 0 }) letters (ap (λ v. record row { shift = v }) none) terms
+    same_terms text row (record row { translation = pos 0 }) letters (ap (λ v. record row { translation = v }) none) terms
 number_step (pos (suc n)) text row letters short none terms =
     inr (number_stands (pos (suc n)) text row letters (λ e. cc) short none terms)
 number_step (negsuc n) text row letters short none terms =
@@ -209,7 +209,7 @@ z_free c d u = z_free_of_x c u
 pub record WritesRow (r : Vector) (t : ℤ) : Type 0 where
   pub tree : Written Triplets
   pub text_is : row_text r t ≡ part_text Triplets tree
-  pub row_is : part_row Triplets tree ≡ record { x = r.x; y = r.y; z = r.z; shift = t }
+  pub row_is : part_row Triplets tree ≡ record { x = r.x; y = r.y; z = r.z; translation = t }
 
 no_terms : AreTerms [] zero_row unused
 unfolding AreTerms

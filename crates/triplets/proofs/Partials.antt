@@ -285,10 +285,10 @@ whole_part nt (behind w) p e = (w, refl, ap (λ (x : PartReader). x.row) (some_i
 pub record WholeCoordinate (nt : Notation) (q : Partial nt) (p : PartReader) : Type 0 where
   pub coordinate : Coordinate nt
   pub text : partial_text nt q ≡ coordinate_text nt coordinate
-  pub value : p.row.shift ≡ coordinate_value nt coordinate
+  pub value : p.row.translation ≡ coordinate_value nt coordinate
 
-shift_is : (p q : PartReader) → some_part p ≡ some_part q → q.row.shift ≡ p.row.shift
-shift_is p q e = ap (λ (x : PartReader). x.row.shift) (some_is p q e)
+shift_is : (p q : PartReader) → some_part p ≡ some_part q → q.row.translation ≡ p.row.translation
+shift_is p q e = ap (λ (x : PartReader). x.row.translation) (some_is p q e)
 
 pub whole_coordinate : (nt : Notation) → (q : Partial nt) (p : PartReader) → IsLike nt q → settled (partial_state nt q) ≡ some_part p → WholeCoordinate nt q p
 whole_coordinate nt (lead (bare bs) good) p h e = absurd cc

@@ -14,7 +14,7 @@ use Rattle.triplets.specs.declared.notation.Notation.TheVariants.{Triplets, Pair
 use Rattle.triplets.specs.declared.marks.Axis.{Axis}
 use Rattle.triplets.specs.declared.marks.Axis.TheVariants.{X, Y, Z}
 use Rattle.triplets.specs.declared.part.Row.{Row}
-use Rattle.triplets.specs.Rows.{signed, with_entry, with_shift, zero_row, matrix_row, motion_with}
+use Rattle.triplets.specs.Rows.{signed, with_entry, with_translation, zero_row, matrix_row, motion_with}
 use Rattle.triplets.specs.Denominators.{unit, parts as parts_over}
 use Rattle.triplets.specs.Grammar.{Digit, digit_value, Numerator, decimal, numerator_value, Term, letter, multiple, whole, fraction, term_text, with_term, Lead, bare, sign, more, lead_text, lead_row, lead_sign, sign_byte, blanks_text, Written, ThirdPart, part_text, part_row, third_text, third_row, IsOperation}
 use Rattle.triplets.specs.Lines.{coordinate_text, third_coordinate_text, third_coordinate_value, ThirdCoordinate, Centring, centring_text, centring_value, Centrings, one, further, centrings_text, centrings_value, Form, empty, operation, row, form_text, form_value, label_text, comment_text, IsLine}
@@ -42,25 +42,25 @@ record IsRowSmall (n : ℕ) (r : Row) : Type 0 where
   x : nat_abs r.x ≤ 9
   y : nat_abs r.y ≤ 9
   z : nat_abs r.z ≤ 9
-  shift : nat_abs r.shift ≤ 1000 * unit * n
+  translation : nat_abs r.translation ≤ 1000 * unit * n
 
 zero_small : (n : ℕ) → IsRowSmall n zero_row
-zero_small n = record { x = omega arith; y = omega arith; z = omega arith; shift = omega arith }
+zero_small n = record { x = omega arith; y = omega arith; z = omega arith; translation = omega arith }
 
 more_bytes : (m n : ℕ) (r : Row) → m ≤ n → IsRowSmall m r → IsRowSmall n r
-more_bytes m n r h i = record { x = i.x; y = i.y; z = i.z; shift = omega (arith, i.shift) }
+more_bytes m n r h i = record { x = i.x; y = i.y; z = i.z; translation = omega (arith, i.translation) }
 
 signed_size : (s : Sign) (v : ℕ) → nat_abs (signed s v) ≤ v
 signed_size Plus v = omega arith
 signed_size Minus v = omega (arith, ints)
 
 entry_small : (a : Axis) (v : ℤ) (n : ℕ) (r : Row) → nat_abs v ≤ 9 → IsRowSmall n r → IsRowSmall n (with_entry a v r)
-entry_small X v n r h i = record { x = h; y = i.y; z = i.z; shift = i.shift }
-entry_small Y v n r h i = record { x = i.x; y = h; z = i.z; shift = i.shift }
-entry_small Z v n r h i = record { x = i.x; y = i.y; z = h; shift = i.shift }
+entry_small X v n r h i = record { x = h; y = i.y; z = i.z; translation = i.translation }
+entry_small Y v n r h i = record { x = i.x; y = h; z = i.z; translation = i.translation }
+entry_small Z v n r h i = record { x = i.x; y = i.y; z = h; translation = i.translation }
 
-shift_small : (s : Sign) (v n : ℕ) (r : Row) → v < 1000 * unit → IsRowSmall n r → IsRowSmall (n + 1) (with_shift s v r)
-shift_small s v n r h i = let m = moved_size r.shift s v in record { x = i.x; y = i.y; z = i.z; shift = omega (arith, i.shift) }
+shift_small : (s : Sign) (v n : ℕ) (r : Row) → v < 1000 * unit → IsRowSmall n r → IsRowSmall (n + 1) (with_translation s v r)
+shift_small s v n r h i = let m = moved_size r.translation s v in record { x = i.x; y = i.y; z = i.z; translation = omega (arith, i.translation) }
 
 term_small : (t : Term) (s : Sign) (n : ℕ) (r : Row) → IsRowSmall n r → IsRowSmall (n + length (term_text t)) (with_term s t r)
 term_small (letter a c) s n r h = more_bytes n _ _ (omega arith) (entry_small a (signed s 1) n r (omega (arith, signed_size s 1)) h)
@@ -93,14 +93,14 @@ row_within : (n : ℕ) (q r s : Row) → n ≤ 16777216 → IsRowSmall n q → I
 row_within n q r s h a b c = record {
   small = record {
     matrix = record { first = row_size 500 (omega arith) n q a; second = row_size 500 (omega arith) n r b; third = row_size 500 (omega arith) n s c };
-    shift = record { x = record { most = omega (arith, a.shift) }; y = record { most = omega (arith, b.shift) }; z = record { most = omega (arith, c.shift) } };
+    translation = record { x = record { most = omega (arith, a.translation) }; y = record { most = omega (arith, b.translation) }; z = record { most = omega (arith, c.translation) } };
   };
   matrix = record { first = row_size 9 (omega arith) n q a; second = row_size 9 (omega arith) n r b; third = row_size 9 (omega arith) n s c };
 }
 
 third_small : (nt : Notation) (x : ThirdPart nt) (n : ℕ) → length (third_text nt x) ≤ n → IsRowSmall n (third_row nt x)
 third_small Triplets x n h = part_small Triplets x n (omega arith)
-third_small Pairs x n h = record { x = omega arith; y = omega arith; z = omega arith; shift = omega arith }
+third_small Pairs x n h = record { x = omega arith; y = omega arith; z = omega arith; translation = omega arith }
 
 parts_within : (nt : Notation) → (v w : Written nt) (x : ThirdPart nt) (n : ℕ) → n ≤ 16777216 → length (part_text nt v ++ (44 ∷ (part_text nt w ++ third_text nt x))) ≤ n → IsSmallWithin 9 (motion_with (part_row nt v) (part_row nt w) (third_row nt x))
 parts_within nt v w x n h i =
@@ -115,7 +115,7 @@ triplet_small nt bytes m h t =
 -- ---- a line
 
 third_coordinate_small : (nt : Notation) (c : ThirdCoordinate nt) (n : ℕ) → n ≤ 16777216 → length (third_coordinate_text nt c) ≤ n → IsWithin (2 ^ 40) (third_coordinate_value nt c)
-third_coordinate_small Triplets c n h i = record { most = let s = (part_small Triplets c.part n (omega arith)).shift in omega arith }
+third_coordinate_small Triplets c n h i = record { most = let s = (part_small Triplets c.part n (omega arith)).translation in omega arith }
 third_coordinate_small Pairs c n h i = record { most = omega arith }
 
 centring_small : (nt : Notation) → (v : Centring nt) (n : ℕ) → n ≤ 16777216 → length (centring_text nt v) ≤ n → IsVectorWithin (2 ^ 40) (centring_value nt v)
@@ -129,8 +129,8 @@ centring_small nt v n h i =
     let c = length-append (coordinate_text nt v.two) tail3 in
     let d = length-append (third_coordinate_text nt v.three) (41 ∷ tail5) in
     record {
-      x = record { most = let s = (part_small nt v.one.part n (omega arith)).shift in omega arith };
-      y = record { most = let s = (part_small nt v.two.part n (omega arith)).shift in omega arith };
+      x = record { most = let s = (part_small nt v.one.part n (omega arith)).translation in omega arith };
+      y = record { most = let s = (part_small nt v.two.part n (omega arith)).translation in omega arith };
       z = third_coordinate_small nt v.three n h (omega arith);
     }
 

@@ -20,7 +20,7 @@ use Rattle.motions.specs.declared.motion.Sign.TheVariants.{Plus, Minus}
 use Rattle.triplets.specs.declared.part.Row.{Row}
 use Rattle.triplets.specs.declared.part.Used.{Used}
 use Rattle.triplets.specs.Bytes.{slash}
-use Rattle.triplets.specs.Rows.{signed, with_entry, with_shift, uses, with_used}
+use Rattle.triplets.specs.Rows.{signed, with_entry, with_translation, uses, with_used}
 use Rattle.triplets.specs.Denominators.{unit, parts}
 use Rattle.triplets.specs.Grammar.{sign_byte, letter_byte, numerator_text, numerator_value, Term, letter, multiple, whole, fraction, term_text, with_term, with_letters, IsNew}
 use Rattle.triplets.specs.Writing.{letter_term, number_term}
@@ -100,7 +100,7 @@ below_one d h = ap (λ (b : Bool). cond b (slash ∷ decimal_text d) []) (le-ltb
 record IsOver (n g : ℕ) : Type 0 where
   term : Term
   text : term_text term ≡ decimal_text (n / g) ++ below_text (pos (unit / g))
-  row_is : (s : Sign) (r : Row) → with_term s term r ≡ with_shift s n r
+  row_is : (s : Sign) (r : Row) → with_term s term r ≡ with_translation s n r
   letters_are : (u : Used) → with_letters term u ≡ u
   new : (u : Used) → IsNew Triplets term u
 
@@ -115,7 +115,7 @@ over_tree n g above in_n in_unit short =
       | inl more ↦ record {
         term = fraction w.by (record { number = d; divides = divides });
         text = λ i. w.text i ++ sym (below_more d more) i;
-        row_is = λ s r. ap (λ k. with_shift s k r) all;
+        row_is = λ s r. ap (λ k. with_translation s k r) all;
         letters_are = λ u. refl;
         new = λ u. tt;
       }
@@ -124,7 +124,7 @@ over_tree n g above in_n in_unit short =
           record {
             term = whole w.by;
             text = sym (append-nil (numerator_text w.by)) ∙ (λ i. w.text i ++ sym (below_one d most) i);
-            row_is = λ s r. ap (λ k. with_shift s k r) (ap (λ k. parts k * numerator_value w.by) one ∙ all);
+            row_is = λ s r. ap (λ k. with_translation s k r) (ap (λ k. parts k * numerator_value w.by) one ∙ all);
             letters_are = λ u. refl;
             new = λ u. tt;
           }
@@ -139,7 +139,7 @@ signed_decimal-neg zero h = absurd (omega arith)
 signed_decimal-neg (suc k) h = refl
 
 abbrev pub IsNumber : ℤ → Type 0
-IsNumber t = IsTerm (number_term t) (λ r. record r { shift = r.shift +ℤ t }) (λ u. u) (λ u. Unit {0})
+IsNumber t = IsTerm (number_term t) (λ r. record r { translation = r.translation +ℤ t }) (λ u. u) (λ u. Unit {0})
 
 pub number_tree : (t : ℤ) → IsWithin 999 (lowest_terms t UNIT).num → ¬ (t ≡ pos 0) → IsNumber t
 unfolding lowest_terms signed_gcd

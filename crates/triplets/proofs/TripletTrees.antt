@@ -16,9 +16,9 @@ joined a b c = simp append_assoc
 
 IsTriplet-triplet_text : (m : Motion) → IsWritable m → IsTriplet (triplet_text m) m
 IsTriplet-triplet_text m h =
-    let one = row_tree m.matrix.first m.shift.x h.matrix.first h.x in
-    let two = row_tree m.matrix.second m.shift.y h.matrix.second h.y in
-    let three = row_tree m.matrix.third m.shift.z h.matrix.third h.z in
+    let one = row_tree m.matrix.first m.translation.x h.matrix.first h.x in
+    let two = row_tree m.matrix.second m.translation.y h.matrix.second h.y in
+    let three = row_tree m.matrix.third m.translation.z h.matrix.third h.z in
     record {
       one = one.tree;
       two = two.tree;

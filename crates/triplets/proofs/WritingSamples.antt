@@ -15,14 +15,14 @@ row x y z = record { x = x; y = y; z = z }
 abbrev motion : Vector → Vector → Vector → Vector → Motion
 motion first second third shift = record {
   matrix = record { first = first; second = second; third = third };
-  shift = shift;
+  translation = shift;
 }
 
 -- this fraction of a cell edge, in parts
 abbrev edges : ℤ → ℤ → ℤ
 edges num den = int_div (num *ℤ UNIT) den
 
-identity : triplet_text (record { matrix = unit_matrix; shift = origin }) ≡ codes "x,y,z"
+identity : triplet_text (record { matrix = unit_matrix; translation = origin }) ≡ codes "x,y,z"
 unfolding digits gcd_in gcd signed_gcd lowest_terms
 identity = refl
 
@@ -67,10 +67,10 @@ a_number_alone : row_text (row (pos 0) (pos 0) (pos 0)) (edges (pos 5) (pos 3)) 
 unfolding digits gcd_in gcd signed_gcd lowest_terms
 a_number_alone = refl
 
-frieze_glide : frieze_text (record { along = Plus; across = Minus; shift = edges (pos 1) (pos 2) }) ≡ codes "x+1/2,-y"
+frieze_glide : frieze_text (record { along = Plus; across = Minus; translation = edges (pos 1) (pos 2) }) ≡ codes "x+1/2,-y"
 unfolding digits gcd_in gcd signed_gcd lowest_terms
 frieze_glide = refl
 
-half_turn : frieze_text (record { along = Minus; across = Minus; shift = pos 0 }) ≡ codes "-x,-y"
+half_turn : frieze_text (record { along = Minus; across = Minus; translation = pos 0 }) ≡ codes "-x,-y"
 unfolding digits gcd_in gcd signed_gcd lowest_terms
 half_turn = refl

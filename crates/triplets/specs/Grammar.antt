@@ -11,7 +11,7 @@ use Rattle.triplets.specs.declared.part.Row.{Row}
 use Rattle.triplets.specs.declared.part.Used.{Used}
 use Rattle.symmetry.specs.Motions.{Motion}
 use Rattle.triplets.specs.Marks.{has_axis}
-use Rattle.triplets.specs.Rows.{zero_row, axis_row, unused, with_entry, with_shift, signed, uses, with_used, motion_with}
+use Rattle.triplets.specs.Rows.{zero_row, axis_row, unused, with_entry, with_translation, signed, uses, with_used, motion_with}
 use Rattle.triplets.specs.Denominators.{unit, parts, Denominator, denominator_text}
 
 -- a byte that may stand between the words
@@ -95,8 +95,8 @@ term_text (fraction n d) = numerator_text n ++ slash ∷ denominator_text d
 abbrev pub with_term : Sign → Term → Row → Row
 with_term s (letter a c) r = with_entry a (signed s 1) r
 with_term s (multiple d _ a c) r = with_entry a (signed s (digit_value d)) r
-with_term s (whole n) r = with_shift s (unit * numerator_value n) r
-with_term s (fraction n d) r = with_shift s (parts d.number * numerator_value n) r
+with_term s (whole n) r = with_translation s (unit * numerator_value n) r
+with_term s (fraction n d) r = with_translation s (parts d.number * numerator_value n) r
 
 -- the letters that stand there, with those of the term
 abbrev pub with_letters : Term → Used → Used

@@ -53,7 +53,7 @@ next_coordinate notation Third v x = Err kinds.ExtraPart
 -- a comma in a vector
 abbrev pub coordinate_comma : Notation → Option PartReader → VectorReader → Result LinePlace TextKind
 coordinate_comma notation None v = Err (early_comma v.part.spot)
-coordinate_comma notation (Some p) v = next_coordinate notation v.nth v p.row.shift
+coordinate_comma notation (Some p) v = next_coordinate notation v.nth v p.row.translation
 
 -- the digits of a numerator are being read
 abbrev pub is_digits : Spot → Bool
@@ -65,8 +65,8 @@ abbrev pub closed_at : Notation → Nth → Option PartReader → VectorReader �
 closed_at notation _ None v = Err kinds.UnknownSign
 closed_at notation First (Some p) v = Err kinds.MissingPart
 closed_at Triplets Second (Some p) v = Err kinds.MissingPart
-closed_at Pairs Second (Some p) v = Ok (places.Closed (parts_with v.first p.row.shift (pos 0)))
-closed_at Triplets Third (Some p) v = Ok (places.Closed (parts_with v.first v.second p.row.shift))
+closed_at Pairs Second (Some p) v = Ok (places.Closed (parts_with v.first p.row.translation (pos 0)))
+closed_at Triplets Third (Some p) v = Ok (places.Closed (parts_with v.first v.second p.row.translation))
 closed_at Pairs Third (Some p) v = Err kinds.MissingPart
 
 -- a closing bracket: of a label, or of a vector

@@ -33,7 +33,7 @@ coordinate_text notation c = part_text notation c.part
 
 -- how many parts it is
 abbrev pub coordinate_value : (notation : Notation) → Coordinate notation → ℤ
-coordinate_value notation c = (part_row notation c.part).shift
+coordinate_value notation c = (part_row notation c.part).translation
 
 -- what the third coordinate is: the vectors of triplets have one, those of pairs have none
 abbrev pub ThirdCoordinate : Notation → Type 0

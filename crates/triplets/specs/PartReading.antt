@@ -10,7 +10,7 @@ use Rattle.triplets.specs.declared.fault.TextKind.TheVariants as kinds
 use Rattle.triplets.specs.declared.part.PartReader.{PartReader}
 use Rattle.triplets.specs.declared.part.Spot.{Spot}
 use Rattle.triplets.specs.declared.part.Spot.TheVariants.{Begin, Signed, Digits, Divided, Below, Behind}
-use Rattle.triplets.specs.Rows.{zero_row, unused, with_entry, with_shift, signed, uses, with_used, IsRoomy}
+use Rattle.triplets.specs.Rows.{zero_row, unused, with_entry, with_translation, signed, uses, with_used, IsRoomy}
 use Rattle.triplets.specs.Denominators.{unit, parts, further_digit}
 
 -- before the first byte of a part
@@ -23,7 +23,7 @@ with_spot s p = record p { spot = s }
 
 -- a number was read
 abbrev pub with_number : ℕ → PartReader → PartReader
-with_number n p = record p { row = with_shift p.sign n p.row; spot = Behind }
+with_number n p = record p { row = with_translation p.sign n p.row; spot = Behind }
 
 -- a letter with its coefficient was read
 abbrev pub with_letter : Axis → ℕ → PartReader → PartReader

@@ -12,7 +12,7 @@ use Rattle.triplets.specs.Denominators.{unit}
 
 -- each byte moves by less than a thousand cell edges
 abbrev pub IsRowWithin : ℕ → Row → Type 0
-IsRowWithin n r = nat_abs r.shift ≤ 1000 * unit * n
+IsRowWithin n r = nat_abs r.translation ≤ 1000 * unit * n
 
 -- a numerator has one to three digits, and a denominator is at most the parts of a cell edge
 abbrev pub IsSpotWithin : Spot → Type 0

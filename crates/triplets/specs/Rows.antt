@@ -22,11 +22,11 @@ parts_with x y z = record { 0 = x } ∷ record { 0 = y } ∷ record { 0 = z } �
 
 -- nothing was read yet
 abbrev pub zero_row : Row
-zero_row = record { x = pos 0; y = pos 0; z = pos 0; shift = pos 0 }
+zero_row = record { x = pos 0; y = pos 0; z = pos 0; translation = pos 0 }
 
 -- the third coordinate as it is
 abbrev pub axis_row : Row
-axis_row = record { x = pos 0; y = pos 0; z = pos 1; shift = pos 0 }
+axis_row = record { x = pos 0; y = pos 0; z = pos 1; translation = pos 0 }
 
 -- the entry of a letter
 abbrev pub with_entry : Axis → ℤ → Row → Row
@@ -35,8 +35,8 @@ with_entry Y v r = record r { y = v }
 with_entry Z v r = record r { z = v }
 
 -- one more number
-abbrev pub with_shift : Sign → ℕ → Row → Row
-with_shift s n r = record r { shift = r.shift +ℤ signed s n }
+abbrev pub with_translation : Sign → ℕ → Row → Row
+with_translation s n r = record r { translation = r.translation +ℤ signed s n }
 
 -- no letter stands in the part
 abbrev pub unused : Used
@@ -62,17 +62,17 @@ matrix_row r = record { x = r.x; y = r.y; z = r.z }
 abbrev pub motion_with : Row → Row → Row → Motion
 motion_with q r s = record {
   matrix = record { first = matrix_row q; second = matrix_row r; third = matrix_row s };
-  shift = record { x = q.shift; y = r.shift; z = s.shift };
+  translation = record { x = q.translation; y = r.translation; z = s.translation };
 }
 
 -- the same as arrays
 abbrev pub motion3_with : Row → Row → Row → Motion3
 motion3_with q r s = record {
   w = (q.x ∷ q.y ∷ q.z ∷ []) ∷ (r.x ∷ r.y ∷ r.z ∷ []) ∷ (s.x ∷ s.y ∷ s.z ∷ []) ∷ [];
-  t = parts_with q.shift r.shift s.shift;
+  t = parts_with q.translation r.translation s.translation;
 }
 
 -- one more number can be added
 pub record IsRoomy (r : Row) : Type 0 where
-  pub above : neg_ℤ (pos (2 ^ 50)) ≤ℤ r.shift
-  pub below : r.shift ≤ℤ pos (2 ^ 50)
+  pub above : neg_ℤ (pos (2 ^ 50)) ≤ℤ r.translation
+  pub below : r.translation ≤ℤ pos (2 ^ 50)

@@ -10,9 +10,9 @@ use Rattle.triplets.specs.Grammar.{IsTriplet}
 -- matrix entries at most 9 in size, and translations with a numerator of at most 999 in size in lowest terms
 pub record IsWritable (m : Motion) : Type 0 where
   pub matrix : IsMatrixWithin 9 m.matrix
-  pub x : IsWithin 999 (lowest_terms m.shift.x UNIT).num
-  pub y : IsWithin 999 (lowest_terms m.shift.y UNIT).num
-  pub z : IsWithin 999 (lowest_terms m.shift.z UNIT).num
+  pub x : IsWithin 999 (lowest_terms m.translation.x UNIT).num
+  pub y : IsWithin 999 (lowest_terms m.translation.y UNIT).num
+  pub z : IsWithin 999 (lowest_terms m.translation.z UNIT).num
 
 -- the bytes are a triplet with this value, and with no other value
 pub record IsTripletOf (bytes : List ℕ) (m : Motion) : Type 0 where

@@ -60,9 +60,9 @@ row_text r t = or_zero (without_leading_plus (terms_text r t))
 -- the three rows, joined by commas
 abbrev pub triplet_text : Motion → List ℕ
 triplet_text m =
-    row_text m.matrix.first m.shift.x ++ codes "," ++
-    row_text m.matrix.second m.shift.y ++ codes "," ++
-    row_text m.matrix.third m.shift.z
+    row_text m.matrix.first m.translation.x ++ codes "," ++
+    row_text m.matrix.second m.translation.y ++ codes "," ++
+    row_text m.matrix.third m.translation.z
 
 -- a row of two, as one without z
 abbrev pub pair_row_text : Pair → ℤ → List ℕ
@@ -70,12 +70,12 @@ pair_row_text r t = row_text (record { x = r.x; y = r.y; z = pos 0 }) t
 
 -- the two rows of a motion of the plane, joined by a comma
 abbrev pub pair_text : PlaneMotion → List ℕ
-pair_text m = pair_row_text m.matrix.first m.shift.x ++ codes "," ++ pair_row_text m.matrix.second m.shift.y
+pair_text m = pair_row_text m.matrix.first m.translation.x ++ codes "," ++ pair_row_text m.matrix.second m.translation.y
 
 -- the two rows of a frieze motion, along the axis x and across it, joined by a comma
 abbrev pub frieze_text : FriezeOperation → List ℕ
 frieze_text m =
-    row_text (record { x = sign_value m.along; y = pos 0; z = pos 0 }) m.shift ++ codes "," ++
+    row_text (record { x = sign_value m.along; y = pos 0; z = pos 0 }) m.translation ++ codes "," ++
     row_text (record { x = pos 0; y = sign_value m.across; z = pos 0 }) (pos 0)
 
 -- a term as it stands in its part, the first or a further one

@@ -57,7 +57,7 @@ impl fmt::Display for Term {
 /// A number of parts, the first term that shows of its part or a further one.
 #[derive(Clone, Copy)]
 pub struct Number {
-    pub shift: Part,
+    pub translation: Part,
     pub first: bool,
 }
 
@@ -65,10 +65,10 @@ impl fmt::Display for Number {
     ghost use Rattle.std.specs.Prelude.{Some};
     ghost use Rattle.triplets.specs.Writing.{number_term, placed};
 
-    ghost output = { λ t. Some (placed t.first (number_term t.shift.0)) };
+    ghost output = { λ t. Some (placed t.first (number_term t.translation.0)) };
 
     fn fmt<W: fmt::Write>(&self, f: &mut fmt::Formatter<W>) -> fmt::Result {
-        let shift = self.shift;
+        let shift = self.translation;
         if shift.0 == 0 {
             return Ok(());
         }
@@ -86,13 +86,14 @@ pub struct Row {
     pub x: i64,
     pub y: i64,
     pub z: i64,
-    pub shift: Part,
+    pub translation: Part,
 }
 
 impl Row {
     /// The row of an array.
-    pub fn of(row: &[i64; 3], shift: Part) -> Row
-        ensures { row_text (record { x = result.x; y = result.y; z = result.z }) result.shift.0
+    pub fn of(row: &[i64; 3], translation: Part) -> Row
+        ensures { row_text
+            (record { x = result.x; y = result.y; z = result.z }) result.translation.0
             ≡ row_text (vector_of row.now) shift.0 }
     {
         Row {
@@ -104,8 +105,9 @@ impl Row {
     }
 
     /// The row of an array of two, without z.
-    pub fn of_pair(row: &[i64; 2], shift: Part) -> Row
-        ensures { row_text (record { x = result.x; y = result.y; z = result.z }) result.shift.0
+    pub fn of_pair(row: &[i64; 2], translation: Part) -> Row
+        ensures { row_text
+            (record { x = result.x; y = result.y; z = result.z }) result.translation.0
             ≡ pair_row_text (pair_of row.now) shift.0 }
     {
         Row {
@@ -121,7 +123,7 @@ impl fmt::Display for Row {
     ghost use Rattle.std.specs.Prelude.{Some};
     ghost use Rattle.triplets.specs.Writing.{row_text};
 
-    ghost output = { λ r. Some (row_text (record { x = r.x; y = r.y; z = r.z }) r.shift.0) };
+    ghost output = { λ r. Some (row_text (record { x = r.x; y = r.y; z = r.z }) r.translation.0) };
 
     fn fmt<W: fmt::Write>(&self, f: &mut fmt::Formatter<W>) -> fmt::Result {
         let Row { x, y, z, shift } = *self;

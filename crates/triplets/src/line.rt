@@ -88,7 +88,7 @@ impl VectorReader {
         ensures { result ≡ coordinate_comma notation (settled self.part) self }
     {
         match self.part.settled() {
-            Some(whole) => self.next(notation, whole.row.shift),
+            Some(whole) => self.next(notation, whole.row.translation),
             None if self.part.spot == Spot::Begin => Err(TextKind::Empty),
             None => Err(TextKind::UnknownSign),
         }
@@ -104,11 +104,15 @@ impl VectorReader {
         match (notation, self.nth, self.part.settled()) {
             (_, _, None) => Err(TextKind::UnknownSign),
             (Notation::Triplets, Nth::Third, Some(whole)) => {
-                let vector = [Part(self.first), Part(self.second), Part(whole.row.shift)];
+                let vector = [
+                    Part(self.first),
+                    Part(self.second),
+                    Part(whole.row.translation),
+                ];
                 Ok(LinePlace::Closed(vector))
             }
             (Notation::Pairs, Nth::Second, Some(whole)) => {
-                let vector = [Part(self.first), Part(whole.row.shift), Part(0)];
+                let vector = [Part(self.first), Part(whole.row.translation), Part(0)];
                 Ok(LinePlace::Closed(vector))
             }
             (_, _, Some(_)) => Err(TextKind::MissingPart),

@@ -13,7 +13,7 @@ pub struct Row {
     pub x: i64,
     pub y: i64,
     pub z: i64,
-    pub shift: i64,
+    pub translation: i64,
 }
 
 /// The letters that stand in a part.
@@ -85,7 +85,7 @@ fn signed_number(sign: Sign, number: u32) -> i64
 }
 
 impl Row {
-    ghost use Rattle.triplets.specs.Rows.{with_entry, with_shift, IsRoomy};
+    ghost use Rattle.triplets.specs.Rows.{with_entry, with_translation, IsRoomy};
 
     fn with_entry(self, axis: Axis, entry: i64) -> Self
         ensures { result ≡ with_entry axis entry self }
@@ -99,10 +99,10 @@ impl Row {
 
     fn moved(self, sign: Sign, number: u32) -> Self
         requires { IsRoomy self }
-        ensures { result ≡ with_shift sign number self }
+        ensures { result ≡ with_translation sign number self }
     {
         Row {
-            shift: self.shift + signed_number(sign, number),
+            shift: self.translation + signed_number(sign, number),
             ..self
         }
     }

@@ -26,7 +26,8 @@ pub struct LineReader {
     ghost few: { fed ≤ 65536 },
     ghost line_within: { line ≤ fed + 1 },
     ghost column_within: { column ≤ fed + 1 },
-    ghost place_within: { IsTextPlaceWithin column place } by { IsTextPlaceWithin-prop column place },
+    ghost place_within: { IsTextPlaceWithin column place } by { IsTextPlaceWithin-prop column
+        place },
 }
 
 impl LineReader {

@@ -56,7 +56,11 @@ fn motion_with(first: Row, second: Row, third: Row) -> Motion3
 {
     Motion3 {
         w: [first.entries(), second.entries(), third.entries()],
-        t: [Part(first.shift), Part(second.shift), Part(third.shift)],
+        t: [
+            Part(first.translation),
+            Part(second.translation),
+            Part(third.translation),
+        ],
     }
 }
 

@@ -21,8 +21,8 @@ abbrev pub modulo : Lattice → Kind
 modulo lattice = kind_of motion_of followed_by identity (IsLatticeShift lattice)
 
 -- a translation after a motion
-pub followed_by-translation : (m : Motion) (v : Vector) → followed_by m (translation v) ≡ record { matrix = m.matrix; shift = plus m.shift v }
-followed_by-translation m v = motion_path (product-unit_left m.matrix) (ap (λ u. plus u v) (image-unit m.shift))
+pub followed_by-translation : (m : Motion) (v : Vector) → followed_by m (translation v) ≡ record { matrix = m.matrix; translation = plus m.translation v }
+followed_by-translation m v = motion_path (product-unit_left m.matrix) (ap (λ u. plus u v) (image-unit m.translation))
 
 -- the code's form of a translation
 abbrev pub translation_by : Vector → Motion3
@@ -47,16 +47,16 @@ module _ (lattice : Lattice) where
 
   -- the translation by a vector of the lattice is a shift
   pub shift_from : (v : Vector) → InLattice lattice v → (modulo lattice).IsShift (translation v)
-  shift_from v h = (translation_by v, record { matrix = refl; shift = h }, refl)
+  shift_from v h = (translation_by v, record { matrix = refl; translation = h }, refl)
 
   -- a shift is the translation by a vector of the lattice
-  pub to_shift : (m : Motion) → (modulo lattice).IsShift m → (m ≡ translation m.shift) × InLattice lattice m.shift
-  to_shift m (s, shift, is) = (motion_path (ap (λ (k : Motion). k.matrix) (sym is) ∙ shift.matrix) refl, subst (λ (k : Motion). InLattice lattice k.shift) is shift.shift)
+  pub to_shift : (m : Motion) → (modulo lattice).IsShift m → (m ≡ translation m.translation) × InLattice lattice m.translation
+  to_shift m (s, shift, is) = (motion_path (ap (λ (k : Motion). k.matrix) (sym is) ∙ shift.matrix) refl, subst (λ (k : Motion). InLattice lattice k.translation) is shift.translation)
 
   pub by_meaning_lem : (a b : Motion3) → motion_of a ≡ motion_of b → IsLatticeShift lattice a → IsLatticeShift lattice b
   by_meaning_lem a b e s = record {
     matrix = ap (λ (k : Motion). k.matrix) (sym e) ∙ s.matrix;
-    shift = subst (λ (k : Motion). InLattice lattice k.shift) e s.shift;
+    translation = subst (λ (k : Motion). InLattice lattice k.translation) e s.translation;
   }
 
   abbrev In : Vector → Type 0
@@ -77,18 +77,18 @@ module _ (lattice : Lattice) where
   shift_product s t p q =
       let a = to_shift s p in
       let b = to_shift t q in
-      subst (modulo lattice).IsShift (sym (translations s.shift t.shift) ∙ sym (λ i. followed_by (a.0 i) (b.0 i)))
-      (shift_from (plus s.shift t.shift) (from_in (plus s.shift t.shift) (lattice.group.sums s.shift t.shift (to_in s.shift a.1) (to_in t.shift b.1))))
+      subst (modulo lattice).IsShift (sym (translations s.translation t.translation) ∙ sym (λ i. followed_by (a.0 i) (b.0 i)))
+      (shift_from (plus s.translation t.translation) (from_in (plus s.translation t.translation) (lattice.group.sums s.translation t.translation (to_in s.translation a.1) (to_in t.translation b.1))))
 
   shift_inverse : (s : Motion) → (modulo lattice).IsShift s → (t : Motion) × (modulo lattice).IsShift t × IsInverse (modulo lattice) s t
   shift_inverse s p =
       let a = to_shift s p in
-      let back = opposite s.shift in (
+      let back = opposite s.translation in (
         translation back,
-        shift_from back (from_in back (lattice.group.opposites s.shift (to_in s.shift a.1))),
+        shift_from back (from_in back (lattice.group.opposites s.translation (to_in s.translation a.1))),
         record {
-          after = ap (λ k. followed_by k (translation back)) a.0 ∙ translations s.shift back ∙ ap translation (minus-same s.shift);
-          before = ap (followed_by (translation back)) a.0 ∙ translations back s.shift ∙ ap translation (opposite-plus_same s.shift);
+          after = ap (λ k. followed_by k (translation back)) a.0 ∙ translations s.translation back ∙ ap translation (minus-same s.translation);
+          before = ap (followed_by (translation back)) a.0 ∙ translations back s.translation ∙ ap translation (opposite-plus_same s.translation);
         },
       )
 
@@ -101,22 +101,22 @@ module _ (lattice : Lattice) where
 
   -- ---- sameness
 
-  pub same_is : (m n : Motion) → IsSame (modulo lattice) m n ↔ ((m.matrix ≡ n.matrix) × InLattice lattice (minus m.shift n.shift))
+  pub same_is : (m n : Motion) → IsSame (modulo lattice) m n ↔ ((m.matrix ≡ n.matrix) × InLattice lattice (minus m.translation n.translation))
   same_is m n = (to, from)
     where
-      to : IsSame (modulo lattice) m n → (m.matrix ≡ n.matrix) × InLattice lattice (minus m.shift n.shift)
+      to : IsSame (modulo lattice) m n → (m.matrix ≡ n.matrix) × InLattice lattice (minus m.translation n.translation)
       to s =
           let a = to_shift s.shift s.is_shift in
-          let e : m ≡ record { matrix = n.matrix; shift = plus n.shift s.shift.shift } = s.is ∙ ap (followed_by n) a.0 ∙ followed_by-translation n s.shift.shift in (
+          let e : m ≡ record { matrix = n.matrix; translation = plus n.translation s.shift.translation } = s.is ∙ ap (followed_by n) a.0 ∙ followed_by-translation n s.shift.translation in (
             ap (λ (k : Motion). k.matrix) e,
-            subst (InLattice lattice) (sym (ap (λ (k : Motion). minus k.shift n.shift) e ∙ plus-minus_first n.shift s.shift.shift)) a.1,
+            subst (InLattice lattice) (sym (ap (λ (k : Motion). minus k.translation n.translation) e ∙ plus-minus_first n.translation s.shift.translation)) a.1,
           )
 
-      from : (m.matrix ≡ n.matrix) × InLattice lattice (minus m.shift n.shift) → IsSame (modulo lattice) m n
+      from : (m.matrix ≡ n.matrix) × InLattice lattice (minus m.translation n.translation) → IsSame (modulo lattice) m n
       from (e, h) = record {
-        shift = translation (minus m.shift n.shift);
-        is_shift = shift_from (minus m.shift n.shift) h;
-        is = motion_path e (sym (minus-plus m.shift n.shift) ∙ plus_comm (minus m.shift n.shift) n.shift) ∙ sym (followed_by-translation n (minus m.shift n.shift));
+        shift = translation (minus m.translation n.translation);
+        is_shift = shift_from (minus m.translation n.translation) h;
+        is = motion_path e (sym (minus-plus m.translation n.translation) ∙ plus_comm (minus m.translation n.translation) n.translation) ∙ sym (followed_by-translation n (minus m.translation n.translation));
       }
 
   -- ---- home
@@ -148,13 +148,13 @@ module _ (lattice : Lattice) where
           (subst (λ u. In (minus u w)) (sym f) (first-in rs lattice.group residues-reduced w)))
 
       from : motion_of (lattice_home lattice m) ≡ motion_of (lattice_home lattice n) → IsSame (modulo lattice) (motion_of m) (motion_of n)
-      from e = (same_is (motion_of m) (motion_of n)).1 (ap (λ (k : Motion). k.matrix) e, from_in (minus (parts m.t) (parts n.t)) (apart (parts m.t) (parts n.t) (ap (λ (k : Motion). k.shift) e)))
+      from e = (same_is (motion_of m) (motion_of n)).1 (ap (λ (k : Motion). k.matrix) e, from_in (minus (parts m.t) (parts n.t)) (apart (parts m.t) (parts n.t) (ap (λ (k : Motion). k.translation) e)))
 
   -- ---- which motions carry shifts into shifts
 
   -- first a translation and then m
   translation-followed_by : (m : Motion) (v : Vector)
-      → followed_by (translation v) m ≡ record { matrix = m.matrix; shift = plus (image m.matrix v) m.shift }
+      → followed_by (translation v) m ≡ record { matrix = m.matrix; translation = plus (image m.matrix v) m.translation }
   translation-followed_by m v = motion_path (product-unit_right m.matrix) refl
 
   pub keeps_vectors : (m : Motion) → Keeps (modulo lattice) m ↔ ((v : Vector) → InLattice lattice v → InLattice lattice (image m.matrix v))
@@ -164,17 +164,17 @@ module _ (lattice : Lattice) where
       to k v is =
           let t = k (translation v) (shift_from v is) in
           let a = to_shift t.0 t.1 in
-          let e = sym (translation-followed_by m v) ∙ t.2 ∙ ap (followed_by m) a.0 ∙ followed_by-translation m t.0.shift in
-          subst (InLattice lattice) (sym (taken_off (image m.matrix v) m.shift t.0.shift (ap (λ (k : Motion). k.shift) e))) a.1
+          let e = sym (translation-followed_by m v) ∙ t.2 ∙ ap (followed_by m) a.0 ∙ followed_by-translation m t.0.translation in
+          subst (InLattice lattice) (sym (taken_off (image m.matrix v) m.translation t.0.translation (ap (λ (k : Motion). k.translation) e))) a.1
 
       from : ((v : Vector) → InLattice lattice v → InLattice lattice (image m.matrix v)) → Keeps (modulo lattice) m
       from all t is =
           let a = to_shift t is in
-          let w = image m.matrix t.shift in (
+          let w = image m.matrix t.translation in (
             translation w,
-            shift_from w (all t.shift a.1),
-            ap (λ k. followed_by k m) a.0 ∙ translation-followed_by m t.shift
-                ∙ motion_path refl (plus_comm w m.shift) ∙ sym (followed_by-translation m w),
+            shift_from w (all t.translation a.1),
+            ap (λ k. followed_by k m) a.0 ∙ translation-followed_by m t.translation
+                ∙ motion_path refl (plus_comm w m.translation) ∙ sym (followed_by-translation m w),
           )
 
   -- it is enough that the residues go into the lattice

@@ -70,23 +70,23 @@ pub record ByEdges (m n : FriezeOperation) : Type 0 where
   pub along : m.along ≡ n.along
   pub across : m.across ≡ n.across
   pub times : ℤ
-  pub shift : m.shift ≡ n.shift +ℤ times *ℤ edge
+  pub translation : m.translation ≡ n.translation +ℤ times *ℤ edge
 
 pub same_to : (m n : FriezeOperation) → IsSame line_kind m n → ByEdges m n
 same_to m n s =
     let (k, a) = edges_of s.shift s.is_shift in
     let is : m ≡ frieze_followed_by n (frieze_translation (k *ℤ edge)) = s.is ∙ ap (frieze_followed_by n) a in
-    let shift = ap (λ (o : FriezeOperation). o.shift) is in
+    let shift = ap (λ (o : FriezeOperation). o.translation) is in
     record {
       along = ap (λ (o : FriezeOperation). o.along) is;
       across = ap (λ (o : FriezeOperation). o.across) is;
       times = k;
-      shift = omega (arith, ints);
+      translation = omega (arith, ints);
     }
 
 pub same_from : (m n : FriezeOperation) → ByEdges m n → IsSame line_kind m n
 same_from m n h =
-    let shift = h.shift in
+    let shift = h.translation in
     record {
       shift = frieze_translation (h.times *ℤ edge);
       is_shift = edges h.times;
@@ -97,20 +97,20 @@ pub home_is_same_lem : (m : LineOp) → IsSame line_kind (line_of (line_home m))
 home_is_same_lem m =
     let d = divided m.t in
     let is = d.is in
-    same_from (line_of (line_home m)) (line_of m) (record { along = refl; across = refl; times = neg_ℤ d.edges; shift = omega (arith, ints) })
+    same_from (line_of (line_home m)) (line_of m) (record { along = refl; across = refl; times = neg_ℤ d.edges; translation = omega (arith, ints) })
 
 pub homes_lem : (m n : LineOp) → IsSame line_kind (line_of m) (line_of n) ↔ (line_of (line_home m) ≡ line_of (line_home n))
 homes_lem m n = (
   λ s.
       let h = same_to (line_of m) (line_of n) s in
       let d = divided n.t in
-      let far = h.shift in
+      let far = h.translation in
       let is = d.is in
       frieze_path h.along h.across (one_rest m.t (d.edges +ℤ h.times) (int_rem_euclid n.t edge) (omega (arith, ints)) d.least d.below),
   λ e.
       let c = divided m.t in
       let d = divided n.t in
-      let rest : int_rem_euclid m.t edge ≡ int_rem_euclid n.t edge = ap (λ (o : FriezeOperation). o.shift) e in
+      let rest : int_rem_euclid m.t edge ≡ int_rem_euclid n.t edge = ap (λ (o : FriezeOperation). o.translation) e in
       let first = c.is in
       let second = d.is in
       same_from (line_of m) (line_of n)
@@ -118,7 +118,7 @@ homes_lem m n = (
         along = ap (λ (o : FriezeOperation). o.along) e;
         across = ap (λ (o : FriezeOperation). o.across) e;
         times = c.edges -ℤ d.edges;
-        shift = omega (arith, ints);
+        translation = omega (arith, ints);
       }),
 )
 
@@ -128,7 +128,7 @@ pub keeps : (m : FriezeOperation) → Keeps line_kind m
 keeps m t is_shift =
     let (k, a) = edges_of t is_shift in
     let e = sign_value m.along in
-    let turned : e *ℤ (k *ℤ edge) +ℤ m.shift ≡ pos 1 *ℤ m.shift +ℤ e *ℤ k *ℤ edge = omega (arith, ints, mul_assoc e k edge) in (
+    let turned : e *ℤ (k *ℤ edge) +ℤ m.translation ≡ pos 1 *ℤ m.translation +ℤ e *ℤ k *ℤ edge = omega (arith, ints, mul_assoc e k edge) in (
       frieze_translation (e *ℤ k *ℤ edge),
       edges (e *ℤ k),
       ap (λ s. frieze_followed_by s m) a ∙ frieze_path (sign_product-plus m.along) (sign_product-plus m.across) turned,
@@ -140,14 +140,14 @@ pub shift_by_home : (m : LineOp) → (line_of (line_home m) ≡ frieze_identity)
 shift_by_home m = (
   λ e.
       let d = divided m.t in
-      let rest : int_rem_euclid m.t edge ≡ pos 0 = ap (λ (o : FriezeOperation). o.shift) e in
+      let rest : int_rem_euclid m.t edge ≡ pos 0 = ap (λ (o : FriezeOperation). o.translation) e in
       let is = d.is in
       record {
         times = d.edges;
         is = frieze_path (ap (λ (o : FriezeOperation). o.along) e) (ap (λ (o : FriezeOperation). o.across) e) (omega (arith, ints));
       },
   λ h.
-      let shift = ap (λ (o : FriezeOperation). o.shift) h.is in
+      let shift = ap (λ (o : FriezeOperation). o.translation) h.is in
       frieze_path (ap (λ (o : FriezeOperation). o.along) h.is) (ap (λ (o : FriezeOperation). o.across) h.is)
       (one_rest m.t h.times (pos 0) (omega (arith, ints)) (omega (arith, ints)) (omega (arith, ints))),
 )

@@ -10,7 +10,7 @@ pub frieze_line_laws : LineLaws frieze_line
 frieze_line_laws = record {
   monoid = frieze_laws;
   origin = refl;
-  after = λ m t. frieze_path refl refl (ap (λ s. s +ℤ t) (one_mul m.shift));
+  after = λ m t. frieze_path refl refl (ap (λ s. s +ℤ t) (one_mul m.translation));
   before = λ m t. frieze_path (sign_product-plus m.along) (sign_product-plus m.across) refl;
   shift_of = λ m t. refl;
   once = λ m s t. refl;

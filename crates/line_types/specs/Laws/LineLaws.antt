@@ -14,17 +14,17 @@ use Rattle.line_types.specs.Lines.{Line, IsLatticeTranslation, modulo_lattice, a
 -- what holds of a kind of operations along a line
 pub record LineLaws (L : Line) : Type 0 where
   pub monoid : IsMonoid L.then L.one
-  pub origin : L.of (L.translation (pos 0)) ≡ L.one
-  pub after : (m : L.Operation) (t : ℤ) → L.then m (L.of (L.translation t)) ≡ L.with_shift m (L.shift m +ℤ t)
-  pub before : (m : L.Operation) (t : ℤ) → L.then (L.of (L.translation t)) m ≡ L.with_shift m (sign_value (L.along m) *ℤ t +ℤ L.shift m)
-  pub shift_of : (m : L.Operation) (t : ℤ) → L.shift (L.with_shift m t) ≡ t
-  pub once : (m : L.Operation) (s t : ℤ) → L.with_shift (L.with_shift m s) t ≡ L.with_shift m t
-  pub kept : (m : L.Operation) → L.with_shift m (L.shift m) ≡ m
-  pub translations : (s t : ℤ) → L.with_shift (L.of (L.translation s)) t ≡ L.of (L.translation t)
-  pub translated : (t : ℤ) → L.shift (L.of (L.translation t)) ≡ t
-  pub entries : (m : L.Operation) (t : ℤ) → L.entries (L.with_shift m t) ≡ L.entries m
+  pub origin : L.of (L.translation_by (pos 0)) ≡ L.one
+  pub after : (m : L.Operation) (t : ℤ) → L.then m (L.of (L.translation_by t)) ≡ L.with_translation m (L.translation m +ℤ t)
+  pub before : (m : L.Operation) (t : ℤ) → L.then (L.of (L.translation_by t)) m ≡ L.with_translation m (sign_value (L.along m) *ℤ t +ℤ L.translation m)
+  pub shift_of : (m : L.Operation) (t : ℤ) → L.translation (L.with_translation m t) ≡ t
+  pub once : (m : L.Operation) (s t : ℤ) → L.with_translation (L.with_translation m s) t ≡ L.with_translation m t
+  pub kept : (m : L.Operation) → L.with_translation m (L.translation m) ≡ m
+  pub translations : (s t : ℤ) → L.with_translation (L.of (L.translation_by s)) t ≡ L.of (L.translation_by t)
+  pub translated : (t : ℤ) → L.translation (L.of (L.translation_by t)) ≡ t
+  pub entries : (m : L.Operation) (t : ℤ) → L.entries (L.with_translation m t) ≡ L.entries m
   pub same : (m n : L.Operation) → IsTrue (L.same m n) ↔ (m ≡ n)
-  pub small : (m : L.Operation) → All (IsWithin 1) (L.entries m) → IsWithin (2 ^ 40) (L.shift m) → L.IsSmall m
+  pub small : (m : L.Operation) → All (IsWithin 1) (L.entries m) → IsWithin (2 ^ 40) (L.translation m) → L.IsSmall m
 
 -- ---- numbers of parts modulo the cell edge
 
@@ -55,18 +55,18 @@ module _ (L : Line) (laws : LineLaws L) where
   K = modulo_lattice L
 
   abbrev by : ℤ → L.Operation
-  by t = L.of (L.translation t)
+  by t = L.of (L.translation_by t)
 
   -- ---- the lattice is a group
 
   edges : (k : ℤ) → K.IsShift (by (k *ℤ UNIT))
-  edges k = (L.translation (k *ℤ UNIT), record { times = k; is = refl }, refl)
+  edges k = (L.translation_by (k *ℤ UNIT), record { times = k; is = refl }, refl)
 
   edges_of : (s : L.Operation) → K.IsShift s → (k : ℤ) × (s ≡ by (k *ℤ UNIT))
   edges_of s (m, h, e) = (h.times, sym e ∙ h.is)
 
   by-by : (s t : ℤ) → L.then (by s) (by t) ≡ by (s +ℤ t)
-  by-by s t = laws.after (by s) t ∙ laws.translations s (L.shift (by s) +ℤ t) ∙ ap (λ r. by (r +ℤ t)) (laws.translated s)
+  by-by s t = laws.after (by s) t ∙ laws.translations s (L.translation (by s) +ℤ t) ∙ ap (λ r. by (r +ℤ t)) (laws.translated s)
 
   product : (s t : L.Operation) → K.IsShift s → K.IsShift t → K.IsShift (L.then s t)
   product s t p q =
@@ -97,36 +97,36 @@ module _ (L : Line) (laws : LineLaws L) where
   -- ---- sameness
 
   -- the same operation, but for so many edges
-  same_from : (m : L.Operation) (t k : ℤ) → t ≡ L.shift m +ℤ k *ℤ UNIT → IsSame K (L.with_shift m t) m
-  same_from m t k e = record { shift = by (k *ℤ UNIT); is_shift = edges k; is = ap (L.with_shift m) e ∙ sym (laws.after m (k *ℤ UNIT)) }
+  same_from : (m : L.Operation) (t k : ℤ) → t ≡ L.translation m +ℤ k *ℤ UNIT → IsSame K (L.with_translation m t) m
+  same_from m t k e = record { shift = by (k *ℤ UNIT); is_shift = edges k; is = ap (L.with_translation m) e ∙ sym (laws.after m (k *ℤ UNIT)) }
 
-  same_to : (m n : L.Operation) → IsSame K m n → (k : ℤ) × (m ≡ L.with_shift n (L.shift n +ℤ k *ℤ UNIT))
+  same_to : (m n : L.Operation) → IsSame K m n → (k : ℤ) × (m ≡ L.with_translation n (L.translation n +ℤ k *ℤ UNIT))
   same_to m n s =
       let (k, a) = edges_of s.shift s.is_shift in
       (k, s.is ∙ ap (L.then n) a ∙ laws.after n (k *ℤ UNIT))
 
   pub home_is_same : (m : L.Operation) → IsSame K (at_home L m) m
   home_is_same m =
-      let h = reduced (L.shift m) in
-      let e : reduced_parts (L.shift m) ≡ L.shift m +ℤ neg_ℤ h.edges *ℤ UNIT = let p = h.is in omega (arith, ints) in
-      same_from m (reduced_parts (L.shift m)) (neg_ℤ h.edges) e
+      let h = reduced (L.translation m) in
+      let e : reduced_parts (L.translation m) ≡ L.translation m +ℤ neg_ℤ h.edges *ℤ UNIT = let p = h.is in omega (arith, ints) in
+      same_from m (reduced_parts (L.translation m)) (neg_ℤ h.edges) e
 
   home_of_same : (m n : L.Operation) → IsSame K m n → at_home L m ≡ at_home L n
   home_of_same m n s =
       let (k, e) = same_to m n s in
-      let t = L.shift n +ℤ k *ℤ UNIT in
+      let t = L.translation n +ℤ k *ℤ UNIT in
       ap (at_home L) e
-      ∙ laws.once n t (reduced_parts (L.shift (L.with_shift n t)))
-      ∙ ap (λ r. L.with_shift n (reduced_parts r)) (laws.shift_of n t)
-      ∙ ap (L.with_shift n) (reduced-edges (L.shift n) k)
+      ∙ laws.once n t (reduced_parts (L.translation (L.with_translation n t)))
+      ∙ ap (λ r. L.with_translation n (reduced_parts r)) (laws.shift_of n t)
+      ∙ ap (L.with_translation n) (reduced-edges (L.translation n) k)
 
   same_of_home : (m n : L.Operation) → at_home L m ≡ at_home L n → IsSame K m n
   same_of_home m n e =
-      let rests = sym (laws.shift_of m (reduced_parts (L.shift m))) ∙ ap L.shift e ∙ laws.shift_of n (reduced_parts (L.shift n)) in
-      let (k, apart) = edges_between (L.shift m) (L.shift n) rests in
-      let is : L.with_shift n (L.shift m) ≡ m =
-      sym (laws.once n (reduced_parts (L.shift n)) (L.shift m)) ∙ sym (ap (λ h. L.with_shift h (L.shift m)) e) ∙ laws.once m (reduced_parts (L.shift m)) (L.shift m) ∙ laws.kept m in
-      subst (λ h. IsSame K h n) is (same_from n (L.shift m) k apart)
+      let rests = sym (laws.shift_of m (reduced_parts (L.translation m))) ∙ ap L.translation e ∙ laws.shift_of n (reduced_parts (L.translation n)) in
+      let (k, apart) = edges_between (L.translation m) (L.translation n) rests in
+      let is : L.with_translation n (L.translation m) ≡ m =
+      sym (laws.once n (reduced_parts (L.translation n)) (L.translation m)) ∙ sym (ap (λ h. L.with_translation h (L.translation m)) e) ∙ laws.once m (reduced_parts (L.translation m)) (L.translation m) ∙ laws.kept m in
+      subst (λ h. IsSame K h n) is (same_from n (L.translation m) k apart)
 
   pub homes : (m n : L.Operation) → IsSame K m n ↔ (at_home L m ≡ at_home L n)
   homes m n = (home_of_same m n, same_of_home m n)
@@ -135,7 +135,7 @@ module _ (L : Line) (laws : LineLaws L) where
   pub entries_of_same : (m n : L.Operation) → IsSame K m n → L.entries m ≡ L.entries n
   entries_of_same m n s =
       let (k, e) = same_to m n s in
-      ap L.entries e ∙ laws.entries n (L.shift n +ℤ k *ℤ UNIT)
+      ap L.entries e ∙ laws.entries n (L.translation n +ℤ k *ℤ UNIT)
 
   -- ---- each operation carries the lattice into itself
 
@@ -143,31 +143,31 @@ module _ (L : Line) (laws : LineLaws L) where
   keeps m t is_shift =
       let (k, a) = edges_of t is_shift in
       let e = sign_value (L.along m) in
-      let turned : e *ℤ (k *ℤ UNIT) +ℤ L.shift m ≡ L.shift m +ℤ e *ℤ k *ℤ UNIT = omega (arith, ints, mul_assoc e k UNIT) in (
+      let turned : e *ℤ (k *ℤ UNIT) +ℤ L.translation m ≡ L.translation m +ℤ e *ℤ k *ℤ UNIT = omega (arith, ints, mul_assoc e k UNIT) in (
         by (e *ℤ k *ℤ UNIT),
         edges (e *ℤ k),
-        ap (λ s. L.then s m) a ∙ laws.before m (k *ℤ UNIT) ∙ ap (L.with_shift m) turned ∙ sym (laws.after m (e *ℤ k *ℤ UNIT)),
+        ap (λ s. L.then s m) a ∙ laws.before m (k *ℤ UNIT) ∙ ap (L.with_translation m) turned ∙ sym (laws.after m (e *ℤ k *ℤ UNIT)),
       )
 
   -- ---- the values that are lattice translations
 
   at_home-by : (t : ℤ) → at_home L (by t) ≡ by (reduced_parts t)
-  at_home-by t = laws.translations t (reduced_parts (L.shift (by t))) ∙ ap (λ s. by (reduced_parts s)) (laws.translated t)
+  at_home-by t = laws.translations t (reduced_parts (L.translation (by t))) ∙ ap (λ s. by (reduced_parts s)) (laws.translated t)
 
   home_of_edges : (k : ℤ) → at_home L (by (k *ℤ UNIT)) ≡ L.one
   home_of_edges k = at_home-by (k *ℤ UNIT) ∙ ap (λ t. by (reduced_parts t)) (sym (zero_add (k *ℤ UNIT))) ∙ ap by (reduced-edges (pos 0) k) ∙ laws.origin
 
   edges_from_home : (m : L.Operation) → at_home L m ≡ L.one → (k : ℤ) × (m ≡ by (k *ℤ UNIT))
   edges_from_home m e =
-      let rest : reduced_parts (L.shift m) ≡ pos 0 =
-      sym (laws.shift_of m (reduced_parts (L.shift m))) ∙ ap L.shift (e ∙ sym laws.origin) ∙ laws.translated (pos 0) in
-      let h = reduced (L.shift m) in
-      let whole : L.shift m ≡ h.edges *ℤ UNIT = let p = h.is in omega (arith, ints) in (
+      let rest : reduced_parts (L.translation m) ≡ pos 0 =
+      sym (laws.shift_of m (reduced_parts (L.translation m))) ∙ ap L.translation (e ∙ sym laws.origin) ∙ laws.translated (pos 0) in
+      let h = reduced (L.translation m) in
+      let whole : L.translation m ≡ h.edges *ℤ UNIT = let p = h.is in omega (arith, ints) in (
         h.edges,
         sym (laws.kept m)
-            ∙ sym (laws.once m (reduced_parts (L.shift m)) (L.shift m))
-            ∙ ap (λ n. L.with_shift n (L.shift m)) (e ∙ sym laws.origin)
-            ∙ laws.translations (pos 0) (L.shift m)
+            ∙ sym (laws.once m (reduced_parts (L.translation m)) (L.translation m))
+            ∙ ap (λ n. L.with_translation n (L.translation m)) (e ∙ sym laws.origin)
+            ∙ laws.translations (pos 0) (L.translation m)
             ∙ ap by whole,
       )
 

@@ -11,8 +11,8 @@ use Rattle.motions.specs.Laws.SignLaws.{same_sign-is, sign_product_assoc, sign_p
 use Rattle.motions.specs.Laws.LineLaws.{along_assoc, along_from_zero}
 use Rattle.motions.specs.FriezeMotions.{FriezeOperation, frieze_followed_by, frieze_identity, same_frieze}
 
-pub frieze_path : {m n : FriezeOperation} → m.along ≡ n.along → m.across ≡ n.across → m.shift ≡ n.shift → m ≡ n
-frieze_path p q s = λ i. record { along = p i; across = q i; shift = s i }
+pub frieze_path : {m n : FriezeOperation} → m.along ≡ n.along → m.across ≡ n.across → m.translation ≡ n.translation → m ≡ n
+frieze_path p q s = λ i. record { along = p i; across = q i; translation = s i }
 
 -- ---- equality
 
@@ -20,15 +20,15 @@ pub same_frieze-is : (m n : FriezeOperation) → IsTrue (same_frieze m n) ↔ (m
 same_frieze-is m n =
     let along = same_sign m.along n.along in
     let across = same_sign m.across n.across in
-    let shift = int_eq m.shift n.shift in (
+    let shift = int_eq m.translation n.translation in (
       λ t.
           let signs = first_so (along && across) shift t in
           frieze_path ((same_sign-is m.along n.along).0 (first_so along across signs)) ((same_sign-is m.across n.across).0 (second_so along across signs))
-          ((Decides-int_eq m.shift n.shift).0 (second_so (along && across) shift t)),
+          ((Decides-int_eq m.translation n.translation).0 (second_so (along && across) shift t)),
       λ e.
           both_true (both_true ((same_sign-is m.along n.along).1 (ap (λ (k : FriezeOperation). k.along) e))
           ((same_sign-is m.across n.across).1 (ap (λ (k : FriezeOperation). k.across) e)))
-          ((Decides-int_eq m.shift n.shift).1 (ap (λ (k : FriezeOperation). k.shift) e)),
+          ((Decides-int_eq m.translation n.translation).1 (ap (λ (k : FriezeOperation). k.translation) e)),
     )
 
 pub same_frieze_laws : IsEquivalence same_frieze
@@ -45,7 +45,7 @@ pub frieze_laws : IsMonoid frieze_followed_by frieze_identity
 frieze_laws = record {
   assoc = λ a b c.
       frieze_path (sym (sign_product_assoc c.along b.along a.along)) (sym (sign_product_assoc c.across b.across a.across))
-      (along_assoc b.along c.along a.shift b.shift c.shift);
-  one_left = λ a. frieze_path (sign_product-plus a.along) (sign_product-plus a.across) (along_from_zero a.along a.shift);
-  one_right = λ a. frieze_path refl refl (add_zero (pos 1 *ℤ a.shift) ∙ one_mul a.shift);
+      (along_assoc b.along c.along a.translation b.translation c.translation);
+  one_left = λ a. frieze_path (sign_product-plus a.along) (sign_product-plus a.across) (along_from_zero a.along a.translation);
+  one_right = λ a. frieze_path refl refl (add_zero (pos 1 *ℤ a.translation) ∙ one_mul a.translation);
 }

@@ -13,26 +13,26 @@ use Rattle.motions.specs.PlaneSizes.{IsPairWithin}
 use Rattle.motions.specs.Layers.{IsPlanarSmall, PlanarMotion, planar_followed_by, planar_identity, planar_translation, same_planar}
 
 -- two motions are equal when their parts are
-pub planar_path : {m n : PlanarMotion} → m.matrix ≡ n.matrix → m.side ≡ n.side → m.shift ≡ n.shift → m ≡ n
-planar_path p q r = λ i. record { matrix = p i; side = q i; shift = r i }
+pub planar_path : {m n : PlanarMotion} → m.matrix ≡ n.matrix → m.side ≡ n.side → m.translation ≡ n.translation → m ≡ n
+planar_path p q r = λ i. record { matrix = p i; side = q i; translation = r i }
 
 -- ---- equality
 
 pub same_planar-is : (m n : PlanarMotion) → IsTrue (same_planar m n) ↔ (m ≡ n)
-same_planar-is m n = (from, λ e. to (ap (λ (a : PlanarMotion). a.matrix) e) (ap (λ (a : PlanarMotion). a.side) e) (ap (λ (a : PlanarMotion). a.shift) e))
+same_planar-is m n = (from, λ e. to (ap (λ (a : PlanarMotion). a.matrix) e) (ap (λ (a : PlanarMotion). a.side) e) (ap (λ (a : PlanarMotion). a.translation) e))
   where
     from : IsTrue (same_planar m n) → m ≡ n
     from t =
         let matrix = same_matrix2 m.matrix n.matrix in
         let side = same_sign m.side n.side in
-        let shift = same_pair m.shift n.shift in
+        let shift = same_pair m.translation n.translation in
         let two = first_so (matrix && side) shift t in
         planar_path ((same_matrix2-is m.matrix n.matrix).0 (first_so matrix side two)) ((same_sign-is m.side n.side).0 (second_so matrix side two))
-        ((same_pair-is m.shift n.shift).0 (second_so (matrix && side) shift t))
+        ((same_pair-is m.translation n.translation).0 (second_so (matrix && side) shift t))
 
-    to : m.matrix ≡ n.matrix → m.side ≡ n.side → m.shift ≡ n.shift → IsTrue (same_planar m n)
+    to : m.matrix ≡ n.matrix → m.side ≡ n.side → m.translation ≡ n.translation → IsTrue (same_planar m n)
     to p q r =
-        both_true (both_true ((same_matrix2-is m.matrix n.matrix).1 p) ((same_sign-is m.side n.side).1 q)) ((same_pair-is m.shift n.shift).1 r)
+        both_true (both_true ((same_matrix2-is m.matrix n.matrix).1 p) ((same_sign-is m.side n.side).1 q)) ((same_pair-is m.translation n.translation).1 r)
 
 pub same_planar_laws : IsEquivalence same_planar
 same_planar_laws = record {
@@ -51,26 +51,26 @@ same_planar_laws = record {
 planar_assoc : (k m n : PlanarMotion) → planar_followed_by (planar_followed_by k m) n ≡ planar_followed_by k (planar_followed_by m n)
 planar_assoc k m n =
     planar_path (sym (product2_assoc n.matrix m.matrix k.matrix)) (sym (sign_product_assoc n.side m.side k.side))
-    (ap (λ v. plus2 v n.shift) (image2-plus n.matrix (image2 m.matrix k.shift) m.shift)
-    ∙ plus2_assoc (image2 n.matrix (image2 m.matrix k.shift)) (image2 n.matrix m.shift) n.shift
-    ∙ ap (λ v. plus2 v (plus2 (image2 n.matrix m.shift) n.shift)) (sym (image2-product n.matrix m.matrix k.shift)))
+    (ap (λ v. plus2 v n.translation) (image2-plus n.matrix (image2 m.matrix k.translation) m.translation)
+    ∙ plus2_assoc (image2 n.matrix (image2 m.matrix k.translation)) (image2 n.matrix m.translation) n.translation
+    ∙ ap (λ v. plus2 v (plus2 (image2 n.matrix m.translation) n.translation)) (sym (image2-product n.matrix m.matrix k.translation)))
 
 -- the product with a translation on either side
 pub followed_by-planar_translation : (m : PlanarMotion) (v : Pair)
-    → planar_followed_by m (planar_translation v) ≡ record { matrix = m.matrix; side = m.side; shift = plus2 m.shift v }
-followed_by-planar_translation m v = planar_path (product2-unit_left m.matrix) refl (ap (λ u. plus2 u v) (image2-unit m.shift))
+    → planar_followed_by m (planar_translation v) ≡ record { matrix = m.matrix; side = m.side; translation = plus2 m.translation v }
+followed_by-planar_translation m v = planar_path (product2-unit_left m.matrix) refl (ap (λ u. plus2 u v) (image2-unit m.translation))
 
 pub planar_translation-followed_by : (m : PlanarMotion) (v : Pair)
-    → planar_followed_by (planar_translation v) m ≡ record { matrix = m.matrix; side = m.side; shift = plus2 (image2 m.matrix v) m.shift }
+    → planar_followed_by (planar_translation v) m ≡ record { matrix = m.matrix; side = m.side; translation = plus2 (image2 m.matrix v) m.translation }
 planar_translation-followed_by m v = planar_path (product2-unit_right m.matrix) (sign_product-plus m.side) refl
 
 followed_by-identity : (m : PlanarMotion) → planar_followed_by m planar_identity ≡ m
-followed_by-identity m = followed_by-planar_translation m origin2 ∙ planar_path refl refl (plus2-origin m.shift)
+followed_by-identity m = followed_by-planar_translation m origin2 ∙ planar_path refl refl (plus2-origin m.translation)
 
 identity-followed_by : (m : PlanarMotion) → planar_followed_by planar_identity m ≡ m
 identity-followed_by m =
     planar_translation-followed_by m origin2
-    ∙ planar_path refl refl (ap (λ u. plus2 u m.shift) (image2-origin m.matrix) ∙ origin-plus2 m.shift)
+    ∙ planar_path refl refl (ap (λ u. plus2 u m.translation) (image2-origin m.matrix) ∙ origin-plus2 m.translation)
 
 pub planar_followed_by_laws : IsMonoid planar_followed_by planar_identity
 planar_followed_by_laws = record { assoc = planar_assoc; one_left = identity-followed_by; one_right = followed_by-identity }
@@ -80,15 +80,15 @@ planar_followed_by_laws = record { assoc = planar_assoc; one_left = identity-fol
 pub IsPairWithin-more : {m n : ℕ} {v : Pair} → IsPairWithin m v → m ≤ n → IsPairWithin n v
 IsPairWithin-more h le = record { x = IsWithin-more h.x le; y = IsWithin-more h.y le }
 
-pub planar_identity_within : IsPairWithin 0 planar_identity.shift
+pub planar_identity_within : IsPairWithin 0 planar_identity.translation
 planar_identity_within = record { x = record { most = lit≤ tt }; y = record { most = lit≤ tt } }
 
 dot2_within : {m n : ℕ} {r v : Pair} → IsPairWithin m r → IsPairWithin n v → IsWithin (m * n + m * n) (dot2 r v)
 dot2_within h k = IsWithin-add (IsWithin-mul h.x k.x) (IsWithin-mul h.y k.y)
 
 -- the product of two small motions has translations of at most 2^52
-pub planar_followed_by_within : (m n : PlanarMotion) → IsPlanarSmall m → IsPlanarSmall n → IsPairWithin (2 ^ 52) (planar_followed_by m n).shift
+pub planar_followed_by_within : (m n : PlanarMotion) → IsPlanarSmall m → IsPlanarSmall n → IsPairWithin (2 ^ 52) (planar_followed_by m n).translation
 planar_followed_by_within m n h k = record {
-  x = IsWithin-more (IsWithin-add (dot2_within k.matrix.first h.shift) k.shift.x) (lit≤ tt);
-  y = IsWithin-more (IsWithin-add (dot2_within k.matrix.second h.shift) k.shift.y) (lit≤ tt);
+  x = IsWithin-more (IsWithin-add (dot2_within k.matrix.first h.translation) k.translation.x) (lit≤ tt);
+  y = IsWithin-more (IsWithin-add (dot2_within k.matrix.second h.translation) k.translation.y) (lit≤ tt);
 }

@@ -49,16 +49,16 @@ same_matrix-is m n = (from, λ e. to (ap (λ (a : Matrix). a.first) e) (ap (λ (
         both_true (both_true ((same_vector-is m.first n.first).1 x) ((same_vector-is m.second n.second).1 y)) ((same_vector-is m.third n.third).1 z)
 
 pub same_motion-is : (m n : Motion) → IsTrue (same_motion m n) ↔ (m ≡ n)
-same_motion-is m n = (from, λ e. to (ap (λ (a : Motion). a.matrix) e) (ap (λ (a : Motion). a.shift) e))
+same_motion-is m n = (from, λ e. to (ap (λ (a : Motion). a.matrix) e) (ap (λ (a : Motion). a.translation) e))
   where
     from : IsTrue (same_motion m n) → m ≡ n
     from t =
         let matrix = same_matrix m.matrix n.matrix in
-        let shift = same_vector m.shift n.shift in
-        motion_path ((same_matrix-is m.matrix n.matrix).0 (first_so matrix shift t)) ((same_vector-is m.shift n.shift).0 (second_so matrix shift t))
+        let shift = same_vector m.translation n.translation in
+        motion_path ((same_matrix-is m.matrix n.matrix).0 (first_so matrix shift t)) ((same_vector-is m.translation n.translation).0 (second_so matrix shift t))
 
-    to : m.matrix ≡ n.matrix → m.shift ≡ n.shift → IsTrue (same_motion m n)
-    to p q = both_true ((same_matrix-is m.matrix n.matrix).1 p) ((same_vector-is m.shift n.shift).1 q)
+    to : m.matrix ≡ n.matrix → m.translation ≡ n.translation → IsTrue (same_motion m n)
+    to p q = both_true ((same_matrix-is m.matrix n.matrix).1 p) ((same_vector-is m.translation n.translation).1 q)
 
 pub same_motion_laws : IsEquivalence same_motion
 same_motion_laws = record {
@@ -82,7 +82,7 @@ followed_by_laws = record { assoc = followed_by-assoc; one_left = identity-follo
 pub IsVectorWithin-more : {m n : ℕ} {v : Vector} → IsVectorWithin m v → m ≤ n → IsVectorWithin n v
 IsVectorWithin-more h le = record { x = IsWithin-more h.x le; y = IsWithin-more h.y le; z = IsWithin-more h.z le }
 
-pub identity_within : IsVectorWithin 0 identity.shift
+pub identity_within : IsVectorWithin 0 identity.translation
 identity_within = record { x = record { most = lit≤ tt }; y = record { most = lit≤ tt }; z = record { most = lit≤ tt } }
 
 pub dot_within : {m n : ℕ} {r v : Vector} → IsVectorWithin m r → IsVectorWithin n v → IsWithin (m * n + m * n + m * n) (dot r v)
@@ -90,10 +90,10 @@ unfolding dot
 dot_within h k = IsWithin-add (IsWithin-add (IsWithin-mul h.x k.x) (IsWithin-mul h.y k.y)) (IsWithin-mul h.z k.z)
 
 -- the product of two small motions has translations of at most 2^52
-pub followed_by_within : (m n : Motion) → IsSmall m → IsSmall n → IsVectorWithin (2 ^ 52) (followed_by m n).shift
+pub followed_by_within : (m n : Motion) → IsSmall m → IsSmall n → IsVectorWithin (2 ^ 52) (followed_by m n).translation
 unfolding plus
 followed_by_within m n h k = record {
-  x = IsWithin-more (IsWithin-add (dot_within k.matrix.first h.shift) k.shift.x) (lit≤ tt);
-  y = IsWithin-more (IsWithin-add (dot_within k.matrix.second h.shift) k.shift.y) (lit≤ tt);
-  z = IsWithin-more (IsWithin-add (dot_within k.matrix.third h.shift) k.shift.z) (lit≤ tt);
+  x = IsWithin-more (IsWithin-add (dot_within k.matrix.first h.translation) k.translation.x) (lit≤ tt);
+  y = IsWithin-more (IsWithin-add (dot_within k.matrix.second h.translation) k.translation.y) (lit≤ tt);
+  z = IsWithin-more (IsWithin-add (dot_within k.matrix.third h.translation) k.translation.z) (lit≤ tt);
 }

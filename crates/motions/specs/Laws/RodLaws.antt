@@ -13,8 +13,8 @@ use Rattle.motions.specs.Laws.PlaneMatrixLaws.{product2-unit_left, product2-unit
 use Rattle.motions.specs.Laws.LineLaws.{along_assoc, along_from_zero}
 use Rattle.motions.specs.RodMotions.{RodOperation, rod_followed_by, rod_identity, same_rod}
 
-pub rod_path : {m n : RodOperation} → m.matrix ≡ n.matrix → m.along ≡ n.along → m.shift ≡ n.shift → m ≡ n
-rod_path p q s = λ i. record { matrix = p i; along = q i; shift = s i }
+pub rod_path : {m n : RodOperation} → m.matrix ≡ n.matrix → m.along ≡ n.along → m.translation ≡ n.translation → m ≡ n
+rod_path p q s = λ i. record { matrix = p i; along = q i; translation = s i }
 
 -- ---- equality
 
@@ -22,15 +22,15 @@ pub same_rod-is : (m n : RodOperation) → IsTrue (same_rod m n) ↔ (m ≡ n)
 same_rod-is m n =
     let matrix = same_matrix2 m.matrix n.matrix in
     let along = same_sign m.along n.along in
-    let shift = int_eq m.shift n.shift in (
+    let shift = int_eq m.translation n.translation in (
       λ t.
           let form = first_so (matrix && along) shift t in
           rod_path ((same_matrix2-is m.matrix n.matrix).0 (first_so matrix along form)) ((same_sign-is m.along n.along).0 (second_so matrix along form))
-          ((Decides-int_eq m.shift n.shift).0 (second_so (matrix && along) shift t)),
+          ((Decides-int_eq m.translation n.translation).0 (second_so (matrix && along) shift t)),
       λ e.
           both_true (both_true ((same_matrix2-is m.matrix n.matrix).1 (ap (λ (k : RodOperation). k.matrix) e))
           ((same_sign-is m.along n.along).1 (ap (λ (k : RodOperation). k.along) e)))
-          ((Decides-int_eq m.shift n.shift).1 (ap (λ (k : RodOperation). k.shift) e)),
+          ((Decides-int_eq m.translation n.translation).1 (ap (λ (k : RodOperation). k.translation) e)),
     )
 
 pub same_rod_laws : IsEquivalence same_rod
@@ -47,7 +47,7 @@ pub rod_laws : IsMonoid rod_followed_by rod_identity
 rod_laws = record {
   assoc = λ a b c.
       rod_path (sym (product2_assoc c.matrix b.matrix a.matrix)) (sym (sign_product_assoc c.along b.along a.along))
-      (along_assoc b.along c.along a.shift b.shift c.shift);
-  one_left = λ a. rod_path (product2-unit_right a.matrix) (sign_product-plus a.along) (along_from_zero a.along a.shift);
-  one_right = λ a. rod_path (product2-unit_left a.matrix) refl (add_zero (pos 1 *ℤ a.shift) ∙ one_mul a.shift);
+      (along_assoc b.along c.along a.translation b.translation c.translation);
+  one_left = λ a. rod_path (product2-unit_right a.matrix) (sign_product-plus a.along) (along_from_zero a.along a.translation);
+  one_right = λ a. rod_path (product2-unit_left a.matrix) refl (add_zero (pos 1 *ℤ a.translation) ∙ one_mul a.translation);
 }

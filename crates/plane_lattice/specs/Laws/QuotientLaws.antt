@@ -102,22 +102,22 @@ abbrev plane_shift : Basis → Motion → Type 0
 plane_shift f s = (m : Motion3) × IsPlaneShift f (motion_of m) × (motion_of m ≡ s)
 
 -- the translation by a whole combination of a and b is a shift
-shift_by : (f : Basis) (v : Vector) → IsPlaneCombination f v → plane_shift f (record { matrix = unit_matrix; shift = v })
+shift_by : (f : Basis) (v : Vector) → IsPlaneCombination f v → plane_shift f (record { matrix = unit_matrix; translation = v })
 unfolding translation_of
-shift_by f v h = (translation_of v, record { matrix = refl; shift = h }, refl)
+shift_by f v h = (translation_of v, record { matrix = refl; translation = h }, refl)
 
 shift_is : (f : Basis) (s : Motion) → plane_shift f s → IsPlaneShift f s
 shift_is f s (m, h, e) = subst (IsPlaneShift f) e h
 
 -- a motion and then a translation
-pub followed_by-translation : (m s : Motion) → s.matrix ≡ unit_matrix → followed_by m s ≡ record { matrix = m.matrix; shift = plus m.shift s.shift }
+pub followed_by-translation : (m s : Motion) → s.matrix ≡ unit_matrix → followed_by m s ≡ record { matrix = m.matrix; translation = plus m.translation s.translation }
 followed_by-translation m s e =
     motion_path (ap (λ w. product w m.matrix) e ∙ product-unit_left m.matrix)
-    (ap (λ w. plus (image w m.shift) s.shift) e ∙ ap (λ v. plus v s.shift) (image-unit m.shift))
+    (ap (λ w. plus (image w m.translation) s.translation) e ∙ ap (λ v. plus v s.translation) (image-unit m.translation))
 
 -- a translation and then a motion
 pub translation-followed_by : (m s : Motion) → s.matrix ≡ unit_matrix
-    → followed_by s m ≡ record { matrix = m.matrix; shift = plus (image m.matrix s.shift) m.shift }
+    → followed_by s m ≡ record { matrix = m.matrix; translation = plus (image m.matrix s.translation) m.translation }
 translation-followed_by m s e = motion_path (ap (product m.matrix) e ∙ product-unit_right m.matrix) refl
 
 -- ---- the laws
@@ -142,16 +142,16 @@ plane_shifts f = record {
   products = λ s t h k.
       let p = shift_is f s h in
       let q = shift_is f t k in
-      subst (plane_shift f) (sym (followed_by-translation s t q.matrix ∙ ap (λ w. record { matrix = w; shift = plus s.shift t.shift }) p.matrix))
-      (shift_by f (plus s.shift t.shift) (plane-plus f s.shift t.shift p.shift q.shift));
+      subst (plane_shift f) (sym (followed_by-translation s t q.matrix ∙ ap (λ w. record { matrix = w; translation = plus s.translation t.translation }) p.matrix))
+      (shift_by f (plus s.translation t.translation) (plane-plus f s.translation t.translation p.translation q.translation));
   inverses = λ s h.
       let p = shift_is f s h in
-      let back : Motion = record { matrix = unit_matrix; shift = opposite s.shift } in (
+      let back : Motion = record { matrix = unit_matrix; translation = opposite s.translation } in (
         back,
-        shift_by f (opposite s.shift) (plane-multiple f (negsuc 0) s.shift p.shift),
+        shift_by f (opposite s.translation) (plane-multiple f (negsuc 0) s.translation p.translation),
         record {
-          after = followed_by-translation s back refl ∙ motion_path p.matrix (minus-same s.shift);
-          before = followed_by-translation back s p.matrix ∙ motion_path refl (opposite-plus_same s.shift);
+          after = followed_by-translation s back refl ∙ motion_path p.matrix (minus-same s.translation);
+          before = followed_by-translation back s p.matrix ∙ motion_path refl (opposite-plus_same s.translation);
         },
       );
 }
@@ -160,7 +160,7 @@ pub plane_home_is_same : (f : Basis) (m : Motion3) → IsSame (plane_kind f) (mo
 plane_home_is_same f m =
     let v = parts m.t in
     let whole = combination f (whole_part f v) in
-    let back : Motion = record { matrix = unit_matrix; shift = opposite whole } in record {
+    let back : Motion = record { matrix = unit_matrix; translation = opposite whole } in record {
       shift = back;
       is_shift = shift_by f (opposite whole) (plane-multiple f (negsuc 0) whole (whole_part f v, refl, refl));
       is = sym (followed_by-translation (motion_of m) back refl);
@@ -182,9 +182,9 @@ plane_homes f spans m n = (to, from)
     to : IsSame (plane_kind f) (motion_of m) (motion_of n) → motion_of (home_of_motion f m) ≡ motion_of (home_of_motion f n)
     to p =
         let s = shift_is f p.shift p.is_shift in
-        let (c, e, flat) = s.shift in
+        let (c, e, flat) = s.translation in
         let is = p.is ∙ followed_by-translation (motion_of n) p.shift s.matrix in
-        let moved : parts m.t ≡ plus (parts n.t) (combination f c) = ap (λ (k : Motion). k.shift) is ∙ ap (plus (parts n.t)) (sym e) in
+        let moved : parts m.t ≡ plus (parts n.t) (combination f c) = ap (λ (k : Motion). k.translation) is ∙ ap (plus (parts n.t)) (sym e) in
         motion_path (ap (λ (k : Motion). k.matrix) is) (ap (home_shift f) moved ∙ home_shift-combination f spans (parts n.t) c flat)
 
     from : motion_of (home_of_motion f m) ≡ motion_of (home_of_motion f n) → IsSame (plane_kind f) (motion_of m) (motion_of n)
@@ -192,12 +192,12 @@ plane_homes f spans m n = (to, from)
         let p = whole_part f (parts m.t) in
         let q = whole_part f (parts n.t) in
         let apart = minus (combination f p) (combination f q) in
-        let s : Motion = record { matrix = unit_matrix; shift = apart } in record {
+        let s : Motion = record { matrix = unit_matrix; translation = apart } in record {
           shift = s;
           is_shift = shift_by f apart (plane-plus f (combination f p) (opposite (combination f q)) (p, refl, refl)
               (plane-multiple f (negsuc 0) (combination f q) (q, refl, refl)));
           is = motion_path (ap (λ (k : Motion). k.matrix) e)
-              (exchanged (parts m.t) (parts n.t) (combination f p) (combination f q) (ap (λ (k : Motion). k.shift) e))
+              (exchanged (parts m.t) (parts n.t) (combination f p) (combination f q) (ap (λ (k : Motion). k.translation) e))
               ∙ sym (followed_by-translation (motion_of n) s refl);
         }
 
@@ -246,11 +246,11 @@ pub plane_keeps : (f : Basis) (m : Motion)
 plane_keeps f m = (
   λ (a, b) t h.
       let p = shift_is f t h in
-      let v = image m.matrix t.shift in
-      let s : Motion = record { matrix = unit_matrix; shift = v } in (
+      let v = image m.matrix t.translation in
+      let s : Motion = record { matrix = unit_matrix; translation = v } in (
         s,
-        shift_by f v (image_keeps_plane f m.matrix a b t.shift p.shift),
-        translation-followed_by m t p.matrix ∙ motion_path refl (plus_comm v m.shift) ∙ sym (followed_by-translation m s refl),
+        shift_by f v (image_keeps_plane f m.matrix a b t.translation p.translation),
+        translation-followed_by m t p.matrix ∙ motion_path refl (plus_comm v m.translation) ∙ sym (followed_by-translation m s refl),
       ),
   λ keeps. (
     kept keeps f.a (record { x = pos 1; y = pos 0; z = pos 0 }, along_a f, refl),
@@ -260,11 +260,11 @@ plane_keeps f m = (
   where
     kept : Keeps (plane_kind f) m → (v : Vector) → IsPlaneCombination f v → IsPlaneCombination f (image m.matrix v)
     kept keeps v h =
-        let t : Motion = record { matrix = unit_matrix; shift = v } in
+        let t : Motion = record { matrix = unit_matrix; translation = v } in
         let (s, is, e) = keeps t (shift_by f v h) in
         let p = shift_is f s is in
         let same = sym (translation-followed_by m t refl) ∙ e ∙ followed_by-translation m s p.matrix in
-        subst (IsPlaneCombination f) (cancelled (image m.matrix v) m.shift s.shift (ap (λ (k : Motion). k.shift) same)) p.shift
+        subst (IsPlaneCombination f) (cancelled (image m.matrix v) m.translation s.translation (ap (λ (k : Motion). k.translation) same)) p.translation
 
 pub plane_by_meaning : (f : Basis) (m n : Motion3) → motion_of m ≡ motion_of n → IsPlaneShift f (motion_of m) → IsPlaneShift f (motion_of n)
 plane_by_meaning f m n e h = subst (IsPlaneShift f) e h

@@ -20,5 +20,5 @@ plane_followed_by_laws = record {
   one_right = λ a. ap in_plane (planar_followed_by_laws.one_right (in_layer a));
 }
 
-pub plane_followed_by_within : (m n : PlaneMotion) → IsPlanarSmall (in_layer m) → IsPlanarSmall (in_layer n) → IsPairWithin (2 ^ 52) (plane_followed_by m n).shift
+pub plane_followed_by_within : (m n : PlaneMotion) → IsPlanarSmall (in_layer m) → IsPlanarSmall (in_layer n) → IsPairWithin (2 ^ 52) (plane_followed_by m n).translation
 plane_followed_by_within m n = planar_followed_by_within (in_layer m) (in_layer n)

@@ -18,7 +18,7 @@ pub home-requires : goal.home-requires
 home-requires c =
     let m = motion_of (get_or c.args.list.now c.loop-m.m-index none) in
     let s = All-contains HasSmallEntries (map motion_of c.args.list.now) m c.requires.list (item_contained motion_of c.args.list.now c.loop-m.m-index none (omega arith)) in
-    IsVectorWithin-more s.small.shift (lit≤ tt)
+    IsVectorWithin-more s.small.translation (lit≤ tt)
 
 pub loop-m-preserved : goal.loop-m-preserved
 loop-m-preserved c =

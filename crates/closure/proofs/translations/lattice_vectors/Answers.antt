@@ -19,7 +19,7 @@ loop-m-preserved c =
     let here : i < length read = omega arith in
     let within : i < length ops = subst (λ (l : List Motion3). i < length l) c.deref-m-items.ensures.value here in
     let at : get_or ops i m ≡ m = ap (λ (l : List Motion3). get_or l i m) (sym c.deref-m-items.ensures.value) ∙ get_or_default read i m (record { w = []; t = [] }) here in
-    let shift : IsVectorWithin (2 ^ 40) (parts m.t) = subst (λ (n : Motion3). IsVectorWithin (2 ^ 40) (parts n.t)) at (c.requires.ops i m within).small.shift in
+    let shift : IsVectorWithin (2 ^ 40) (parts m.t) = subst (λ (n : Motion3). IsVectorWithin (2 ^ 40) (parts n.t)) at (c.requires.ops i m within).small.translation in
     elim c.if-is_translation.branch [
       | then-is_translation+in_ok-push w ↦
           let pushed : c.if-is_translation.vectors.items ≡ c.loop-m.vectors.items ++ m.t ∷ [] = ap (λ v. v.items) w.vectors-is ∙ w.in_ok-push.ensures.items in

@@ -6,4 +6,4 @@ use Rattle.friezes.specs.Lines.{line_of}
 use Rattle.friezes.proofs.section.is_section.Goals as goal
 
 pub check_group-requires-clause-small : goal.check_group-requires-clause-small
-check_group-requires-clause-small c = All-map (λ (m : FriezeOperation). IsWithin (2 ^ 40) m.shift) line_of c.args.section.now c.requires
+check_group-requires-clause-small c = All-map (λ (m : FriezeOperation). IsWithin (2 ^ 40) m.translation) line_of c.args.section.now c.requires

@@ -12,7 +12,7 @@ use Rattle.orbits.proofs.height_motions.height_motion.Goals as goal
 pub invariant_of-result : goal.invariant_of-result
 invariant_of-result c =
     let q = c.args.frame.now in
-    let small = subst (IsWithin (largest_shift (2 ^ 40))) (sym c.shift.ensures) (shift_within (2 ^ 40) (row_of q.plane) (motion_of c.args.m.now).shift q.plane.in_range c.requires.shift) in
+    let small = subst (IsWithin (largest_shift (2 ^ 40))) (sym c.shift.ensures) (shift_within (2 ^ 40) (row_of q.plane) (motion_of c.args.m.now).translation q.plane.in_range c.requires.translation) in
     let same = again_rest c.shift.result q.period.0 c.rem_euclid-shift.result (largest_shift (2 ^ 40)) small (lit< tt) (period_within q) q.above c.rem_euclid-shift.ensures.value in
     record {
       in_range = subst (IsWithin largest_period) (sym same)
@@ -24,7 +24,7 @@ returns c =
     let q = c.args.frame.now in
     let r = row_of q.plane in
     let m = motion_of c.args.m.now in
-    let small = subst (IsWithin (largest_shift (2 ^ 40))) (sym c.shift.ensures) (shift_within (2 ^ 40) r m.shift q.plane.in_range c.requires.shift) in
+    let small = subst (IsWithin (largest_shift (2 ^ 40))) (sym c.shift.ensures) (shift_within (2 ^ 40) r m.translation q.plane.in_range c.requires.translation) in
     let same = again_rest c.shift.result q.period.0 c.rem_euclid-shift.result (largest_shift (2 ^ 40)) small (lit< tt) (period_within q) q.above c.rem_euclid-shift.ensures.value in
     let by = coded_rest c.shift.result q.period.0 c.rem_euclid-shift.result (largest_shift (2 ^ 40)) small (lit< tt) (period_within q) q.above c.rem_euclid-shift.ensures.value in
     let P : ℤ → Type 0 = λ z. MovesPlanes r q.period.0 m (record { sign = sign_value c.in_ok-sign.sign; shift = z }) × (pos 0 ≤ℤ z) × (z <ℤ q.period.0) in

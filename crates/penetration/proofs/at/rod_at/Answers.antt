@@ -33,9 +33,9 @@ sections-requires-clause-small c = subst (All (λ (m : Motion3). IsNearSmall (mo
 
 pub homes-requires : goal.homes-requires
 homes-requires c =
-    let P : Motion → Type 0 = λ m. IsVectorWithin (2 ^ 23) m.shift in
+    let P : Motion → Type 0 = λ m. IsVectorWithin (2 ^ 23) m.translation in
     all_of P c.deref-3.result.now
-    (subst (All (λ (m : Motion3). P (motion_of m))) (sym c.deref-3.ensures.value) (λ k d h. (c.in_ok-near.ensures.small k d h).shift))
+    (subst (All (λ (m : Motion3). P (motion_of m))) (sym c.deref-3.ensures.value) (λ k d h. (c.in_ok-near.ensures.small k d h).translation))
 
 pub returns : goal.returns
 returns c =

@@ -27,10 +27,10 @@ steps : (q : RodFrame) (m : Motion) (at v d : Vector) (b : Basis) → b ≡ basi
 steps q m at v d b same is h = subst (λ (x : Basis). AreStepsBack x (drift m at) v) same (subst (λ (x : Vector). AreStepsBack b x v) is h)
 
 within : (q : RodFrame) (m : Motion) (at v : Vector) (b : Basis) → b ≡ basis_of_rod q → AreStepsBack (basis_of_rod q) (drift m at) v
-    → IsMatrixWithin 50 m.matrix → IsVectorWithin largest_entry at → IsVectorWithin (2 ^ 23) (minus m.shift (combination b v))
+    → IsMatrixWithin 50 m.matrix → IsVectorWithin largest_entry at → IsVectorWithin (2 ^ 23) (minus m.translation (combination b v))
 within q m at v b same h matrix point =
     let P : Vector → Type 0 = IsVectorWithin (2 ^ 23) in
-    subst P (ap (λ (x : Basis). minus m.shift (combination x v)) (sym same)) (near_within (basis_of_rod q) at v m h matrix point q.axis_in_range)
+    subst P (ap (λ (x : Basis). minus m.translation (combination x v)) (sym same)) (near_within (basis_of_rod q) at v m h matrix point q.axis_in_range)
 
 pub returns-then-not-keeps_direction-clause-choice : goal.returns-then-not-keeps_direction-clause-choice
 returns-then-not-keeps_direction-clause-choice c = λ g group frame member.
@@ -63,7 +63,7 @@ returns-clause-choice c = λ g group frame member.
     let m = motion_of c.args.m.now in
     let v = vector_of c.in_ok-back.back in
     let is : motion_of (record { w = c.args.m.now.w; t = c.without.result }) ≡ taken_back f v m =
-    motion_path refl (c.without.ensures ∙ ap (λ (b : Basis). minus m.shift (combination b v)) c.dual-dual.ensures) in
+    motion_path refl (c.without.ensures ∙ ap (λ (b : Basis). minus m.translation (combination b v)) c.dual-dual.ensures) in
     subst (λ (x : Motion). IsChoice (SameModulo g) (IsNear f at) (InLineStabiliser g (direction_of q.direction) (counted at)) m (Some x)) (sym is)
     (back_choice g (direction_of q.direction) f group q.direction.coprime frame at m v member (c.keeps_direction.ensures.0 c.if-not-keeps_direction.false) (steps q m at v (parts c.drift.result) (basis_of c.dual-dual.result.basis) c.dual-dual.ensures c.drift.ensures.is c.in_ok-back.ensures.is))
 
@@ -75,6 +75,6 @@ returns-clause-small c =
     (steps c.args.frame.now (motion_of c.args.m.now) (parts c.args.point.now) (vector_of c.in_ok-back.back) (parts c.drift.result) (basis_of c.dual-dual.result.basis) c.dual-dual.ensures c.drift.ensures.is c.in_ok-back.ensures.is)
     c.requires.motion.matrix c.requires.point) in
     record {
-      motion = record { small = record { matrix = c.requires.motion.small.matrix; shift = IsVectorWithin-more near (lit≤ tt) }; matrix = c.requires.motion.matrix };
-      shift = near;
+      motion = record { small = record { matrix = c.requires.motion.small.matrix; translation = IsVectorWithin-more near (lit≤ tt) }; matrix = c.requires.motion.matrix };
+      translation = near;
     }

@@ -28,7 +28,7 @@ loop-m-preserved c =
           let near = c.requires.near i _ c.loop-m-test.true in
           let small : IsSmallRod n = record {
             matrix = w.in-Some.ensures.matrix;
-            shift = near_parts_within f at (motion_of (get_or c.args.members.now i _)) n.t q.right_handed q.axis_in_range near w.in-Some.ensures.along;
+            translation = near_parts_within f at (motion_of (get_or c.args.members.now i _)) n.t q.right_handed q.axis_in_range near w.in-Some.ensures.along;
           } in
           record {
             acts = λ rods are.

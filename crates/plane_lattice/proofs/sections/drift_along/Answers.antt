@@ -17,17 +17,17 @@ whole = var 0 ⊗ (var 1 ⊝ var 2) ⊕ num (pos 2 *ℤ UNIT) ⊗ var 3
 
 pub overflow_add-result : goal.overflow_add-result
 overflow_add-result c =
-    code_fits bounds (c.args.steps ∷ c.args.turned.0 ∷ c.args.tau.0 ∷ c.args.shift.0 ∷ []) whole tt
-    (step_within c.args.steps c.requires.from c.requires.below, (c.requires.turned, (c.requires.tau, (c.requires.shift, tt))))
+    code_fits bounds (c.args.steps ∷ c.args.turned.0 ∷ c.args.tau.0 ∷ c.args.translation.0 ∷ []) whole tt
+    (step_within c.args.steps c.requires.from c.requires.below, (c.requires.turned, (c.requires.tau, (c.requires.translation, tt))))
 
 pub returns-clause-is : goal.returns-clause-is
 returns-clause-is c =
-    code_is bounds (c.args.steps ∷ c.args.turned.0 ∷ c.args.tau.0 ∷ c.args.shift.0 ∷ []) whole tt
-    (step_within c.args.steps c.requires.from c.requires.below, (c.requires.turned, (c.requires.tau, (c.requires.shift, tt))))
+    code_is bounds (c.args.steps ∷ c.args.turned.0 ∷ c.args.tau.0 ∷ c.args.translation.0 ∷ []) whole tt
+    (step_within c.args.steps c.requires.from c.requires.below, (c.requires.turned, (c.requires.tau, (c.requires.translation, tt))))
 
 pub returns-clause-small : goal.returns-clause-small
 returns-clause-small c =
     IsWithin-more
-    (code_within bounds (c.args.steps ∷ c.args.turned.0 ∷ c.args.tau.0 ∷ c.args.shift.0 ∷ []) whole tt
-    (step_within c.args.steps c.requires.from c.requires.below, (c.requires.turned, (c.requires.tau, (c.requires.shift, tt)))))
+    (code_within bounds (c.args.steps ∷ c.args.turned.0 ∷ c.args.tau.0 ∷ c.args.translation.0 ∷ []) whole tt
+    (step_within c.args.steps c.requires.from c.requires.below, (c.requires.turned, (c.requires.tau, (c.requires.translation, tt)))))
     (lit≤ tt)

@@ -16,12 +16,12 @@ whole = var 1 ⊝ var 0 ⊗ var 2
 pub overflow_mul-hand : goal.overflow_mul-hand
 overflow_mul-hand c =
     let h = c.requires in
-    code_fits bounds (c.hand.result ∷ c.args.m.now.t ∷ c.args.n.now.t ∷ []) (var 0 ⊗ var 2) tt (c.hand.ensures.small, (h.m.shift, (h.n.shift, tt)))
+    code_fits bounds (c.hand.result ∷ c.args.m.now.t ∷ c.args.n.now.t ∷ []) (var 0 ⊗ var 2) tt (c.hand.ensures.small, (h.m.translation, (h.n.translation, tt)))
 
 pub overflow_sub-m : goal.overflow_sub-m
 overflow_sub-m c =
     let h = c.requires in
-    code_fits bounds (c.hand.result ∷ c.args.m.now.t ∷ c.args.n.now.t ∷ []) whole tt (c.hand.ensures.small, (h.m.shift, (h.n.shift, tt)))
+    code_fits bounds (c.hand.result ∷ c.args.m.now.t ∷ c.args.n.now.t ∷ []) whole tt (c.hand.ensures.small, (h.m.translation, (h.n.translation, tt)))
 
 doubled : (r : ℤ) → pos 0 ≤ℤ r → r <ℤ UNIT → FitsSigned w64 r → pos (nat_abs (to_z w64 (of_z w64 (STEP *ℤ to_z w64 (of_z w64 r))))) ≡ STEP *ℤ r
 doubled r h k f =
@@ -31,7 +31,7 @@ doubled r h k f =
 pub returns : goal.returns
 returns c =
     let h = c.requires in
-    let e = code_is bounds (c.hand.result ∷ c.args.m.now.t ∷ c.args.n.now.t ∷ []) whole tt (c.hand.ensures.small, (h.m.shift, (h.n.shift, tt))) in
+    let e = code_is bounds (c.hand.result ∷ c.args.m.now.t ∷ c.args.n.now.t ∷ []) whole tt (c.hand.ensures.small, (h.m.translation, (h.n.translation, tt))) in
     let r = c.reduced-rest.result.0 in
     let f : FitsSigned w64 r = search rules in
     let reduced = subst (λ x. IsReduced x r) (e ∙ ap (λ n. c.args.m.now.t -ℤ n *ℤ c.args.n.now.t) c.hand.ensures.is) c.reduced-rest.ensures.reduced in

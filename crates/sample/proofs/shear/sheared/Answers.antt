@@ -16,7 +16,7 @@ then-requires-2-clause-first c =
     let m = motion_of c.args.m.now in
     let j = c.args.j in
     subst IsSmall (sym (c.then.ensures ∙ ap (λ t. followed_by t m) (c.shear.ensures ∙ ap change (back_again j c.requires.shear))))
-    (stepped_small j c.requires.shear m c.requires.matrix c.requires.shift)
+    (stepped_small j c.requires.shear m c.requires.matrix c.requires.translation)
 
 pub returns-clause-is : goal.returns-clause-is
 returns-clause-is c =
@@ -29,4 +29,4 @@ returns-clause-is c =
 
 pub returns-clause-small : goal.returns-clause-small
 returns-clause-small c =
-    subst (IsSmallWithin 50) (sym (returns-clause-is c)) (sheared_small c.args.j c.requires.shear (motion_of c.args.m.now) c.requires.matrix c.requires.shift)
+    subst (IsSmallWithin 50) (sym (returns-clause-is c)) (sheared_small c.args.j c.requires.shear (motion_of c.args.m.now) c.requires.matrix c.requires.translation)

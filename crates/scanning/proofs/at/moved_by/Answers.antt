@@ -27,7 +27,7 @@ returns-in-Some-Minus c =
     let row = (c.in-Some-Minus.ensures.sign Minus).0 (ap Some c.in-Some-Minus.field-0-is) in record {
       kept = λ keeps. absurd (not_opposite (row_of q.plane) q.plane.coprime (sym keeps ∙ row));
       turned = λ turns.
-          let P : ℤ → Type 0 = λ x. motion_of c.raised.result ≡ record { matrix = m.matrix; shift = plus m.shift (multiple x (parts q.tau)) } in
+          let P : ℤ → Type 0 = λ x. motion_of c.raised.result ≡ record { matrix = m.matrix; translation = plus m.translation (multiple x (parts q.tau)) } in
           subst P (twice c.args.k c.requires.periods) c.raised.ensures;
     }
 

@@ -29,7 +29,7 @@ returns-in_err-count c = λ g frame member.
     c.in_ok-shift.shift (sym c.in_ok-shift.ensures.is)
     (λ k e.
     c.in_err-count.ensures.is k
-    (ap (λ d. d *ℤ k) (sym q.tau_gives) ∙ e ∙ ap (λ t. t -ℤ dot r m.shift) (passed largest_level c.in_ok-shift.shift c.in_ok-shift.ensures.small (lit< tt)))) in
+    (ap (λ d. d *ℤ k) (sym q.tau_gives) ∙ e ∙ ap (λ t. t -ℤ dot r m.translation) (passed largest_level c.in_ok-shift.shift c.in_ok-shift.ensures.small (lit< tt)))) in
     rw c.from_residual-in_err-count.ensures none
 
 pub returns : goal.returns
@@ -42,4 +42,4 @@ returns c = λ g frame member.
     c.in_ok-shift.shift (sym c.in_ok-shift.ensures.is) member c.requires.home.home
     (again c.in_ok-count.count)
     ((λ i. q.tau_gives i *ℤ again_is c.in_ok-count.count largest_count c.in_ok-count.ensures.small (lit< tt) i) ∙ c.in_ok-count.ensures.is
-    ∙ ap (λ t. t -ℤ dot r m.shift) (again_is c.in_ok-shift.shift largest_level c.in_ok-shift.ensures.small (lit< tt))))
+    ∙ ap (λ t. t -ℤ dot r m.translation) (again_is c.in_ok-shift.shift largest_level c.in_ok-shift.ensures.small (lit< tt))))

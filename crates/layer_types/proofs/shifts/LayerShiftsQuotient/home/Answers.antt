@@ -7,5 +7,5 @@ use Rattle.layer_types.proofs.shifts.LayerShiftsQuotient.home.Goals as goal
 
 pub returns-clause-first : goal.returns-clause-first
 returns-clause-first c =
-    let v = (planar_of c.args.m.now).shift in
+    let v = (planar_of c.args.m.now).translation in
     subst (IsHome c.args.self.now.centred v) (sym c.home_vector.ensures) (home_is_home v c.args.self.now.centred)

@@ -8,7 +8,7 @@ pub returns-then-is_translation : goal.returns-then-is_translation
 returns-then-is_translation c =
     let translation = c.is_translation.ensures.0 c.if-is_translation.true in
     let is = c.is_in_lattice.ensures in
-    let decides = in_lattice-is c.args.self.now.centred (planar_of c.args.m.now).shift in (
-      λ t. record { matrix = translation.0; side = translation.1; shift = decides.0 (sym is ∙ t) },
-      λ s. is ∙ decides.1 s.shift,
+    let decides = in_lattice-is c.args.self.now.centred (planar_of c.args.m.now).translation in (
+      λ t. record { matrix = translation.0; side = translation.1; translation = decides.0 (sym is ∙ t) },
+      λ s. is ∙ decides.1 s.translation,
     )

@@ -120,7 +120,7 @@ returns-clause-acts c = λ rods are.
     record {
       across = subst (λ a. IsAcross u f rods m.matrix a (pos 1)) (sym c.matrix_of_columns.ensures) (record { first = first; second = second });
       axis = multiple_turned u f.tau m.matrix frame.axis.times (sign_value c.in_ok-e.e) frame.axis.is c.in_ok-e.ensures;
-      shift = (shift_is f (parts c.args.point) m (again c.in_ok-t.t)).1
+      translation = (shift_is f (parts c.args.point) m (again c.in_ok-t.t)).1
           (sym (along_is f b (parts c.drift.result) (drift m (parts c.args.point)) c.dual-dual.ensures c.drift.ensures.is (again c.in_ok-t.t)
           (ap (λ k. multiple k b.tau) (to_z-of_z w64 c.in_ok-t.t fits) ∙ c.in_ok-t.ensures)));
     }

@@ -149,7 +149,7 @@ returns-clause-seen c ms scanning =
     let b = meant f _ c.dual-dual.ensures (λ b. image m.matrix b.b) _ c.image-2.ensures.is second c.in_ok-second.ensures in
     let t = meant f _ c.dual-dual.ensures (λ b. drift m b.tau c.args.steps) _ (at_steps m _ _ c.args.steps c.requires.from c.requires.below c.drift.ensures.is) p c.in_ok-t.ensures in
     let third = mean_is_kept g r ms (own_group c.args.group.now) q.plane.coprime scanning (parts q.tau) m c.requires.member (c.in_ok-e.ensures.keeps.0 refl) in
-    subst (λ w. IsSeenAs f mean (point_at d (height_in_steps d c.args.steps) (in_cell (parts q.tau))) m (record { matrix = w; side = c.in_ok-e.e; shift = in_edges p }))
+    subst (λ w. IsSeenAs f mean (point_at d (height_in_steps d c.args.steps) (in_cell (parts q.tau))) m (record { matrix = w; side = c.in_ok-e.e; translation = in_edges p }))
     (sym c.matrix_of_columns.ensures)
     (seen_in_steps f mean d c.args.steps m c.in_ok-e.e first second p a b (third ∙ ap (λ x. multiple x mean.at) (sym c.in_ok-e.ensures.value)) t)
 
@@ -187,5 +187,5 @@ returns-clause-small c =
     record {
       matrix = subst (IsMatrix2Within 500) (sym c.matrix_of_columns.ensures)
           (record { first = record { x = a.x; y = b.x }; second = record { x = a.y; y = b.y } });
-      shift = IsPairWithin-more t (lit≤ tt);
+      translation = IsPairWithin-more t (lit≤ tt);
     }

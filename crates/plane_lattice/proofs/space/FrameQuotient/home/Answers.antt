@@ -47,16 +47,16 @@ returns c =
     let q = c.args.self.now in
     let f = basis_of_frame q in
     let m = motion_of c.args.m.now in
-    let shift : parts c.without.result ≡ home_shift f m.shift = c.without.ensures
-    ∙ without_whole f (basis_of c.dual-dual.result.basis) m.shift c.dual-dual.result.volume (vector_of c.scaled.result) (vector_of c.whole_part-whole.result)
+    let shift : parts c.without.result ≡ home_shift f m.translation = c.without.ensures
+    ∙ without_whole f (basis_of c.dual-dual.result.basis) m.translation c.dual-dual.result.volume (vector_of c.scaled.result) (vector_of c.whole_part-whole.result)
     c.dual-dual.ensures c.dual-dual.result.volume_small c.dual-dual.result.volume_is c.scaled.ensures.is c.whole_part-whole.ensures.is in
     let motion : motion_of (record { w = c.args.m.now.w; t = c.without.result }) ≡ home_motion f m = motion_path refl shift in
-    let small : IsVectorWithin largest_home (home_shift f m.shift) = within q m.shift c.requires in
+    let small : IsVectorWithin largest_home (home_shift f m.translation) = within q m.translation c.requires in
     record {
       value = motion;
       at_home = subst (IsAtHome f) (sym motion) (home_at_home f q.right_handed m);
       matrix = refl;
-      differs = subst (λ v. IsPlaneCombination f (minus m.shift v)) (sym shift) (home_differs f m.shift);
-      level = ap (dot (row_of q.plane)) shift ∙ home_level (row_of q.plane) f q.a_in_plane q.b_in_plane m.shift;
+      differs = subst (λ v. IsPlaneCombination f (minus m.translation v)) (sym shift) (home_differs f m.translation);
+      level = ap (dot (row_of q.plane)) shift ∙ home_level (row_of q.plane) f q.a_in_plane q.b_in_plane m.translation;
       small = subst (IsVectorWithin largest_home) (sym shift) small;
     }

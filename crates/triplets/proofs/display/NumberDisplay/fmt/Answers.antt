@@ -7,7 +7,7 @@ use Rattle.triplets.proofs.display.NumberDisplay.fmt.Goals.{else-shift-gt0-via-t
 
 pub returns-else-shift-gt0-clause-writes : goal.returns-else-shift-gt0-clause-writes
 returns-else-shift-gt0-clause-writes g c plain ok =
-    let t = c.args.self.now.shift.0 in
+    let t = c.args.self.now.translation.0 in
     let not_zero = λ (e : t ≡ pos 0). c.if-shift-eq0.false (ap (of_z w64) e) in
     let bare : (c.args.self.now.first ≡ true) ⊎ (t ≤ℤ pos 0) =
     elim c.else-shift-gt0.branch [ else-shift-gt0-via-then-shift-gt0+else-not-self w ↦ inl w.if-not-self.false | else-shift-gt0-via-else-shift-gt0 w ↦ inr (search rules) ] in
