@@ -74,7 +74,7 @@ module _ (r : Vector) (low high : Height) (m : Motion) (is_low : IsHeight low) (
   turned = row_times r m.matrix
 
   abbrev shift : ℤ
-  translation = dot r m.translation
+  shift = dot r m.translation
 
   -- a point of the plane low, moved by a whole multiple of a column that the row takes to 0
   abbrev beside : Vector → ℤ → Point

@@ -68,14 +68,14 @@ impl fmt::Display for Number {
     ghost output = { λ t. Some (placed t.first (number_term t.translation.0)) };
 
     fn fmt<W: fmt::Write>(&self, f: &mut fmt::Formatter<W>) -> fmt::Result {
-        let shift = self.translation;
-        if shift.0 == 0 {
+        let translation = self.translation;
+        if translation.0 == 0 {
             return Ok(());
         }
-        if shift.0 > 0 && !self.first {
-            write!(f, "+{shift}")
+        if translation.0 > 0 && !self.first {
+            write!(f, "+{translation}")
         } else {
-            write!(f, "{shift}")
+            write!(f, "{translation}")
         }
     }
 }
@@ -94,13 +94,13 @@ impl Row {
     pub fn of(row: &[i64; 3], translation: Part) -> Row
         ensures { row_text
             (record { x = result.x; y = result.y; z = result.z }) result.translation.0
-            ≡ row_text (vector_of row.now) shift.0 }
+            ≡ row_text (vector_of row.now) translation.0 }
     {
         Row {
             x: row[0],
             y: row[1],
             z: row[2],
-            shift,
+            translation,
         }
     }
 
@@ -108,13 +108,13 @@ impl Row {
     pub fn of_pair(row: &[i64; 2], translation: Part) -> Row
         ensures { row_text
             (record { x = result.x; y = result.y; z = result.z }) result.translation.0
-            ≡ pair_row_text (pair_of row.now) shift.0 }
+            ≡ pair_row_text (pair_of row.now) translation.0 }
     {
         Row {
             x: row[0],
             y: row[1],
             z: 0,
-            shift,
+            translation,
         }
     }
 }
@@ -126,12 +126,17 @@ impl fmt::Display for Row {
     ghost output = { λ r. Some (row_text (record { x = r.x; y = r.y; z = r.z }) r.translation.0) };
 
     fn fmt<W: fmt::Write>(&self, f: &mut fmt::Formatter<W>) -> fmt::Result {
-        let Row { x, y, z, shift } = *self;
+        let Row {
+            x,
+            y,
+            z,
+            translation,
+        } = *self;
         // whether no term shows up to x, up to y and up to z
         let none_to_x = x == 0;
         let none_to_y = none_to_x & (y == 0);
         let none_to_z = none_to_y & (z == 0);
-        if none_to_z & (shift.0 == 0) {
+        if none_to_z & (translation.0 == 0) {
             return write!(f, "0");
         }
         let first = Term {
@@ -150,7 +155,7 @@ impl fmt::Display for Row {
             first: none_to_y,
         };
         let number = Number {
-            shift,
+            translation,
             first: none_to_z,
         };
         write!(f, "{first}{second}{third}{number}")

@@ -102,7 +102,7 @@ impl Row {
         ensures { result ≡ with_translation sign number self }
     {
         Row {
-            shift: self.translation + signed_number(sign, number),
+            translation: self.translation + signed_number(sign, number),
             ..self
         }
     }
@@ -132,7 +132,7 @@ impl PartReader {
                 x: 0,
                 y: 0,
                 z: 0,
-                shift: 0,
+                translation: 0,
             },
             used: Used {
                 x: false,

@@ -40,7 +40,7 @@ impl Row {
         x: 0,
         y: 0,
         z: 1,
-        shift: 0,
+        translation: 0,
     };
 
     fn entries(self) -> [i64; 3]
@@ -76,7 +76,7 @@ impl TripletReader {
             x: 0,
             y: 0,
             z: 0,
-            shift: 0,
+            translation: 0,
         };
         TripletReader {
             nth: Nth::First,
