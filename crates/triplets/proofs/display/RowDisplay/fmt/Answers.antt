@@ -12,4 +12,4 @@ returns-clause-writes g c plain ok =
     let z : FitsSigned w64 r.z = search rules in
     let t : FitsSigned w64 r.translation.0 = search rules in
     subst (λ (text : List ℕ). HasWritten {W = g.row.W.Denot} g.W.Write.write_str_gives c.args.f.now text c.write-2.new.self)
-    (sym (coded_row r.x r.y r.z r.translation.0 x y z t c.if-none_to_z-shift.false)) (c.write-2.ensures.writes plain ok)
+    (sym (coded_row r.x r.y r.z r.translation.0 x y z t c.if-none_to_z-translation.false)) (c.write-2.ensures.writes plain ok)
