@@ -34,4 +34,4 @@ pub use listed::Listed;
 pub use miller::{INDEX, Miller, PlaneFault};
 pub use motion::{Motion3, Sign};
 pub use rod::RodMotion;
-pub use rows::{row_image, shift, side};
+pub use rows::{row_image, shift, side, turned_shift};

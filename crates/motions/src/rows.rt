@@ -1,5 +1,5 @@
 // What a motion does to the planes of an orientation.
-ghost use Rattle.std.specs.Prelude.{◌≡◌, ◌↔◌, IsSome, IfSome};
+ghost use Rattle.std.specs.Prelude.{◌≡◌, ◌↔◌, ◌+ℤ◌, ◌*ℤ◌, ◌≤ℤ◌, ◌<ℤ◌, ℤ, pos, IsSome, IfSome, MatchOption};
 ghost use Rattle.symmetry.specs.Frames.{KeepsOrientation, sign_at};
 ghost use Rattle.symmetry.specs.Sizes.{IsSmall, IsVectorWithin};
 ghost use Rattle.symmetry.specs.Vectors.{dot, multiple, opposite, row_times};
@@ -11,6 +11,7 @@ use crate::equality::is_same_row;
 use crate::miller::Miller;
 use crate::motion::{Motion3, Sign};
 use crate::products::{row_by_column, row_by_matrix};
+use fractions::Part;
 
 /// The row `(hkl) W`, which the motion makes of the orientation (hkl).
 pub fn row_image(m: &Motion3, plane: &Miller) -> [i64; 3]
@@ -49,6 +50,22 @@ pub fn shift(m: &Motion3, plane: &Miller) -> i64
     ensures { result ≡ dot (row_of plane.now) (motion_of m.now).translation }
 {
     row_by_column(&plane.row(), m.t[0].0, m.t[1].0, m.t[2].0)
+}
+
+/// The (hkl).w of a motion that turns the row, modulo the period, in parts. None comes exactly where it does not turn
+/// the row.
+pub fn turned_shift(m: &Motion3, plane: &Miller, period: Part) -> Option<i64>
+    requires motion { IsSmall (motion_of m.now) }
+    requires above { pos 1 ≤ℤ period.0 }
+    ensures { let turns = row_times (row_of plane.now) (motion_of m.now).matrix
+        ≡ opposite (row_of plane.now) in
+        MatchOption result (¬ turns) (λ t. turns × (pos 0 ≤ℤ t) × (t <ℤ period.0)
+        × ((k : ℤ) × (t ≡ dot (row_of plane.now) (motion_of m.now).translation +ℤ k *ℤ period.0))) }
+{
+    match side(m, plane)? {
+        Sign::Plus => None,
+        Sign::Minus => Some(shift(m, plane).rem_euclid(period.0)),
+    }
 }
 
 /// The row with each sign changed.

@@ -1,9 +1,7 @@
 // How far the operations that turn the row shift the planes.
-ghost use Rattle.std.specs.Prelude.{◌≡◌, ◌≤◌, ◌+◌, ◌⊎◌, ◌++◌, ◌∷◌, [], ◌≤ℤ◌, ◌<ℤ◌, ◌+ℤ◌, ◌*ℤ◌, ℤ, pos, Any, IfOk, MatchOption, OnOk, vec_len};
+ghost use Rattle.std.specs.Prelude.{◌≤◌, ◌+◌, ◌≤ℤ◌, pos, IfOk, OnOk, vec_len};
 ghost use Rattle.fractions.specs.declared.part.TheConstants.{UNIT};
-ghost use Rattle.symmetry.specs.Sizes.{IsSmall};
-ghost use Rattle.symmetry.specs.Vectors.{dot, opposite, row_times};
-ghost use Rattle.motions.specs.Views.{motion_of, row_of};
+ghost use Rattle.motions.specs.Views.{row_of};
 ghost use Rattle.closure.specs.Groups.{group_listing};
 ghost use Rattle.surveys.specs.Additions.{IsWith};
 ghost use Rattle.surveys.specs.Surveys.{ListsSet};
@@ -11,7 +9,7 @@ ghost use Rattle.surveys.specs.TurnedShifts.{IsTurnedShift};
 
 use closure::Group;
 use fractions::Part;
-use motions::{Miller, Motion3, Sign, shift, side};
+use motions::{Miller, turned_shift};
 use std::alloc::{AllocError, Global};
 
 /// The (hkl).w of the operations that turn the row, modulo the period, each once.
@@ -46,20 +44,4 @@ fn add_shift(shifts: &mut Vec<i64>, shift: i64) -> Result<(), AllocError>
         shifts.push(shift)?;
     }
     Ok(())
-}
-
-/// The (hkl).w of the motion, modulo the period. None comes exactly where it does not turn the row.
-fn turned_shift(m: &Motion3, plane: &Miller, period: Part) -> Option<i64>
-    requires motion { IsSmall (motion_of m.now) }
-    requires from { pos 1 ≤ℤ period.0 }
-    requires most { period.0 ≤ℤ UNIT }
-    ensures { let turns = row_times (row_of plane.now) (motion_of m.now).matrix
-        ≡ opposite (row_of plane.now) in
-        MatchOption result (¬ turns) (λ t. turns × (pos 0 ≤ℤ t) × (t <ℤ period.0)
-        × ((k : ℤ) × (t ≡ dot (row_of plane.now) (motion_of m.now).translation +ℤ k *ℤ period.0))) }
-{
-    match side(m, plane)? {
-        Sign::Plus => None,
-        Sign::Minus => Some(shift(m, plane).rem_euclid(period.0)),
-    }
 }

@@ -15,7 +15,7 @@ overflow_add-level c = let of_level = c.in-Some.ensures in next_fits c.args.fram
 pub loop-m-preserved : goal.loop-m-preserved
 loop-m-preserved c =
     let q = c.args.frame.now in
-    elim c.match-turned_level.branch [
+    elim c.match-turned_shift.branch [
       | in-Some+in_ok-push+in_ok-push-2 w ↦
           let (turns, from, below, (k, is)) = w.in-Some.ensures in
           taken_more (row_of q.plane) q.period.0 c.args.homes.now c.loop-m.m-index _ c.loop-m.levels.items _ w.in-Some.level k

@@ -6,8 +6,7 @@ use Rattle.integers.proofs.Coded.{again}
 use Rattle.motions.specs.declared.motion.Sign.{Sign}
 use Rattle.motions.specs.declared.motion.Sign.TheVariants.{Plus, Minus}
 use Rattle.integers.proofs.Remainders.{rem_between}
-use Rattle.scanning.proofs.Shifts.{period_is}
-use Rattle.scanning.proofs.turned.turned_level.Goals as goal
+use Rattle.motions.proofs.rows.turned_shift.Goals as goal
 
 not_both : (o : Option Sign) → o ≡ Some Plus → o ≡ Some Minus → ⊥
 not_both o p q = let e : Some Plus ≡ Some Minus = sym p ∙ q in cc e
@@ -17,9 +16,11 @@ returns-in-Plus c = λ turns. not_both c.side.result (c.in_ok-side.was ∙ ap So
 
 pub returns-in-Minus : goal.returns-in-Minus
 returns-in-Minus c =
-    let d = c.args.frame.now.period.0 in
+    let d = c.args.period.0 in
     let rest : FitsSigned w64 c.rem_euclid.result = search rules in
     let shift : FitsSigned w64 c.shift.result = search rules in
-    let by = rem_between (again c.shift.result) (again d) _ d (again c.rem_euclid.result) (to_z-of_z w64 c.shift.result shift ∙ c.shift.ensures) (period_is c.args.frame.now)
-    (to_z-of_z w64 c.rem_euclid.result rest ∙ c.rem_euclid.ensures.value) c.args.frame.now.above in
+    let period : FitsSigned w64 d = search rules in
+    let by = rem_between (again c.shift.result) (again d) _ d (again c.rem_euclid.result) (to_z-of_z w64 c.shift.result shift ∙ c.shift.ensures)
+    (to_z-of_z w64 d period)
+    (to_z-of_z w64 c.rem_euclid.result rest ∙ c.rem_euclid.ensures.value) c.requires.above in
     ((c.side.ensures.sign Minus).0 (c.in_ok-side.was ∙ ap Some c.in-Minus.is), by.0, by.1, by.2)
