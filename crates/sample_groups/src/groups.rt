@@ -15,7 +15,13 @@ use fractions::Part;
 use motions::{Listed, Motion3};
 use std::alloc::Global;
 
-fn group_of(alloc: Global, ops: &[Motion3], centrings: &[[Part; 3]]) -> Result<Group, GroupError>
+/// The group with these motions and centring vectors, in parts. An error comes exactly where they are no group, or memory
+/// ran out.
+pub fn group_of(
+    alloc: Global,
+    ops: &[Motion3],
+    centrings: &[[Part; 3]],
+) -> Result<Group, GroupError>
     requires ops { All (λ m. IsSmallWithin (unsigned_abs MAX_ENTRY) (motion_of m)) ops.now }
     requires centrings { All (λ v. IsVectorWithin (2 ^ 40) (parts v)) centrings.now }
 {

@@ -109,7 +109,7 @@ pub const FOURFOLD_SCREW: [Motion3; 4] = [
 ];
 
 /// P3: x,y,z; -y,x-y,z; -x+y,-x,z
-pub(crate) const THREEFOLD: [Motion3; 3] = [
+pub const THREEFOLD: [Motion3; 3] = [
     IDENTITY,
     Motion3 {
         w: [[0, -1, 0], [1, -1, 0], [0, 0, 1]],
