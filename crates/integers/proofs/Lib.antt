@@ -7,3 +7,4 @@ pub mod Divisors
 pub mod Sums
 pub mod Division
 pub mod Remainders
+pub mod Wide

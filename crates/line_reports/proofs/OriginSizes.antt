@@ -1,17 +1,14 @@
 -- How large the numbers are that an origin is written with.
-use Rattle.std.proofs.Common.{◌≡◌, ℕ, ◌*◌, ◌^◌, ◌<◌, ℤ, ◌+ℤ◌, pos, ◌*ℤ◌, ◌≤ℤ◌, List, [], ◌∷◌, ap, arith, ◌∙◌}
+use Rattle.std.proofs.Common.{◌≡◌, ℕ, ◌*◌, ℤ, ◌+ℤ◌, pos, ◌*ℤ◌, ◌≤ℤ◌, List, [], ◌∷◌, arith}
 use Rattle.std.specs.Prelude.{unsigned_abs}
 use Rattle.std.proofs.lemmas.Int.{ints}
 use Rattle.fractions.specs.declared.part.TheConstants.{UNIT}
 use Rattle.fractions.specs.LowestTerms.{lowest_terms}
 use Rattle.fractions.proofs.Lowest.{lowest_terms-same}
 use Rattle.friezes.specs.declared.found_frieze.TheConstants.{GRID}
-use Rattle.integers.specs.Size.{IsWithin}
-use Rattle.integers.proofs.Coded.{again, again_is}
 use Rattle.integers.proofs.Order.{one-le-mul}
 use Rattle.integers.proofs.Solver.{Expr, Expr.{var, num, ◌⊕◌, ◌⊗◌}, ring}
 use Rattle.plane_lattice.specs.Bounds.{largest_entry, largest_period}
-use Rattle.plane_lattice.proofs.Wide.{wide, wide_is}
 
 -- x a
 abbrev pub grid_bounds : List ℕ
@@ -54,7 +51,3 @@ without_unit n den d t v h k =
   where
     not_zero : (x : ℤ) → pos 1 ≤ℤ x → ¬ (x ≡ pos 0)
     not_zero x h = omega (arith, ints)
-
--- a number that goes through 128 and 64 bits
-pub word_is : (n : ℕ) (z t : ℤ) → n < 2 ^ 63 → IsWithin n t → z ≡ t → again (wide z) ≡ t
-word_is n z t below within e = ap again (ap wide e ∙ wide_is n t (omega arith) within) ∙ again_is t n within below

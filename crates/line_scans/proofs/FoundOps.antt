@@ -6,6 +6,7 @@ use Rattle.integers.specs.Size.{IsWithin}
 use Rattle.integers.proofs.Coded.{again, again_is, code_is, code_within, fits_within}
 use Rattle.integers.proofs.Order.{mul_left_cancel_pos}
 use Rattle.integers.proofs.Solver.{Expr.{var, num, ◌⊗◌}, linear}
+use Rattle.integers.proofs.Wide.{wide, wide_is}
 use Rattle.symmetry.specs.Vectors.{Vector, image, multiple, row_times}
 use Rattle.symmetry.specs.Motions.{Motion}
 use Rattle.symmetry.specs.Frames.{Basis}
@@ -16,7 +17,6 @@ use Rattle.plane_lattice.specs.Coordinates.{volume}
 use Rattle.plane_lattice.specs.Sections.{drift}
 use Rattle.plane_lattice.specs.declared.frame.Frame.{Frame}
 use Rattle.plane_lattice.proofs.Steps.{step_within}
-use Rattle.plane_lattice.proofs.Wide.{wide, wide_is}
 use Rattle.scanning.specs.Bounds.{largest_level, largest_shift}
 use Rattle.scanning.proofs.Shifts.{period_is, period_within}
 use Rattle.line_scans.specs.LineOps.{HasLineOp, IsLineOp, IsStep}

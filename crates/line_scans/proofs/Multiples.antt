@@ -1,10 +1,8 @@
 -- Multiples of the first vector of a basis, as the code finds them.
-use Rattle.std.proofs.Common.{◌≡◌, ℕ, ◌*◌, ◌≤◌, ℤ, pos, ◌+ℤ◌, ◌*ℤ◌, ◌≤ℤ◌, [], ◌∷◌, nat_abs, FitsSigned, w64, sym, ap, subst, ◌∙◌, arith}
-use Rattle.std.specs.Int.{w128}
-use Rattle.std.proofs.lemmas.Int.{ints, to_z-of_z}
+use Rattle.std.proofs.Common.{◌≡◌, ℕ, ◌*◌, ◌≤◌, ℤ, pos, ◌+ℤ◌, ◌*ℤ◌, ◌≤ℤ◌, [], ◌∷◌, nat_abs, sym, ap, ◌∙◌, arith}
+use Rattle.std.proofs.lemmas.Int.{ints}
 use native.Mathlib.Decide.{dec_lt}
 use Rattle.integers.specs.Size.{IsWithin}
-use Rattle.integers.proofs.Coded.{again}
 use Rattle.integers.proofs.Ring.{abs-mul}
 use Rattle.integers.proofs.Solver.{Expr.{var, num, ◌⊕◌, ◌⊝◌, ◌⊗◌}, linear, given}
 use Rattle.symmetry.specs.Vectors.{Vector, cross, dot, multiple, plus}
@@ -13,7 +11,6 @@ use Rattle.symmetry.specs.Sizes.{IsVectorWithin}
 use Rattle.symmetry.proofs.VectorLaws.{vector_path}
 use Rattle.plane_lattice.specs.Coordinates.{IsCombination, volume}
 use Rattle.plane_lattice.proofs.Cramer.{combination_once}
-use Rattle.plane_lattice.proofs.Wide.{wide}
 
 no_smaller : (p q : ℕ) → 1 ≤ q → p ≤ p * q
 no_smaller p q h = grind arith
@@ -75,10 +72,3 @@ module _ (f : Basis) (above : pos 1 ≤ℤ volume f) where
             ]
           ]
         ]
-
--- a number that fits 64 bits goes through 128
-pub narrow_fits : (z : ℤ) → FitsSigned w128 z → FitsSigned w64 z → FitsSigned w64 (wide z)
-narrow_fits z f h = let P : ℤ → Type 0 = FitsSigned w64 in subst P (sym (to_z-of_z w128 z f)) h
-
-pub narrow_is : (z : ℤ) → FitsSigned w128 z → FitsSigned w64 z → again (wide z) ≡ z
-narrow_is z f h = ap again (to_z-of_z w128 z f) ∙ to_z-of_z w64 z h

@@ -6,9 +6,9 @@ use Rattle.fractions.specs.FractionOf.{fraction_of}
 use Rattle.fractions.specs.LowestTerms.{lowest_terms}
 use Rattle.friezes.specs.declared.found_frieze.TheConstants.{GRID}
 use Rattle.integers.proofs.Coded.{again}
+use Rattle.integers.proofs.Wide.{wide, word_is}
 use Rattle.plane_lattice.specs.Bounds.{largest_period}
-use Rattle.plane_lattice.proofs.Wide.{wide}
-use Rattle.line_reports.proofs.OriginSizes.{without_unit, word_is}
+use Rattle.line_reports.proofs.OriginSizes.{without_unit}
 use Rattle.line_reports.proofs.named.origin_entry.Goals as goal
 
 pub returns : goal.returns

@@ -5,11 +5,10 @@ use Rattle.fractions.specs.declared.part.TheConstants.{UNIT}
 use Rattle.fractions.specs.FractionOf.{fraction_of}
 use Rattle.fractions.specs.LowestTerms.{lowest_terms}
 use Rattle.integers.proofs.Coded.{again}
+use Rattle.integers.proofs.Wide.{wide, word_is}
 use Rattle.plane_lattice.specs.Bounds.{largest_period}
-use Rattle.plane_lattice.proofs.Wide.{wide}
 use Rattle.recognition.specs.Grid.{grid}
 use Rattle.report.proofs.NamedSizes.{without_unit}
-use Rattle.report.proofs.StepNumbers.{word_is}
 use Rattle.report.proofs.named.origin_entry.Goals as goal
 
 pub returns : goal.returns
