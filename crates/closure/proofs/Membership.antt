@@ -1,8 +1,9 @@
 -- The tests of the code: arrays of parts as vectors, and residues that are listed.
-use Rattle.std.proofs.Common.{◌≡◌, ℕ, suc, ◌<◌, Bool, true, false, ◌&&◌, ◌||◌, arith, refl, ap, ◌∙◌, List, [], ◌∷◌, length, get_or, map}
+use Rattle.std.proofs.Common.{◌≡◌, ℕ, suc, ◌<◌, Bool, ◌||◌, arith, refl, ap, ◌∙◌, List, [], ◌∷◌, length, get_or, map}
 use Rattle.std.specs.List.{list_any}
 use Rattle.std.specs.Ordering.{int_eq}
 use lib.Pointwise.{pointwise}
+use Rattle.integers.proofs.Booleans.{bracketed}
 use Rattle.fractions.specs.declared.part.Part.{Part}
 use Rattle.symmetry.specs.Vectors.{Vector}
 use Rattle.symmetry.specs.Frames.{same_vector}
@@ -20,12 +21,6 @@ three_entries (a ∷ b ∷ c ∷ d ∷ r) e = absurd (omega arith)
 
 abbrev same_part : Part → Part → Bool
 same_part a b = int_eq a.0 b.0
-
-bracketed : (a b c : Bool) → (a && (b && (c && true))) ≡ (a && b && c)
-bracketed true true true = refl
-bracketed true true false = refl
-bracketed true false c = refl
-bracketed false b c = refl
 
 -- equality entry by entry is that of the vectors
 pointwise-parts : (r s : List Part) → length r ≡ 3 → length s ≡ 3 → pointwise same_part r s ≡ same_vector (parts r) (parts s)

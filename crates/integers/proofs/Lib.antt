@@ -8,3 +8,5 @@ pub mod Sums
 pub mod Division
 pub mod Remainders
 pub mod Wide
+pub mod Sizes
+pub mod Booleans

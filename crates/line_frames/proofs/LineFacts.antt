@@ -3,6 +3,7 @@ use Rattle.std.proofs.Common.{◌≡◌, ◌≢◌, ◌⊎◌, inl, inr, ℤ, po
 use Rattle.std.proofs.lemmas.Int.{ints}
 use Rattle.integers.proofs.Ring.{mul-eq-one, mul_right_cancel}
 use Rattle.integers.proofs.Solver.{Expr.{var, num, ◌⊕◌, ◌⊝◌, ◌⊗◌}, linear, given, ring}
+use Rattle.integers.proofs.Order.{zero_or_not}
 use Rattle.symmetry.specs.Vectors.{Vector, multiple, dot}
 use Rattle.symmetry.specs.Groups.{Listing, IsInLattice}
 use Rattle.symmetry.specs.Planes.{IsCoprime}
@@ -15,7 +16,7 @@ use Rattle.motions.specs.Laws.PlaneMatrixLaws.{pair_path}
 use Rattle.line_frames.specs.Lines.{first_two, in_space, times2, IsAlong, IsBefore, IsInPlaneLattice, IsLineFrame, IsLinePeriod, IsReducedAlong}
 use Rattle.line_frames.specs.Searches.{along_lines, coordinate, IsFirstAbove, IsForwardAlong, IsRepeat}
 use Rattle.line_frames.proofs.Forward.{a_inside, multiple_of_a}
-use Rattle.line_frames.proofs.Points.{coordinate_x, coordinate_y, zero_or_not}
+use Rattle.line_frames.proofs.Points.{coordinate_x, coordinate_y}
 
 module _ (r : Vector) where
   pub dot-in_space : (v : Pair) → dot r (in_space v) ≡ dot2 (first_two r) v

@@ -4,6 +4,7 @@ use Rattle.std.specs.Prelude.{Contains}
 use Rattle.std.proofs.lemmas.Int.{ints}
 use Rattle.integers.proofs.Ring.{mul-eq-one, mul_right_cancel}
 use Rattle.integers.proofs.Solver.{Expr.{var, num, ◌⊕◌, ◌⊗◌}, linear, given, ring}
+use Rattle.integers.proofs.Order.{zero_or_not}
 use Rattle.symmetry.specs.Vectors.{Vector, Matrix, plus, minus, multiple, opposite, dot, image, row_times, product, unit_matrix}
 use Rattle.symmetry.specs.Motions.{Motion}
 use Rattle.symmetry.specs.Groups.{Listing, IsGroup, IsInLattice, IsMember}
@@ -24,7 +25,7 @@ use Rattle.line_frames.specs.Searches.{along_lines, coordinate, IsForwardAlong, 
 use Rattle.line_frames.proofs.Along.{dot-along_lines}
 use Rattle.line_frames.proofs.Halves.{doubled, factor_entry, half_entry, half_fraction, some_product}
 use Rattle.line_frames.proofs.Forward.{a_inside, multiple_of_a}
-use Rattle.line_frames.proofs.Points.{coordinate_x, coordinate_y, zero_or_not}
+use Rattle.line_frames.proofs.Points.{coordinate_x, coordinate_y}
 
 -- multiples of a vector with a coordinate are equal by equal factors alone
 factor_once : (r a : Vector) → pos 1 ≤ℤ coordinate r a → (k l : ℤ) → multiple k a ≡ multiple l a → k ≡ l
