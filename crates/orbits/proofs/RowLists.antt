@@ -17,6 +17,7 @@ use Rattle.symmetry.specs.Motions.{Motion}
 use Rattle.symmetry.specs.Groups.{Listing}
 use Rattle.symmetry.specs.Frames.{same_vector}
 use Rattle.symmetry.specs.Sizes.{IsSmall, IsVectorWithin}
+use Rattle.quotient.proofs.ListLaws.{three_items}
 use Rattle.motions.specs.ListedSizes.{IsSmallWithin}
 use Rattle.motions.specs.Laws.MotionLaws.{same_vector-is}
 use Rattle.motions.specs.Views.{motion_of, vector_of}
@@ -31,17 +32,10 @@ pub record AreRowsOf (r : Vector) (ms : List Motion) (rows : List Vector) : Type
 
 -- ---- rows that are listed
 
-three_numbers : (r : List ℤ) → length r ≡ 3 → r ≡ get_or r 0 (pos 0) ∷ get_or r 1 (pos 0) ∷ get_or r 2 (pos 0) ∷ []
-three_numbers [] e = absurd (omega arith)
-three_numbers (a ∷ []) e = absurd (omega arith)
-three_numbers (a ∷ b ∷ []) e = absurd (omega arith)
-three_numbers (a ∷ b ∷ c ∷ []) e = refl
-three_numbers (a ∷ b ∷ c ∷ d ∷ r) e = absurd (omega arith)
-
 -- equality entry by entry is that of the rows
 pointwise-row : (r s : List ℤ) → length r ≡ 3 → length s ≡ 3 → pointwise int_eq r s ≡ same_vector (vector_of r) (vector_of s)
 pointwise-row r s h k =
-    (λ i. pointwise int_eq (three_numbers r h i) (three_numbers s k i))
+    (λ i. pointwise int_eq (three_items r (pos 0) h i) (three_items s (pos 0) k i))
     ∙ bracketed (int_eq (get_or r 0 (pos 0)) (get_or s 0 (pos 0))) (int_eq (get_or r 1 (pos 0)) (get_or s 1 (pos 0))) (int_eq (get_or r 2 (pos 0)) (get_or s 2 (pos 0)))
 
 list_any-rows : (rs : List (List ℤ)) (s : List ℤ) → ((i : ℕ) → i < length rs → length (get_or rs i []) ≡ 3) → length s ≡ 3

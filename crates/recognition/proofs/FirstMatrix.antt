@@ -3,12 +3,12 @@ use Rattle.std.proofs.Common.{◌≡◌, ℕ, ◌<◌, inl, inr, ℤ, Bool, List
 use Rattle.std.proofs.lemmas.Int.{ints}
 use Rattle.std.proofs.lemmas.List.{get_or_default, get_or-map, length-map}
 use Rattle.integers.proofs.Order.{compare_nat}
+use Rattle.quotient.proofs.ListLaws.{All-from_map, Contains-from_map}
 use Rattle.motions.specs.PlaneMatrices.{Matrix2}
 use Rattle.motions.specs.PlaneViews.{matrix2_of}
 use Rattle.recognition.specs.Order.{IsBoundedMatrix, IsGreater, IsMatrixBefore}
 use Rattle.recognition.specs.Search.{HasNoMatrix, IsFirstMatrix, IsLeastOrigin, IsMatrixTable, IsNowhere}
 use Rattle.recognition.specs.Listed.{TakesLattice}
-use Rattle.recognition.proofs.Lists.{All-from_map, Contains-from_map}
 
 -- ---- the order
 

@@ -5,6 +5,7 @@ use Rattle.std.proofs.lemmas.Int.{ints}
 use Rattle.std.proofs.lemmas.List.{get_or-map, length-map}
 use Rattle.integers.proofs.Order.{compare_nat}
 use Rattle.quotient.specs.Kind.{Keeps}
+use Rattle.quotient.proofs.ListLaws.{All-from_map}
 use Rattle.motions.specs.declared.layer.LayerMotion.{LayerMotion}
 use Rattle.motions.specs.PlaneMatrices.{Matrix2, image2}
 use Rattle.motions.specs.PlaneViews.{matrix2_of}
@@ -17,7 +18,6 @@ use Rattle.layer_types.specs.Rows.{layer_row}
 use Rattle.layer_types.specs.Laws.ShiftLaws.{keeps_is}
 use Rattle.recognition.specs.Sections.{IsSection}
 use Rattle.recognition.specs.Listed.{AreDistinct, IsReady, KeepsCentring, KeepsLattice}
-use Rattle.recognition.proofs.Lists.{All-from_map}
 
 -- ---- a type
 

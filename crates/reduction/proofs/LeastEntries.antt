@@ -6,8 +6,8 @@ use Rattle.std.proofs.lemmas.List.{get_or_default}
 use Rattle.std.proofs.lemmas.List.Elements.{Contains-get_or}
 use Rattle.integers.proofs.Order.{last_or_before}
 use Rattle.fractions.specs.declared.part.Part.{Part}
+use Rattle.quotient.proofs.ListLaws.{Contains-map}
 use Rattle.motions.specs.Views.{parts}
-use Rattle.closure.specs.Laws.ListLaws.{Contains-map}
 use Rattle.reduction.specs.LeadingEntries.{leading_entry}
 
 -- no entry among the first i is less

@@ -15,6 +15,7 @@ use Rattle.symmetry.specs.Lists.{IsListOf}
 use Rattle.symmetry.specs.Scans.{GivesAt, general, special, IsScan, SpecialHeight, StandsAt, special_at}
 use Rattle.symmetry.proofs.Heights.{at_in_period}
 use Rattle.symmetry.proofs.ScanLists.{scan_list}
+use Rattle.quotient.proofs.Zips.{zip_map_both}
 use Rattle.motions.specs.declared.motion.Motion3.{Motion3}
 use Rattle.motions.specs.ListedSizes.{IsSmallWithin}
 use Rattle.motions.specs.Views.{motion_of, row_of}
@@ -30,7 +31,6 @@ use Rattle.scanning.proofs.ChosenLists.{op_has}
 use Rattle.scanning.proofs.MovedLists.{moved_are_conjugated}
 use Rattle.scanning.proofs.Places.{periods_within}
 use Rattle.scanning.proofs.Wide.{wide, wide_is}
-use Rattle.scanning.proofs.Zips.{zip_map_both}
 
 -- the height at an index, as the code reads it
 module _ (hs : List Height) (i : ℕ) (h : Height) (within : i < length hs) (is : h ≡ get_or hs i h) where

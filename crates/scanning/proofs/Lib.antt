@@ -18,4 +18,3 @@ pub mod SameMotions
 pub mod Shifts
 pub mod TurnedLevels
 pub mod Wide
-pub mod Zips
