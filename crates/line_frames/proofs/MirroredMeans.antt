@@ -19,8 +19,9 @@ use Rattle.symmetry.proofs.Signs.{row_sign, sign-square, sign_is}
 use Rattle.symmetry.proofs.VectorLaws.{vector_path, dot-multiple, dot-minus_same, multiple-dot, minus-plus, plus_comm}
 use Rattle.plane_motions.specs.PlaneMotions.{IsFlat}
 use Rattle.fractions.specs.declared.ratio.Ratio.{Ratio}
+use Rattle.fractions.specs.Fractions.{fraction_at}
 use Rattle.symmetry.specs.HeightMotions.{IsSign}
-use Rattle.plane_lattice.specs.Scanning.{fraction_at, IsPointOf}
+use Rattle.plane_lattice.specs.Scanning.{IsPointOf}
 use Rattle.line_frames.specs.Searches.{along_lines, coordinate, IsForwardAlong, IsMeanUp, IsOtherUp, IsRepeat, IsUp, other, same}
 use Rattle.line_frames.proofs.Along.{dot-along_lines}
 use Rattle.line_frames.proofs.Halves.{doubled, factor_entry, half_entry, half_fraction, some_product}

@@ -82,3 +82,7 @@ frieze_text m =
 abbrev pub placed : Bool → List ℕ → List ℕ
 placed true text = without_leading_plus text
 placed false text = text
+
+-- the line of the number and the symbol of a type
+unfoldable pub number_line : ℕ → List ℕ → List ℕ
+number_line n symbol = codes "type " ++ decimal n ++ codes " " ++ symbol ++ codes "\n"
