@@ -2,7 +2,7 @@
 use Rattle.std.proofs.Common.{◌≡◌, ◌⊎◌, inl, inr, ℕ, suc, ◌<◌, ℤ, pos, negsuc, ◌+ℤ◌, ◌*ℤ◌, ◌≤ℤ◌, cond, List, [], ◌∷◌, length, refl, sym, ap, subst, ◌∙◌, arith}
 use Rattle.std.specs.Prelude.{Contains}
 use Rattle.std.proofs.lemmas.Int.{ints}
-use Rattle.integers.proofs.Ring.{mul-eq-one, mul_right_cancel}
+use Rattle.integers.proofs.Ring.{mul-eq-one, mul_right_cancel, mul_zero}
 use Rattle.integers.proofs.Solver.{Expr.{var, num, ◌⊕◌, ◌⊗◌}, linear, given, ring}
 use Rattle.integers.proofs.Order.{zero_or_not}
 use Rattle.symmetry.specs.Vectors.{Vector, Matrix, plus, minus, multiple, opposite, dot, image, row_times, product, unit_matrix}
@@ -62,10 +62,7 @@ module _ (g : Listing) (r : Vector) (coprime : IsCoprime r) (line : r.z ≡ pos 
   kept_along : (m : Motion) → KeepsOrientation r m → (v : Vector) → dot r v ≡ pos 0 → dot r (image m.matrix v) ≡ pos 0
   kept_along m keeps v h =
       let (d, _, row) = row_sign r m keeps in
-      sym (row_times-dot r m.matrix v) ∙ ap (λ t. dot t v) row ∙ multiple-dot d r v ∙ ap (λ z. d *ℤ z) h ∙ none d
-    where
-      none : (d : ℤ) → d *ℤ pos 0 ≡ pos 0
-      none d = omega (arith, ints)
+      sym (row_times-dot r m.matrix v) ∙ ap (λ t. dot t v) row ∙ multiple-dot d r v ∙ ap (λ z. d *ℤ z) h ∙ mul_zero d
 
   -- W a is a multiple of a
   image_a : (m : Motion) → IsMember g m → dot r (image m.matrix a) ≡ pos 0 → (c : ℤ) × (image m.matrix a ≡ multiple c a)
