@@ -11,10 +11,10 @@ use Rattle.symmetry.specs.Vectors.{Vector, origin, plus, minus, multiple, opposi
 use Rattle.symmetry.specs.Groups.{Listing, IsInLattice, zero_vector, added, subtracted}
 use Rattle.symmetry.proofs.VectorLaws.{vector_path, minus-plus, plus-origin, multiple-suc, multiple-zero, plus-minus_last, multiple-one}
 use Rattle.symmetry.proofs.LatticeLaws.{lattice-plus, lattice-minus, lattice-opposite, lattice-made, lattice-multiple}
+use Rattle.quotient.proofs.ListLaws.{AllPairs-append, AllPairs-map, Contains-map, Contains-from_map}
 use Rattle.closure.specs.Residues.{residue}
 use Rattle.closure.specs.Spans.{AreResiduesOf, coset, with_centring}
 use Rattle.closure.specs.Fineness.{IsTooFine}
-use Rattle.closure.specs.Laws.ListLaws.{AllPairs-append, AllPairs-map, Contains-map, Contains-from_map}
 use Rattle.closure.specs.Laws.ResidueLaws.{residue-same, residue-residue, residue-plus, residue-minus}
 use Rattle.closure.proofs.Spans.{lattice-by_residue, generates_with, lattice-with, lattice-centring}
 

@@ -9,10 +9,10 @@ use Rattle.std.proofs.lemmas.Map.Views.{Contains-from_any}
 use borrow.Author.Tests.{eqb-true}
 use Rattle.symmetry.specs.Vectors.{Vector, origin}
 use Rattle.symmetry.specs.Groups.{Listing, IsInLattice}
+use Rattle.quotient.proofs.ListLaws.{distinct_from_apart}
 use Rattle.closure.specs.Residues.{residue}
 use Rattle.closure.specs.Fineness.{IsTooFine}
 use Rattle.closure.specs.Spans.{AreResiduesOf}
-use Rattle.closure.specs.Laws.ListLaws.{distinct_from_apart}
 use Rattle.closure.specs.Laws.ResidueLaws.{whole_from_residues}
 
 pub different : (m n : ℕ) → ¬ (m ≡ n) → eqb m n ≡ false

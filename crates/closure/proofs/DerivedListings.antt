@@ -9,11 +9,11 @@ use Rattle.quotient.specs.Closure.IsProduct.{empty, further}
 use Rattle.symmetry.specs.Vectors.{Matrix, image, minus, product}
 use Rattle.symmetry.specs.Motions.{Motion, followed_by, identity}
 use Rattle.symmetry.specs.Groups.{Listing, IsInLattice, IsMember, IsGroup, SameModulo}
+use Rattle.quotient.proofs.ListLaws.{AllPairs-map}
 use Rattle.closure.specs.Generated.{InGeneratedLattice, IsTooLarge, IsTooLarge.{many}, IsGenerated, IsGeneratedMatrix, IsGeneratedMatrix.{one_more}, AllInvertible, IsDerivedListing}
 use Rattle.closure.specs.Fineness.{IsTooFine}
 use Rattle.closure.specs.GroupErrors.{IsWithinLimits}
 use Rattle.closure.specs.Derived.{GeneratesWithinLimits}
-use Rattle.closure.specs.Laws.ListLaws.{AllPairs-map}
 use Rattle.closure.specs.ClosedLists.{HasMatrixOf, IsMatrixClosed, IsLatticeClosed}
 use Rattle.closure.proofs.GeneratedLemma.{generated_products, generated_is_covered}
 use Rattle.closure.proofs.GeneratedGroup.{generated_inverse, generated_shift, difference_generated, image_generated}

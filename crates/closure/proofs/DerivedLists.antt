@@ -5,9 +5,9 @@ use Rattle.std.proofs.lemmas.List.{map_more, map-append}
 use Rattle.std.proofs.lemmas.List.Elements.{Contains-append_left, Contains-push, Contains-push_cases}
 use Rattle.symmetry.specs.Vectors.{unit_matrix}
 use Rattle.symmetry.specs.Motions.{Motion}
+use Rattle.quotient.proofs.ListLaws.{AllPairs-append}
 use Rattle.motions.specs.declared.motion.Motion3.{Motion3}
 use Rattle.motions.specs.Views.{motion_of}
-use Rattle.closure.specs.Laws.ListLaws.{AllPairs-append}
 use Rattle.closure.specs.declared.lattice.Lattice.{Lattice}
 use Rattle.closure.specs.Lattices.{IsHome}
 use Rattle.closure.specs.Derived.{AreOthersAtHome, IsOtherAtHome}

@@ -6,11 +6,11 @@ use Rattle.std.proofs.lemmas.List.Kept.{AllPairs-cons}
 use Rattle.symmetry.specs.Vectors.{Vector, origin}
 use Rattle.symmetry.specs.Groups.{Listing, Generates, IsInLattice}
 use Rattle.symmetry.proofs.LatticeLaws.{lattice-made}
+use Rattle.quotient.proofs.ListLaws.{nothing_contained}
 use Rattle.closure.specs.declared.lattice_fault.LatticeFault.{LatticeFault}
 use Rattle.closure.specs.declared.lattice_fault.LatticeFault.TheVariants.{TooFine, NoMemory}
 use Rattle.closure.specs.Residues.{residue}
 use Rattle.closure.specs.Laws.ResidueLaws.{residue-residue}
-use Rattle.closure.specs.Laws.ListLaws.{nothing_contained}
 use Rattle.closure.specs.Spans.{AreResiduesOf, with_centring}
 use Rattle.closure.specs.Fineness.{centrings_alone}
 use Rattle.closure.specs.Faults.{IsLatticeFault}

@@ -11,7 +11,7 @@ use Rattle.quotient.specs.Lists.AreFirst.{none, kept, left_out}
 use Rattle.quotient.proofs.Firsts.{Contains-from_firsts, firsts_cover}
 use Rattle.symmetry.specs.Motions.{Motion, identity}
 use Rattle.symmetry.specs.Lists.{IsFirstPlace, ComesBefore, motion_at}
-use Rattle.closure.specs.Laws.ListLaws.{AllPairs-front}
+use Rattle.quotient.proofs.ListLaws.{AllPairs-front}
 
 -- ---- a list of which no two are the same
 

@@ -12,13 +12,13 @@ use Rattle.symmetry.specs.Groups.{Listing, Generates, IsInLattice, IsMember, IsG
 use Rattle.symmetry.specs.Sizes.{IsMatrixWithin}
 use Rattle.symmetry.proofs.VectorLaws.{minus-plus-minus}
 use Rattle.symmetry.proofs.LatticeLaws.{lattice-made, lattice-plus, same_refl, same_sym, same_trans}
+use Rattle.quotient.proofs.ListLaws.{Contains-map}
 use Rattle.motions.specs.declared.motion.Motion3.{Motion3}
 use Rattle.motions.specs.Views.{motion_of}
 use Rattle.closure.specs.declared.lattice.Lattice.{Lattice}
 use Rattle.closure.specs.Residues.{residue}
 use Rattle.closure.specs.Laws.ResidueLaws.{has_residue-is, residue-residue}
 use Rattle.closure.specs.Lattices.{residues_of, IsLatticeOf}
-use Rattle.closure.specs.Laws.ListLaws.{Contains-map}
 use Rattle.closure.specs.Operations.{listing_with, AreApart, HasSmallEntries, HoldsTranslations}
 use Rattle.closure.specs.Laws.ShiftLaws.{residues-reduced}
 use Rattle.closure.specs.Generated.{generating_kind, IsGenerated, IsGeneratedMatrix, IsGeneratedMatrix.{no_matrix, one_more}, InGeneratedLattice, AllInvertible, IsLeast, IsDerived, least_form, entries_of, IsTooLarge, IsTooLarge.{many, large}}

@@ -8,9 +8,9 @@ use Rattle.symmetry.specs.Vectors.{Vector, unit_matrix}
 use Rattle.symmetry.specs.Motions.{Motion, translation}
 use Rattle.symmetry.specs.Groups.{Listing, Generates}
 use Rattle.symmetry.proofs.MotionLaws.{motion_path}
+use Rattle.quotient.proofs.ListLaws.{nothing_contained}
 use Rattle.motions.specs.declared.motion.Motion3.{Motion3}
 use Rattle.motions.specs.Views.{parts, motion_of}
-use Rattle.closure.specs.Laws.ListLaws.{nothing_contained}
 use Rattle.closure.specs.Fineness.{centrings_alone}
 
 -- the vectors are the centring vectors and those of the listed translations

@@ -16,9 +16,9 @@ use Rattle.closure.specs.declared.lattice_fault.LatticeFault.TheVariants.{TooFin
 use Rattle.closure.specs.Faults.{IsLatticeFault}
 use Rattle.integers.proofs.Remainders.{Divides-zero, Divides-self}
 use Rattle.symmetry.proofs.VectorLaws.{minus-origin}
+use Rattle.quotient.proofs.ListLaws.{nothing_contained}
 use Rattle.closure.specs.Fineness.{centrings_alone, IsTooFine}
 use Rattle.closure.specs.Spans.{AreResiduesOf, with_centring}
-use Rattle.closure.specs.Laws.ListLaws.{nothing_contained}
 use Rattle.closure.specs.Laws.ResidueLaws.{whole-origin, whole-plus, whole-minus, whole_from_residues, residue-same}
 use Rattle.closure.proofs.Spans.{lattice-whole, lattice-more}
 

@@ -8,12 +8,12 @@ use Rattle.symmetry.specs.Vectors.{Vector, origin, image}
 use Rattle.symmetry.specs.Motions.{Motion, followed_by}
 use Rattle.symmetry.specs.Groups.{Listing, Generates, IsInLattice, zero_vector}
 use Rattle.symmetry.proofs.LatticeLaws.{lattice-made, lattice-image}
+use Rattle.quotient.proofs.ListLaws.{nothing_contained}
 use Rattle.motions.specs.Views.{parts}
 use Rattle.closure.specs.declared.lattice_fault.LatticeFault.{LatticeFault}
 use Rattle.closure.specs.declared.lattice_fault.LatticeFault.TheVariants.{TooFine, NoMemory}
 use Rattle.closure.specs.Residues.{residue}
 use Rattle.closure.specs.Laws.ResidueLaws.{whole-image, residue-residue}
-use Rattle.closure.specs.Laws.ListLaws.{nothing_contained}
 use Rattle.closure.specs.Spans.{AreResiduesOf}
 use Rattle.closure.specs.Fineness.{centrings_alone, IsTooFine}
 use Rattle.closure.specs.Faults.{IsLatticeFault}

@@ -6,12 +6,12 @@ use Rattle.std.proofs.lemmas.List.Elements.{All-contains, All-map}
 use Rattle.symmetry.specs.Vectors.{Matrix, origin}
 use Rattle.symmetry.specs.Motions.{Motion}
 use Rattle.symmetry.proofs.MotionLaws.{motion_path}
+use Rattle.quotient.proofs.ListLaws.{Contains-map}
 use Rattle.motions.specs.declared.motion.Motion3.{Motion3}
 use Rattle.motions.specs.Views.{motion_of}
 use Rattle.motions.specs.Equality.{same_motion}
 use Rattle.motions.specs.Laws.MotionLaws.{same_motion-is}
 use Rattle.closure.specs.ClosedLists.{HasMatrixOf}
-use Rattle.closure.specs.Laws.ListLaws.{Contains-map}
 
 pub same_matrix_test : (a b : Motion) (v w : Matrix) → a ≡ record { matrix = v; translation = origin } → b ≡ record { matrix = w; translation = origin }
     → (r : Bool) → r ≡ same_motion a b → IsTrue r ↔ (v ≡ w)

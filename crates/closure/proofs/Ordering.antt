@@ -17,12 +17,12 @@ use Rattle.symmetry.specs.Vectors.{Matrix}
 use Rattle.symmetry.specs.Motions.{Motion, identity}
 use Rattle.symmetry.proofs.VectorLaws.{vector_path}
 use Rattle.symmetry.proofs.MatrixLaws.{matrix_path}
+use Rattle.quotient.proofs.ListLaws.{AllPairs-map, distinct_from_apart, apart_from_distinct}
 use Rattle.motions.specs.declared.motion.Motion3.{Motion3}
 use Rattle.motions.specs.Equality.{same_matrix}
 use Rattle.motions.specs.Laws.MotionLaws.{same_matrix-is}
 use Rattle.motions.specs.Views.{motion_of}
 use Rattle.closure.specs.declared.lattice.Lattice.{Lattice}
-use Rattle.closure.specs.Laws.ListLaws.{AllPairs-map, distinct_from_apart, apart_from_distinct}
 use Rattle.closure.specs.Generated.{entries_of}
 use Rattle.closure.specs.Derived.{AreOthersAtHome, AreFalling, IsOrdered}
 

@@ -8,7 +8,7 @@ use Rattle.std.proofs.lemmas.List.Kept.{AllPairs-cons}
 use Rattle.std.proofs.lemmas.Map.Steps.{length-le_from_distinct_below}
 use Rattle.std.proofs.lemmas.Map.Views.{Contains-from_any}
 use borrow.Author.Tests.{eqb-true}
-use Rattle.closure.specs.Laws.ListLaws.{distinct_from_apart}
+use Rattle.quotient.proofs.ListLaws.{distinct_from_apart}
 use Rattle.closure.proofs.Counting.{different}
 
 module _ {X : Type 0} (x0 : X) (xs : List X) where

@@ -17,7 +17,7 @@ use Rattle.motions.specs.Laws.MotionLaws.{IsVectorWithin-more}
 use Rattle.motions.specs.Views.{motion_of}
 use Rattle.symmetry.proofs.VectorLaws.{plus_comm, minus-plus, opposite-minus}
 use Rattle.symmetry.proofs.MotionLaws.{motion_path}
-use Rattle.closure.specs.Laws.ListLaws.{AllPairs-append, AllPairs-map, Contains-map}
+use Rattle.quotient.proofs.ListLaws.{AllPairs-append, AllPairs-map, Contains-map}
 use Rattle.closure.specs.Residues.{residue, IsWhole}
 use Rattle.closure.specs.Laws.ResidueLaws.{whole-minus_residue, whole-opposite}
 use Rattle.closure.specs.Laws.ShiftLaws.{followed_by-translation}

@@ -1,5 +1,5 @@
 -- The lexicographic order of vectors, and residues in another order.
-use Rattle.std.proofs.Common.{◌≡◌, ℕ, Bool, true, false, ◌+◌, ◌<◌, IsTrue, arith, refl, sym, ap, subst, ◌∙◌, List, length, get_or, map}
+use Rattle.std.proofs.Common.{◌≡◌, ℕ, Bool, true, false, ◌+◌, ◌<◌, IsTrue, arith, refl, sym, ap, subst, ◌∙◌, List, length, get_or, map, pos}
 use Rattle.std.specs.Prelude.{All, AllPairs, Some}
 use Rattle.std.specs.List.Sorted.{IsPermutation, IsSorted, IsSortedBy}
 use Rattle.std.specs.Cmp.Lexicographic.{slice_cmp, slice_partial_cmp, lists_agrees}
@@ -15,14 +15,13 @@ use Rattle.symmetry.specs.Vectors.{Vector, origin, plus, opposite}
 use Rattle.symmetry.specs.Groups.{Listing, IsInLattice, zero_vector}
 use Rattle.symmetry.specs.Frames.{same_vector}
 use Rattle.symmetry.proofs.LatticeLaws.{lattice-plus, lattice-opposite}
+use Rattle.quotient.proofs.ListLaws.{AllPairs-map, distinct_from_apart, apart_from_distinct, three_items}
 use Rattle.motions.specs.Views.{parts}
 use Rattle.motions.specs.Laws.MotionLaws.{same_vector-is}
 use Rattle.closure.specs.Residues.{residue, has_residue, vector_cmp, is_before, AreInOrder, IsResidue, IsResidueGroup}
 use Rattle.closure.specs.Spans.{AreResiduesOf}
 use Rattle.closure.specs.Laws.ResidueLaws.{has_residue-is}
 use Rattle.closure.specs.Laws.VectorOrder.{vector_cmp_total, before_from_not}
-use Rattle.closure.proofs.Membership.{three_entries}
-use Rattle.closure.specs.Laws.ListLaws.{AllPairs-map, distinct_from_apart, apart_from_distinct}
 
 -- ---- residues in another order
 
@@ -85,7 +84,7 @@ bracketed Equal Equal Greater = refl
 -- arrays are compared as their vectors
 slice_cmp-parts : (r s : List Part) → IsResidue r → IsResidue s → slice_cmp part_cmp r s ≡ vector_cmp (parts r) (parts s)
 slice_cmp-parts r s h k =
-    (λ i. slice_cmp part_cmp (three_entries r h.three i) (three_entries s k.three i))
+    (λ i. slice_cmp part_cmp (three_items r (record { 0 = pos 0 }) h.three i) (three_items s (record { 0 = pos 0 }) k.three i))
     ∙ bracketed (int_cmp (parts r).x (parts s).x) (int_cmp (parts r).y (parts s).y) (int_cmp (parts r).z (parts s).z)
 
 -- and so by `<`

@@ -1,4 +1,3 @@
-pub mod ListLaws
 pub mod ResidueLaws
 pub mod VectorOrder
 pub mod FirstLaws

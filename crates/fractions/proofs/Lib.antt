@@ -5,3 +5,4 @@ pub mod Gcd
 pub mod Lowest
 pub mod Multiples
 pub mod Reduced
+pub mod Arrays

@@ -7,8 +7,9 @@ use Rattle.std.proofs.lemmas.Nat.Gcd.{dvd_antisymm, mod-eq-zero_of_dvd}
 use Rattle.std.proofs.Math.Nat.{div-le_self, dvd-mul_left, dvd-mul_right, mul-dvd-mul_right, dvd_of_mul-dvd-mul_right, eq-one_of_dvd-one, eq-zero_of_zero-dvd}
 use Rattle.integers.specs.Size.{Divides}
 use Rattle.integers.proofs.Ring.{abs-mul, add_zero, zero_mul, mul_neg, mul-eq-zero, mul_right_cancel, abs-neg}
-use Rattle.integers.proofs.Solver.{Expr.{var, num as literal, neg, ◌⊕◌, ◌⊗◌}, linear, given}
+use Rattle.integers.proofs.Solver.{Expr.{var, num as literal, neg, ◌⊕◌, ◌⊗◌}, linear, given, ring}
 use Rattle.integers.proofs.Divisors.{combine}
+use Rattle.integers.proofs.Order.{one-le-mul, one-le-mul_three}
 use Rattle.fractions.specs.Fraction.{Fraction, IsFraction, SameFraction, IsInLowestTerms}
 use Rattle.fractions.specs.LowestTerms.{gcd, signed_gcd, lowest_terms, IsLowestForm, IsNoLarger}
 use Rattle.fractions.proofs.Gcd.{IsGcd-gcd}
@@ -167,3 +168,15 @@ lowest_terms-same num den num' den' n n' e =
 
 pub lowest_terms-only : (q : Fraction) (num den : ℤ) → ¬ (den ≡ pos 0) → IsLowestForm q num den → q ≡ lowest_terms num den
 lowest_terms-only q num den n h = same_lowest q (lowest_terms num den) num den num den n n refl h (IsLowestForm-lowest_terms num den n)
+
+-- a factor u that a sum of two fractions has above and below is left out
+pub lowest_terms-without : (m u n den d t v : ℤ) → pos 1 ≤ℤ m → pos 1 ≤ℤ u → pos 1 ≤ℤ den → pos 1 ≤ℤ d
+    → lowest_terms (m *ℤ (n *ℤ t) +ℤ den *ℤ d *ℤ v) (den *ℤ d *ℤ m) ≡ lowest_terms (m *ℤ (n *ℤ u *ℤ t) +ℤ den *ℤ d *ℤ u *ℤ v) (den *ℤ d *ℤ u *ℤ m)
+lowest_terms-without m u n den d t v hm hu h k =
+    lowest_terms-same _ _ _ _ (not_zero _ (one-le-mul_three den d m h k hm)) (not_zero _ (one-le-mul_three (den *ℤ d) u m (one-le-mul den d h k) hu hm))
+    (ring (m ∷ u ∷ n ∷ den ∷ d ∷ t ∷ v ∷ [])
+    ((var 0 ⊗ (var 2 ⊗ var 5) ⊕ var 3 ⊗ var 4 ⊗ var 6) ⊗ (var 3 ⊗ var 4 ⊗ var 1 ⊗ var 0))
+    ((var 0 ⊗ (var 2 ⊗ var 1 ⊗ var 5) ⊕ var 3 ⊗ var 4 ⊗ var 1 ⊗ var 6) ⊗ (var 3 ⊗ var 4 ⊗ var 0)) tt)
+  where
+    not_zero : (x : ℤ) → pos 1 ≤ℤ x → ¬ (x ≡ pos 0)
+    not_zero x h = omega (arith, ints)

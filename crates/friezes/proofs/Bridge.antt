@@ -2,7 +2,7 @@
 use Rattle.std.proofs.Common.{◌≡◌, ℕ, ℤ, pos, ◌+ℤ◌, ◌-ℤ◌, ◌*ℤ◌, ◌≤ℤ◌, refl, sym, ◌∙◌, ap, subst, arith, List}
 use Rattle.std.proofs.lemmas.Int.{ints}
 use Rattle.fractions.specs.declared.part.TheConstants.{UNIT}
-use Rattle.fractions.specs.Fraction.{SameFraction}
+use Rattle.fractions.specs.Fraction.{SameFraction, IsWhole, fraction_minus}
 use Rattle.quotient.specs.Closure.{IsFactor, IsProduct}
 use Rattle.motions.specs.declared.motion.Sign.{Sign}
 use Rattle.motions.specs.declared.motion.Sign.TheVariants.{Plus, Minus}
@@ -15,7 +15,7 @@ use Rattle.line_types.specs.Laws.FriezeLaws.{frieze_line_laws}
 use Rattle.friezes.specs.declared.line_op.LineOp.{LineOp}
 use Rattle.friezes.specs.declared.found_frieze.TheConstants.{GRID}
 use Rattle.friezes.specs.Lines.{edge}
-use Rattle.friezes.specs.RationalLines.{RationalLine, IsRationalLine, IsListedLine, IsWhole, fraction_minus, half_parts}
+use Rattle.friezes.specs.RationalLines.{RationalLine, IsRationalLine, IsListedLine, half_parts}
 use Rattle.friezes.specs.Changes.{CarriesOnto, IsCarried, grid_part, origin_moved}
 use Rattle.friezes.specs.Types.{IsOfFriezeType}
 use Rattle.friezes.specs.Told.{StandsAt}

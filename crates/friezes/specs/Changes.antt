@@ -1,9 +1,9 @@
 -- Changes of the origin along a line.
 use Rattle.std.specs.Prelude.{◌≡◌, ◌↔◌, ℕ, ℤ, pos, ◌-ℤ◌, ◌*ℤ◌}
-use Rattle.fractions.specs.Fraction.{Fraction}
+use Rattle.fractions.specs.Fraction.{Fraction, IsWhole, fraction_minus}
 use Rattle.motions.specs.Signs.{sign_value}
 use Rattle.friezes.specs.declared.found_frieze.TheConstants.{GRID}
-use Rattle.friezes.specs.RationalLines.{RationalLine, IsRationalLine, IsWhole, fraction_minus}
+use Rattle.friezes.specs.RationalLines.{RationalLine, IsRationalLine}
 
 -- r - f r, how far a motion with the sign f moves the origin
 abbrev pub origin_moved : ℤ → Fraction → Fraction

@@ -1,6 +1,6 @@
 -- Motions along a line with rational translations, and the sets that lists of them stand for.
-use Rattle.std.specs.Prelude.{◌≡◌, ℤ, ◌-ℤ◌, ◌*ℤ◌, List, Contains}
-use Rattle.fractions.specs.Fraction.{Fraction, IsFraction}
+use Rattle.std.specs.Prelude.{◌≡◌, ℤ, List, Contains}
+use Rattle.fractions.specs.Fraction.{Fraction, IsFraction, IsWhole, fraction_minus}
 use Rattle.motions.specs.declared.motion.Sign.{Sign}
 use Rattle.friezes.specs.declared.line_op.LineOp.{LineOp}
 use Rattle.friezes.specs.Lines.{edge}
@@ -14,14 +14,6 @@ pub record RationalLine : Type 0 where
 -- the number below is at least 1
 abbrev pub IsRationalLine : RationalLine → Type 0
 IsRationalLine op = IsFraction op.translation
-
--- the rational is whole
-abbrev pub IsWhole : Fraction → Type 0
-IsWhole q = (k : ℤ) × (q.num ≡ k *ℤ q.den)
-
--- q - r
-abbrev pub fraction_minus : Fraction → Fraction → Fraction
-fraction_minus q r = record { num = q.num *ℤ r.den -ℤ r.num *ℤ q.den; den = q.den *ℤ r.den }
 
 -- a translation in half parts, as a part of the cell edge
 abbrev pub half_parts : ℤ → Fraction

@@ -7,3 +7,6 @@ pub mod Divisors
 pub mod Sums
 pub mod Division
 pub mod Remainders
+pub mod Wide
+pub mod Sizes
+pub mod Booleans

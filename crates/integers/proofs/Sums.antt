@@ -2,7 +2,7 @@
 use native.Mathlib.Decide.{ℕ_discrete}
 use Rattle.std.proofs.Common.{◌≡◌, ℕ, zero, suc, ◌<◌, ℤ, pos, ◌+ℤ◌, ◌*ℤ◌, refl, sym, ◌∙◌, ap, arith}
 use Rattle.std.proofs.lemmas.Int.{ints}
-use Rattle.integers.proofs.Ring.{mul_add, mul_zero}
+use Rattle.integers.proofs.Ring.{mul_add, mul_zero, zero_mul}
 
 -- f 0 + f 1 + .. + f (n - 1)
 unfoldable pub sum_below : (ℕ → ℤ) → ℕ → ℤ
@@ -72,11 +72,8 @@ unfolding sum_below hit
 sum_below-hit f zero j h = absurd (omega arith)
 sum_below-hit f (suc n) zero h =
     ap (λ x. pos 1 *ℤ f zero +ℤ x)
-    (sum_below-same (λ k. pos 0 *ℤ f (suc k)) (λ k. pos 0) n (λ k l. none (f (suc k))) ∙ sum_below-zero n) ∙ once (f zero)
+    (sum_below-same (λ k. pos 0 *ℤ f (suc k)) (λ k. pos 0) n (λ k l. zero_mul (f (suc k))) ∙ sum_below-zero n) ∙ once (f zero)
   where
-    none : (a : ℤ) → pos 0 *ℤ a ≡ pos 0
-    none a = omega (arith, ints)
-
     once : (a : ℤ) → pos 1 *ℤ a +ℤ pos 0 ≡ a
     once a = omega (arith, ints)
 sum_below-hit f (suc n) (suc j) h =

@@ -14,5 +14,4 @@ pub mod Quotients
 pub mod Reducing
 pub mod Repeats
 pub mod Senses
-pub mod Sizes
 pub mod TauSizes

@@ -1,8 +1,9 @@
 -- The vectors a and tau are the frame of the lines.
 use Rattle.std.proofs.Common.{◌≡◌, ◌≢◌, ◌⊎◌, inl, inr, ℤ, pos, negsuc, ◌+ℤ◌, ◌*ℤ◌, ◌≤ℤ◌, ◌<ℤ◌, [], ◌∷◌, refl, sym, ap, subst, ◌∙◌, arith}
 use Rattle.std.proofs.lemmas.Int.{ints}
-use Rattle.integers.proofs.Ring.{mul-eq-one, mul_right_cancel}
+use Rattle.integers.proofs.Ring.{mul-eq-one, mul_right_cancel, mul_zero}
 use Rattle.integers.proofs.Solver.{Expr.{var, num, ◌⊕◌, ◌⊝◌, ◌⊗◌}, linear, given, ring}
+use Rattle.integers.proofs.Order.{zero_or_not}
 use Rattle.symmetry.specs.Vectors.{Vector, multiple, dot}
 use Rattle.symmetry.specs.Groups.{Listing, IsInLattice}
 use Rattle.symmetry.specs.Planes.{IsCoprime}
@@ -15,7 +16,7 @@ use Rattle.motions.specs.Laws.PlaneMatrixLaws.{pair_path}
 use Rattle.line_frames.specs.Lines.{first_two, in_space, times2, IsAlong, IsBefore, IsInPlaneLattice, IsLineFrame, IsLinePeriod, IsReducedAlong}
 use Rattle.line_frames.specs.Searches.{along_lines, coordinate, IsFirstAbove, IsForwardAlong, IsRepeat}
 use Rattle.line_frames.proofs.Forward.{a_inside, multiple_of_a}
-use Rattle.line_frames.proofs.Points.{coordinate_x, coordinate_y, zero_or_not}
+use Rattle.line_frames.proofs.Points.{coordinate_x, coordinate_y}
 
 module _ (r : Vector) where
   pub dot-in_space : (v : Pair) → dot r (in_space v) ≡ dot2 (first_two r) v
@@ -27,10 +28,7 @@ module _ (r : Vector) where
 
 multiple-in_space : (m : ℤ) (a : Vector) → a.z ≡ pos 0 → multiple m a ≡ in_space (times2 m (first_two a))
 unfolding multiple
-multiple-in_space m a flat = vector_path refl refl (ap (λ z. m *ℤ z) flat ∙ none m)
-  where
-    none : (m : ℤ) → m *ℤ pos 0 ≡ pos 0
-    none m = omega (arith, ints)
+multiple-in_space m a flat = vector_path refl refl (ap (λ z. m *ℤ z) flat ∙ mul_zero m)
 
 whole_factors : (x y z m k : ℤ) → pos 1 ≤ℤ x → y ≡ k *ℤ x → x ≡ m *ℤ y → (k ≡ pos 1) ⊎ (k ≡ negsuc 0)
 whole_factors x y z m k some e e' =
@@ -61,10 +59,7 @@ module _ (g : Listing) (r : Vector) (coprime : IsCoprime r) (line : r.z ≡ pos 
   by_coordinate P first second = by (zero_or_not r.y)
     where
       by : (r.y ≡ pos 0) ⊎ (¬ (r.y ≡ pos 0)) → P
-      by (inl y) = second (ap (λ z. e *ℤ n *ℤ z) y ∙ none (e *ℤ n)) (subst (λ z. pos 1 ≤ℤ z) (coordinate_y r a y) forward.from)
-        where
-          none : (x : ℤ) → x *ℤ pos 0 ≡ pos 0
-          none x = omega (arith, ints)
+      by (inl y) = second (ap (λ z. e *ℤ n *ℤ z) y ∙ mul_zero (e *ℤ n)) (subst (λ z. pos 1 ≤ℤ z) (coordinate_y r a y) forward.from)
       by (inr not) =
           let some : pos 1 ≤ℤ a.x = subst (λ z. pos 1 ≤ℤ z) (coordinate_x r a not) forward.from in
           first (λ e. absurd (omega (arith, ints, e, some))) some
@@ -114,14 +109,11 @@ module _ (g : Listing) (r : Vector) (coprime : IsCoprime r) (line : r.z ≡ pos 
         by : (r.y ≡ pos 0) ⊎ (¬ (r.y ≡ pos 0)) → IsReducedAlong (first_two a) (first_two tau)
         by (inl y) =
             let some : pos 1 ≤ℤ a.y = subst (λ z. pos 1 ≤ℤ z) (coordinate_y r a y) forward.from in inr (
-              ap (λ z. e *ℤ n *ℤ z) y ∙ none (e *ℤ n),
+              ap (λ z. e *ℤ n *ℤ z) y ∙ mul_zero (e *ℤ n),
               (λ e. absurd (omega (arith, ints, e, some))),
               subst (λ z. pos 0 ≤ℤ z) (coordinate_y r tau y) first.reduced.from,
               subst (λ z. z <ℤ a.y) (coordinate_y r tau y) (subst (λ z. coordinate r tau <ℤ z) (coordinate_y r a y) first.reduced.below),
             )
-          where
-            none : (x : ℤ) → x *ℤ pos 0 ≡ pos 0
-            none x = omega (arith, ints)
         by (inr not) =
             let some : pos 1 ≤ℤ a.x = subst (λ z. pos 1 ≤ℤ z) (coordinate_x r a not) forward.from in inl (
               (λ e. absurd (omega (arith, ints, e, some))),

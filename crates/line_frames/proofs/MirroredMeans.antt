@@ -2,8 +2,9 @@
 use Rattle.std.proofs.Common.{◌≡◌, ◌⊎◌, inl, inr, ℕ, suc, ◌<◌, ℤ, pos, negsuc, ◌+ℤ◌, ◌*ℤ◌, ◌≤ℤ◌, cond, List, [], ◌∷◌, length, refl, sym, ap, subst, ◌∙◌, arith}
 use Rattle.std.specs.Prelude.{Contains}
 use Rattle.std.proofs.lemmas.Int.{ints}
-use Rattle.integers.proofs.Ring.{mul-eq-one, mul_right_cancel}
+use Rattle.integers.proofs.Ring.{mul-eq-one, mul_right_cancel, mul_zero}
 use Rattle.integers.proofs.Solver.{Expr.{var, num, ◌⊕◌, ◌⊗◌}, linear, given, ring}
+use Rattle.integers.proofs.Order.{zero_or_not}
 use Rattle.symmetry.specs.Vectors.{Vector, Matrix, plus, minus, multiple, opposite, dot, image, row_times, product, unit_matrix}
 use Rattle.symmetry.specs.Motions.{Motion}
 use Rattle.symmetry.specs.Groups.{Listing, IsGroup, IsInLattice, IsMember}
@@ -18,13 +19,14 @@ use Rattle.symmetry.proofs.Signs.{row_sign, sign-square, sign_is}
 use Rattle.symmetry.proofs.VectorLaws.{vector_path, dot-multiple, dot-minus_same, multiple-dot, minus-plus, plus_comm}
 use Rattle.plane_motions.specs.PlaneMotions.{IsFlat}
 use Rattle.fractions.specs.declared.ratio.Ratio.{Ratio}
+use Rattle.fractions.specs.Fractions.{fraction_at}
 use Rattle.symmetry.specs.HeightMotions.{IsSign}
-use Rattle.plane_lattice.specs.Scanning.{fraction_at, IsPointOf}
+use Rattle.plane_lattice.specs.Scanning.{IsPointOf}
 use Rattle.line_frames.specs.Searches.{along_lines, coordinate, IsForwardAlong, IsMeanUp, IsOtherUp, IsRepeat, IsUp, other, same}
 use Rattle.line_frames.proofs.Along.{dot-along_lines}
 use Rattle.line_frames.proofs.Halves.{doubled, factor_entry, half_entry, half_fraction, some_product}
 use Rattle.line_frames.proofs.Forward.{a_inside, multiple_of_a}
-use Rattle.line_frames.proofs.Points.{coordinate_x, coordinate_y, zero_or_not}
+use Rattle.line_frames.proofs.Points.{coordinate_x, coordinate_y}
 
 -- multiples of a vector with a coordinate are equal by equal factors alone
 factor_once : (r a : Vector) → pos 1 ≤ℤ coordinate r a → (k l : ℤ) → multiple k a ≡ multiple l a → k ≡ l
@@ -60,10 +62,7 @@ module _ (g : Listing) (r : Vector) (coprime : IsCoprime r) (line : r.z ≡ pos 
   kept_along : (m : Motion) → KeepsOrientation r m → (v : Vector) → dot r v ≡ pos 0 → dot r (image m.matrix v) ≡ pos 0
   kept_along m keeps v h =
       let (d, _, row) = row_sign r m keeps in
-      sym (row_times-dot r m.matrix v) ∙ ap (λ t. dot t v) row ∙ multiple-dot d r v ∙ ap (λ z. d *ℤ z) h ∙ none d
-    where
-      none : (d : ℤ) → d *ℤ pos 0 ≡ pos 0
-      none d = omega (arith, ints)
+      sym (row_times-dot r m.matrix v) ∙ ap (λ t. dot t v) row ∙ multiple-dot d r v ∙ ap (λ z. d *ℤ z) h ∙ mul_zero d
 
   -- W a is a multiple of a
   image_a : (m : Motion) → IsMember g m → dot r (image m.matrix a) ≡ pos 0 → (c : ℤ) × (image m.matrix a ≡ multiple c a)

@@ -1,9 +1,10 @@
 -- Vectors of the plane, told by their height and one coordinate.
-use Rattle.std.proofs.Common.{◌≡◌, ◌⊎◌, inl, inr, zero, suc, ℤ, pos, negsuc, ◌-ℤ◌, ◌*ℤ◌, Bool, true, false, cond, [], ◌∷◌, refl, sym, ap, ◌∙◌}
+use Rattle.std.proofs.Common.{◌≡◌, ◌⊎◌, inl, inr, ℤ, pos, negsuc, ◌-ℤ◌, ◌*ℤ◌, Bool, true, false, cond, [], ◌∷◌, refl, sym, ap, ◌∙◌}
 use Rattle.std.specs.Ordering.{int_eq}
 use Rattle.std.proofs.lemmas.Bool.Decides.{Decides-int_eq}
 use Rattle.integers.proofs.Ring.{mul-eq-one, mul_left_cancel}
 use Rattle.integers.proofs.Solver.{Expr.{var, num, ◌⊕◌, ◌⊝◌, ◌⊗◌}, linear, given}
+use Rattle.integers.proofs.Order.{zero_or_not}
 use Rattle.symmetry.specs.Vectors.{Vector, dot}
 use Rattle.symmetry.specs.Planes.{IsCoprime}
 use Rattle.symmetry.proofs.Coprime.{unit_column}
@@ -22,11 +23,6 @@ coordinate_x r v n = go (int_eq r.y (pos 0)) refl
     go : (b : Bool) → int_eq r.y (pos 0) ≡ b → cond b v.y v.x ≡ v.x
     go true e = absurd (n ((Decides-int_eq r.y (pos 0)).0 e))
     go false e = refl
-
-pub zero_or_not : (x : ℤ) → (x ≡ pos 0) ⊎ (¬ (x ≡ pos 0))
-zero_or_not (pos zero) = inl refl
-zero_or_not (pos (suc n)) = inr (λ e. cc e)
-zero_or_not (negsuc n) = inr (λ e. cc e)
 
 -- ---- the vector at a height with a coordinate
 

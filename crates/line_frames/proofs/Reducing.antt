@@ -4,6 +4,7 @@ use Rattle.std.proofs.lemmas.Int.{ints}
 use Rattle.fractions.specs.declared.part.TheConstants.{UNIT}
 use Rattle.integers.proofs.Division.{floor}
 use Rattle.integers.proofs.Solver.{Expr.{var, num, ◌⊕◌, ◌⊝◌, ◌⊗◌}, linear, given, ring}
+use Rattle.integers.proofs.Order.{zero_or_not}
 use Rattle.symmetry.specs.Vectors.{Vector, plus, minus, multiple, opposite, dot}
 use Rattle.symmetry.specs.Groups.{Listing}
 use Rattle.symmetry.specs.Planes.{IsCoprime}
@@ -11,7 +12,7 @@ use Rattle.symmetry.proofs.Coprime.{unit_column}
 use Rattle.symmetry.proofs.LatticeLaws.{lattice-minus, lattice-multiple}
 use Rattle.symmetry.proofs.VectorLaws.{dot-plus, dot-multiple}
 use Rattle.line_frames.specs.Searches.{coordinate, IsAt, IsForwardAlong, IsReducedAt}
-use Rattle.line_frames.proofs.Points.{coordinate_x, coordinate_y, zero_or_not}
+use Rattle.line_frames.proofs.Points.{coordinate_x, coordinate_y}
 use Rattle.line_frames.proofs.Repeats.{edges_inside}
 
 -- a vector without a multiple of another

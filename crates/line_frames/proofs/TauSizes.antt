@@ -7,6 +7,8 @@ use Rattle.fractions.specs.declared.part.TheConstants.{UNIT}
 use Rattle.integers.specs.Size.{IsWithin}
 use Rattle.integers.proofs.Ring.{abs-mul, abs-zero, IsWithin-more, IsWithin-mul, IsWithin-sub}
 use Rattle.integers.proofs.Solver.{Expr.{var, num, ◌⊕◌, ◌⊝◌, ◌⊗◌}, linear, given}
+use Rattle.integers.proofs.Order.{zero_or_not}
+use Rattle.integers.proofs.Sizes.{factor_within}
 use Rattle.motions.specs.declared.miller.TheConstants.{INDEX}
 use Rattle.symmetry.specs.Groups.{Listing}
 use Rattle.symmetry.specs.Planes.{IsCoprime}
@@ -14,9 +16,8 @@ use Rattle.symmetry.specs.Sizes.{IsVectorWithin}
 use Rattle.symmetry.specs.Vectors.{Vector, dot}
 use Rattle.plane_lattice.specs.Bounds.{largest_entry}
 use Rattle.line_frames.specs.Searches.{along_lines, coordinate, IsFirstAbove, IsForwardAlong}
-use Rattle.line_frames.proofs.Points.{coordinate_x, coordinate_y, zero_or_not}
+use Rattle.line_frames.proofs.Points.{coordinate_x, coordinate_y}
 use Rattle.line_frames.proofs.Senses.{first_is_some}
-use Rattle.line_frames.proofs.Sizes.{factor_within}
 
 -- a number is small where its product with k is, but for a product with k
 small_quotient : (k y x : ℕ) → ¬ (k ≡ 0) → x ≤ unsigned_abs UNIT * k → k * y ≤ unsigned_abs UNIT + unsigned_abs INDEX * x → y ≤ largest_entry

@@ -1,2 +1,1 @@
 pub mod OriginSizes
-pub mod TextLines

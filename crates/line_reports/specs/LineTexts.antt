@@ -1,10 +1,10 @@
 -- What is written of the lines of a plane group.
-use Rattle.std.specs.Prelude.{ℕ, List, [], ◌++◌, codes, decimal, flat_map}
+use Rattle.std.specs.Prelude.{ℕ, List, [], ◌++◌, codes, flat_map}
 use Rattle.std.specs.Fmt.{signed_decimal}
 use Rattle.fractions.specs.RatioText.{ratio_text}
 use Rattle.motions.specs.PlaneMatrices.{Pair}
 use Rattle.plane_motions.specs.PlaneMotions.{PlaneMotion}
-use Rattle.triplets.specs.Writing.{number_text, pair_text}
+use Rattle.triplets.specs.Writing.{number_text, pair_text, number_line}
 use Rattle.line_types.specs.FriezeRows.{frieze_row}
 use Rattle.line_scans.specs.LineScans.{LineHeight, LineScan, LineSection, TwoFractions}
 use Rattle.line_reports.specs.LineOrigins.{lowest_point2, origin_along, origin_at_height}
@@ -29,10 +29,6 @@ frame_text scan =
     codes "a " ++ vector_text scan.a ++ codes "\n" ++
     codes "tau " ++ vector_text scan.tau ++ codes "\n" ++
     codes "c " ++ fractions_text scan.mean ++ codes "\n"
-
--- the number and the symbol of a frieze type
-unfoldable pub number_line : ℕ → List ℕ → List ℕ
-number_line n symbol = codes "type " ++ decimal n ++ codes " " ++ symbol ++ codes "\n"
 
 -- its basis: a in parts, and c'
 unfoldable pub basis_line : Pair → TwoFractions → List ℕ

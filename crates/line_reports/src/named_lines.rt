@@ -1,9 +1,10 @@
 // The lines of a section.
 ghost use Rattle.std.specs.Prelude.{◌≡◌, ◌++◌, OnOk, string_bytes};
+ghost use Rattle.triplets.specs.Writing.{number_line};
 ghost use Rattle.plane_motions.specs.PlaneMotions.{parts2};
 ghost use Rattle.line_types.specs.FriezeRows.{frieze_row};
 ghost use Rattle.line_scans.specs.LineView.{line_scan_of, line_section_of};
-ghost use Rattle.line_reports.specs.LineTexts.{basis_line, number_line, origin_line, section_lines};
+ghost use Rattle.line_reports.specs.LineTexts.{basis_line, origin_line, section_lines};
 ghost use Rattle.line_reports.specs.WrittenView.{edges_of, parts_of, two_fractions_of};
 
 use crate::lines::write_operations;
@@ -47,7 +48,7 @@ fn write_type(
     write_origin(text, origin, behind)
 }
 
-#[tactic(auto, unfolding(crate::specs::LineTexts::number_line))]
+#[tactic(auto, unfolding(triplets::specs::Writing::number_line))]
 fn write_number(text: &mut String, number: u8, symbol: &str) -> Result<(), NoMemory>
     ensures { OnOk result (string_bytes text.new
         ≡ string_bytes text.old ++ number_line number symbol.now) }

@@ -1,11 +1,13 @@
 -- What the code finds of a motion along a line is what the motion is there.
+use lib.IntN.{*ℤ_comm}
 use Rattle.std.proofs.Common.{◌≡◌, ◌⊎◌, inl, inr, ℤ, pos, ◌*ℤ◌, ◌≤ℤ◌, ◌*◌, FitsSigned, w64, to_z, of_z, unsigned_abs, sym, ap, subst, ◌∙◌, arith, lit<, [], ◌∷◌}
 use Rattle.std.proofs.lemmas.Int.{ints, to_z-of_z}
 use Rattle.fractions.specs.declared.part.TheConstants.{UNIT}
 use Rattle.integers.specs.Size.{IsWithin}
 use Rattle.integers.proofs.Coded.{again, again_is, code_is, code_within, fits_within}
 use Rattle.integers.proofs.Order.{mul_left_cancel_pos}
-use Rattle.integers.proofs.Solver.{Expr.{var, num, ◌⊗◌}, linear}
+use Rattle.integers.proofs.Solver.{Expr.{var, num, ◌⊗◌}}
+use Rattle.integers.proofs.Wide.{wide, wide_is}
 use Rattle.symmetry.specs.Vectors.{Vector, image, multiple, row_times}
 use Rattle.symmetry.specs.Motions.{Motion}
 use Rattle.symmetry.specs.Frames.{Basis}
@@ -16,7 +18,6 @@ use Rattle.plane_lattice.specs.Coordinates.{volume}
 use Rattle.plane_lattice.specs.Sections.{drift}
 use Rattle.plane_lattice.specs.declared.frame.Frame.{Frame}
 use Rattle.plane_lattice.proofs.Steps.{step_within}
-use Rattle.plane_lattice.proofs.Wide.{wide, wide_is}
 use Rattle.scanning.specs.Bounds.{largest_level, largest_shift}
 use Rattle.scanning.proofs.Shifts.{period_is, period_within}
 use Rattle.line_scans.specs.LineOps.{HasLineOp, IsLineOp, IsStep}
@@ -69,19 +70,13 @@ module _ (frame : Frame) (level n m : ℤ) (in_range : IsWithin largest_level le
   quotient_is : (q : ℤ) → wide m *ℤ q ≡ wide n → q ≡ k
   quotient_is q e =
       mul_left_cancel_pos frame.period.0 q k frame.above
-      (ap (λ d. d *ℤ q) (sym wide_m) ∙ e ∙ wide_n ∙ sym step.is ∙ swap k frame.period.0)
-    where
-      swap : (x y : ℤ) → x *ℤ y ≡ y *ℤ x
-      swap x y = linear (x ∷ y ∷ []) (var 0 ⊗ var 1) (var 1 ⊗ var 0) [] tt tt
+      (ap (λ d. d *ℤ q) (sym wide_m) ∙ e ∙ wide_n ∙ sym step.is ∙ *ℤ_comm k frame.period.0)
 
   pub quotient_above : pos 1 ≤ℤ wide m
   quotient_above = subst (λ (z : ℤ). pos 1 ≤ℤ z) (sym wide_m) frame.above
 
   pub some_quotient : ((q : ℤ) → ¬ (wide m *ℤ q ≡ wide n)) → ⊥
-  some_quotient none = none k (ap (λ d. d *ℤ k) wide_m ∙ swap frame.period.0 k ∙ step.is ∙ sym wide_n)
-    where
-      swap : (x y : ℤ) → x *ℤ y ≡ y *ℤ x
-      swap x y = linear (x ∷ y ∷ []) (var 0 ⊗ var 1) (var 1 ⊗ var 0) [] tt tt
+  some_quotient none = none k (ap (λ d. d *ℤ k) wide_m ∙ *ℤ_comm frame.period.0 k ∙ step.is ∙ sym wide_n)
 
   module _ (q : ℤ) (e : wide m *ℤ q ≡ wide n) where
     wide_q : wide q ≡ k

@@ -4,7 +4,7 @@ use Rattle.std.specs.Prelude.{Contains}
 use Rattle.std.proofs.lemmas.Int.{ints}
 use Rattle.std.proofs.lemmas.List.{get_or_default}
 use Rattle.integers.proofs.Order.{mul_left_cancel_pos}
-use Rattle.integers.proofs.Ring.{mul_zero}
+use Rattle.integers.proofs.Ring.{mul_zero, zero_add, zero_mul}
 use Rattle.integers.proofs.Solver.{Expr.{var, num, neg, ◌⊕◌, ◌⊝◌, ◌⊗◌}, linear, ring, given}
 use Rattle.quotient.specs.Kind.{IsSame}
 use Rattle.quotient.specs.Lists.{IsListed}
@@ -57,11 +57,8 @@ row_entry' u v h k a b c d at_a at_c flat =
 module _ (r a c : Pair) (flat : dot2 r a ≡ pos 0) (up : pos 1 ≤ℤ dot2 r c) (once_a : (k l : ℤ) → times2 k a ≡ times2 l a → k ≡ l) where
   none : (x : ℤ) → dot2 r c *ℤ x *ℤ a.x ≡ pos 0 → dot2 r c *ℤ x *ℤ a.y ≡ pos 0 → x ≡ pos 0
   none x p q =
-      let e : dot2 r c *ℤ x ≡ pos 0 = once_a (dot2 r c *ℤ x) (pos 0) (pair_path (p ∙ sym (nothing a.x)) (q ∙ sym (nothing a.y))) in
+      let e : dot2 r c *ℤ x ≡ pos 0 = once_a (dot2 r c *ℤ x) (pos 0) (pair_path (p ∙ sym (zero_mul a.x)) (q ∙ sym (zero_mul a.y))) in
       mul_left_cancel_pos (dot2 r c) x (pos 0) up (e ∙ sym (mul_zero (dot2 r c)))
-    where
-      nothing : (y : ℤ) → pos 0 *ℤ y ≡ pos 0
-      nothing y = omega (arith, ints)
 
   row_none : (u v : ℤ) → u *ℤ a.x +ℤ v *ℤ a.y ≡ pos 0 → u *ℤ c.x +ℤ v *ℤ c.y ≡ pos 0 → (u ≡ pos 0) × (v ≡ pos 0)
   row_none u v at_a at_c = (
@@ -163,15 +160,12 @@ module _ (r a : Pair) (c o : PlanePoint) (flat : dot2 r a ≡ pos 0) (up : pos 1
       nothing : (x : ℤ) → x -ℤ pos 0 ≡ x
       nothing x = omega (arith, ints)
 
-      started : (x : ℤ) → pos 0 +ℤ x ≡ x
-      started x = omega (arith, ints)
-
       by : (k : ℤ) × (m.translation ≡ times2 k a) → (k : ℤ) × (op.translation ≡ k *ℤ edge)
       by (k, is) =
           let differs : DiffersAlong a m plane_identity =
           record { matrix = unit; times = k; translation = ap (λ v. minus2 v plane_identity.translation) is ∙ pair_path (nothing (k *ℤ a.x)) (nothing (k *ℤ a.y)) } in
           let same = does_differs m plane_identity op frieze_identity differs does (acts_identity a c o) in
-          (same.times, same.translation ∙ started (same.times *ℤ edge))
+          (same.times, same.translation ∙ zero_add (same.times *ℤ edge))
 
   -- ---- a list of the set and what its motions do
 

@@ -5,6 +5,7 @@ use Rattle.fractions.specs.declared.part.TheConstants.{UNIT}
 use Rattle.fractions.specs.Fraction.{SameFraction}
 use Rattle.integers.proofs.Order.{mul_left_cancel_pos}
 use Rattle.integers.proofs.Solver.{Expr, Expr.{var, num, ◌⊕◌, ◌⊝◌, ◌⊗◌}, linear, ring, given}
+use Rattle.integers.proofs.Ring.{mul_zero}
 use Rattle.symmetry.specs.Vectors.{Vector, dot, image, minus, multiple, plus}
 use Rattle.symmetry.specs.Planes.{Height, IsCoprime, IsHeight}
 use Rattle.symmetry.specs.Groups.{Listing, IsGroup, IsInLattice}
@@ -54,10 +55,7 @@ drift_block m tau k =
 
 pub multiple_in_space : (k : ℤ) (v : Pair) → multiple k (in_space v) ≡ in_space (times2 k v)
 unfolding multiple
-multiple_in_space k v = vector_path refl refl (none k)
-  where
-    none : (k : ℤ) → k *ℤ pos 0 ≡ pos 0
-    none k = omega (arith, ints)
+multiple_in_space k v = vector_path refl refl (mul_zero k)
 
 from_in_space : (v w : Pair) → in_space v ≡ in_space w → v ≡ w
 from_in_space v w e = ap first_two e

@@ -1,15 +1,14 @@
 -- The scan of the lines that is made of the scan of the planes (h k 0).
-use Rattle.std.proofs.Common.{◌≡◌, ℕ, zero, suc, ◌<◌, ℤ, pos, ◌*ℤ◌, List, [], ◌∷◌, get_or, length, map, refl, sym, ap, subst, ◌∙◌, arith}
+use Rattle.std.proofs.Common.{◌≡◌, ℕ, ◌<◌, ℤ, pos, ◌*ℤ◌, List, [], ◌∷◌, get_or, length, map, refl, sym, ap, subst, ◌∙◌}
 use Rattle.std.specs.Prelude.{All, AllPairs}
 use Rattle.std.specs.List.{AllZip}
-use Rattle.std.proofs.lemmas.Int.{ints}
 use Rattle.std.proofs.lemmas.List.{get_or-map, length-map}
-use Rattle.std.proofs.Math.Nat.{eq-one_of_dvd-one}
-use Rattle.fractions.specs.Fraction.{IsFraction, IsInLowestTerms, SameFraction}
+use Rattle.fractions.specs.Fraction.{SameFraction}
 use Rattle.fractions.specs.FractionOf.{fraction_of}
 use Rattle.fractions.specs.Fractions.{fraction_at}
 use Rattle.fractions.specs.declared.part.TheConstants.{UNIT}
 use Rattle.fractions.specs.declared.ratio.Ratio.{Ratio}
+use Rattle.fractions.proofs.Arrays.{fraction_at-lowest, fraction_at-positive}
 use Rattle.symmetry.specs.Vectors.{dot, multiple}
 use Rattle.symmetry.specs.Motions.{Motion}
 use Rattle.symmetry.specs.Planes.{Height, IsCoprime}
@@ -54,16 +53,6 @@ use Rattle.plane_lattice.proofs.SectionFacts.{special_in_steps}
 use Rattle.symmetry.proofs.PlaneLattice.{differs_all, differs_stabiliser}
 
 -- ---- fractions of an array
-
-positive_at : (c : List Ratio) (i : ℕ) → IsFraction (fraction_at c i)
-positive_at [] i = omega (arith, ints)
-positive_at (q ∷ c) zero = q.positive
-positive_at (q ∷ c) (suc i) = positive_at c i
-
-lowest_at : (c : List Ratio) (i : ℕ) → IsInLowestTerms (fraction_at c i)
-lowest_at [] i = λ d _ h. eq-one_of_dvd-one h
-lowest_at (q ∷ c) zero = q.lowest
-lowest_at (q ∷ c) (suc i) = lowest_at c i
 
 map_same : {A : Type 0} (xs : List A) → map (λ x. x) xs ≡ xs
 map_same [] = refl
@@ -141,8 +130,8 @@ module _ (group : Group) (frame : Frame) (flat : IsFlatGroup (group_listing grou
 
     lowest_mean : IsInLowestForm (line_mean r tau ops) (record { x = fraction_at frame.c 0; y = fraction_at frame.c 1 })
     lowest_mean = record {
-      x = record { positive = positive_at frame.c 0; lowest = lowest_at frame.c 0; same = subst (λ v. SameFraction (fraction_at frame.c 0) (record { num = v.x; den = UNIT *ℤ pos (length ops) })) total (over (λ n. SameFraction (fraction_at frame.c 0) (record { num = (total_up (row_of frame.plane) (parts frame.tau) made.scanning).x; den = UNIT *ℤ pos n })) made.mean.x) };
-      y = record { positive = positive_at frame.c 1; lowest = lowest_at frame.c 1; same = subst (λ v. SameFraction (fraction_at frame.c 1) (record { num = v.y; den = UNIT *ℤ pos (length ops) })) total (over (λ n. SameFraction (fraction_at frame.c 1) (record { num = (total_up (row_of frame.plane) (parts frame.tau) made.scanning).y; den = UNIT *ℤ pos n })) made.mean.y) };
+      x = record { positive = fraction_at-positive frame.c 0; lowest = fraction_at-lowest frame.c 0; same = subst (λ v. SameFraction (fraction_at frame.c 0) (record { num = v.x; den = UNIT *ℤ pos (length ops) })) total (over (λ n. SameFraction (fraction_at frame.c 0) (record { num = (total_up (row_of frame.plane) (parts frame.tau) made.scanning).x; den = UNIT *ℤ pos n })) made.mean.x) };
+      y = record { positive = fraction_at-positive frame.c 1; lowest = fraction_at-lowest frame.c 1; same = subst (λ v. SameFraction (fraction_at frame.c 1) (record { num = v.y; den = UNIT *ℤ pos (length ops) })) total (over (λ n. SameFraction (fraction_at frame.c 1) (record { num = (total_up (row_of frame.plane) (parts frame.tau) made.scanning).y; den = UNIT *ℤ pos n })) made.mean.y) };
     }
       where
         total : total_up (row_of frame.plane) (parts frame.tau) made.scanning ≡ in_space (line_total r tau ops)

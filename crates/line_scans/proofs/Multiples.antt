@@ -1,28 +1,16 @@
 -- Multiples of the first vector of a basis, as the code finds them.
-use Rattle.std.proofs.Common.{◌≡◌, ℕ, ◌*◌, ◌≤◌, ℤ, pos, ◌+ℤ◌, ◌*ℤ◌, ◌≤ℤ◌, [], ◌∷◌, nat_abs, FitsSigned, w64, sym, ap, subst, ◌∙◌, arith}
-use Rattle.std.specs.Int.{w128}
-use Rattle.std.proofs.lemmas.Int.{ints, to_z-of_z}
-use native.Mathlib.Decide.{dec_lt}
+use Rattle.std.proofs.Common.{◌≡◌, ℕ, ◌*◌, ◌≤◌, ℤ, pos, ◌+ℤ◌, ◌*ℤ◌, ◌≤ℤ◌, [], ◌∷◌, sym, ap, ◌∙◌, arith, inl, inr}
+use Rattle.std.proofs.lemmas.Int.{ints}
 use Rattle.integers.specs.Size.{IsWithin}
-use Rattle.integers.proofs.Coded.{again}
-use Rattle.integers.proofs.Ring.{abs-mul}
 use Rattle.integers.proofs.Solver.{Expr.{var, num, ◌⊕◌, ◌⊝◌, ◌⊗◌}, linear, given}
+use Rattle.integers.proofs.Order.{zero_or_not}
+use Rattle.integers.proofs.Sizes.{multiplier_within}
 use Rattle.symmetry.specs.Vectors.{Vector, cross, dot, multiple, plus}
 use Rattle.symmetry.specs.Frames.{Basis, combination}
 use Rattle.symmetry.specs.Sizes.{IsVectorWithin}
 use Rattle.symmetry.proofs.VectorLaws.{vector_path}
 use Rattle.plane_lattice.specs.Coordinates.{IsCombination, volume}
 use Rattle.plane_lattice.proofs.Cramer.{combination_once}
-use Rattle.plane_lattice.proofs.Wide.{wide}
-
-no_smaller : (p q : ℕ) → 1 ≤ q → p ≤ p * q
-no_smaller p q h = grind arith
-
-factor_within : (n : ℕ) (k x v : ℤ) → k *ℤ x ≡ v → IsWithin n v → 1 ≤ nat_abs x → IsWithin n k
-factor_within n k x v e within above =
-    let size : nat_abs k * nat_abs x ≡ nat_abs v = sym (abs-mul k x) ∙ ap nat_abs e in
-    let less = no_smaller (nat_abs k) (nat_abs x) above in
-    record { most = omega (arith, within.most, less, size) }
 
 -- x a
 abbrev only_a : ℤ → Vector
@@ -65,20 +53,13 @@ module _ (f : Basis) (above : pos 1 ≤ℤ volume f) where
     unfolding multiple
     first_within n within c e =
         let is = first_is c e in
-        elim (dec_lt 0 (nat_abs f.a.x)) [
-          | yes h ↦ factor_within n c.x f.a.x v.x (λ i. (is i).x) within.x h
-          | no x ↦ elim (dec_lt 0 (nat_abs f.a.y)) [
-            | yes h ↦ factor_within n c.x f.a.y v.y (λ i. (is i).y) within.y h
-            | no y ↦ elim (dec_lt 0 (nat_abs f.a.z)) [
-              | yes h ↦ factor_within n c.x f.a.z v.z (λ i. (is i).z) within.z h
-              | no z ↦ absurd (not_flat (none_of_none f (omega (arith, ints, x)) (omega (arith, ints, y)) (omega (arith, ints, z))))
+        elim (zero_or_not f.a.x) [
+          | inr h ↦ multiplier_within n c.x f.a.x v.x h (λ i. (is i).x) within.x
+          | inl x ↦ elim (zero_or_not f.a.y) [
+            | inr h ↦ multiplier_within n c.x f.a.y v.y h (λ i. (is i).y) within.y
+            | inl y ↦ elim (zero_or_not f.a.z) [
+              | inr h ↦ multiplier_within n c.x f.a.z v.z h (λ i. (is i).z) within.z
+              | inl z ↦ absurd (not_flat (none_of_none f x y z))
             ]
           ]
         ]
-
--- a number that fits 64 bits goes through 128
-pub narrow_fits : (z : ℤ) → FitsSigned w128 z → FitsSigned w64 z → FitsSigned w64 (wide z)
-narrow_fits z f h = let P : ℤ → Type 0 = FitsSigned w64 in subst P (sym (to_z-of_z w128 z f)) h
-
-pub narrow_is : (z : ℤ) → FitsSigned w128 z → FitsSigned w64 z → again (wide z) ≡ z
-narrow_is z f h = ap again (to_z-of_z w128 z f) ∙ to_z-of_z w64 z h

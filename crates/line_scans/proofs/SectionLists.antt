@@ -1,16 +1,8 @@
 -- Lists that the code makes of the motions of a line.
-use Rattle.std.proofs.Common.{◌≡◌, List, [], ◌∷◌, ◌++◌, map, refl, sym, ap, subst, ◌∙◌}
-use Rattle.std.specs.List.{AllZip}
-use Rattle.std.proofs.lemmas.Slice.Zip.{all_zipped_more}
+use Rattle.std.proofs.Common.{◌≡◌, List, [], ◌∷◌, ◌++◌, map, refl, sym, ap, ◌∙◌}
 use Rattle.symmetry.specs.Motions.{Motion}
 use Rattle.plane_motions.specs.PlaneMotions.{plane_block, plane_of}
 use Rattle.plane_motions.specs.declared.plane_motion.Motion2.{Motion2}
-
--- one more of each
-pub zip_more : {A B : Type 0} (R : A → B → Type 0) (xs xs' : List A) (x : A) (ys ys' : List B) (y : B) → xs' ≡ xs ++ x ∷ [] → ys' ≡ ys ++ y ∷ []
-    → AllZip R xs ys → R x y → AllZip R xs' ys'
-zip_more R xs xs' x ys ys' y e e' h r =
-    subst (AllZip R xs') (sym e') (subst (λ l. AllZip R l (ys ++ y ∷ [])) (sym e) (all_zipped_more R xs ys x y h r))
 
 last_more : {A B : Type 0} (f : A → B) (xs : List A) (x : A) → map f (xs ++ x ∷ []) ≡ map f xs ++ f x ∷ []
 last_more f [] x = refl

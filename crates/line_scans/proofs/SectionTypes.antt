@@ -1,5 +1,5 @@
 -- The sections of a plane group along its lines, and their first changes onto frieze types.
-use Rattle.std.proofs.Common.{◌≡◌, ◌↔◌, ℕ, ◌<◌, ℤ, pos, ◌*ℤ◌, ◌≤ℤ◌, List, [], ◌∷◌, get_or, length, map, refl, sym, subst, ◌∙◌, arith, zero, suc}
+use Rattle.std.proofs.Common.{◌≡◌, ◌↔◌, ℕ, ◌<◌, ℤ, pos, ◌*ℤ◌, ◌≤ℤ◌, List, [], get_or, length, map, refl, sym, subst, ◌∙◌, arith}
 use Rattle.std.specs.List.{AllZip}
 use Rattle.std.specs.Prelude.{All}
 use Rattle.std.proofs.lemmas.Int.{ints}
@@ -15,6 +15,7 @@ use Rattle.symmetry.specs.Frames.{Basis, DiffersInPlane, IsAtHome}
 use Rattle.symmetry.specs.Lists.{IsListOf, motion_at}
 use Rattle.symmetry.specs.Sizes.{IsSmall}
 use Rattle.symmetry.proofs.PlaneLattice.{differs_all, differs_stabiliser}
+use Rattle.quotient.proofs.Zips.{zip_at}
 use Rattle.motions.specs.PlaneMatrices.{Pair}
 use Rattle.plane_lattice.specs.Sections.{height_in_steps}
 use Rattle.plane_motions.specs.PlaneMotions.{IsFlat, PlaneMotion, plane_block}
@@ -36,12 +37,6 @@ use Rattle.line_scans.proofs.LineGroups.{IsLineGroup, is_section, section_is}
 use Rattle.line_scans.proofs.LineOps.{acts_at, acts_generally, some_op}
 use Rattle.line_scans.proofs.LineStabilisers.{all_group, stabiliser_group}
 use Rattle.line_scans.proofs.PlaneBridges.{all_by_lines, pair_motion, stabiliser_by_line}
-
-zip_at : {A B : Type 0} (R : A → B → Type 0) (xs : List A) (ys : List B) (i : ℕ) (d : A) (e : B) → AllZip R xs ys → i < length xs → R (get_or xs i d) (get_or ys i e)
-zip_at R [] ys i d e h l = absurd (omega (arith, l))
-zip_at R (x ∷ xs) [] i d e h l = absurd h
-zip_at R (x ∷ xs) (y ∷ ys) zero d e h l = h.0
-zip_at R (x ∷ xs) (y ∷ ys) (suc i) d e h l = zip_at R xs ys i d e h.1 (omega arith)
 
 -- sets of the same motions have the same first change
 first_same : (Has Other : RationalLine → Type 0) → ((op : RationalLine) → IsRationalLine op → Has op ↔ Other op) → (change : Change)
@@ -74,7 +69,7 @@ module _ (g : Listing) (r a tau : Pair) (d : ℤ) (f : Basis) (scanning : List M
         let l : i < length ms = subst (λ n. i < n) (count g r a tau d f scanning x S S2 same members closed ms list) h in
         acts (plane_at (map pair_motion ms) i) (get_or ops i e) (listed_at g r a tau d f scanning x S S2 same members closed ms list i l)
         (subst (λ m. IsLineOp (in_space r) f k m (get_or ops i e)) (block_at g r a tau d f scanning x S S2 same members closed ms list i l)
-        (zip_at (IsLineOp (in_space r) f k) ms ops i identity e zip l))
+        (zip_at (IsLineOp (in_space r) f k) ms ops zip i identity e (omega (arith, l, AllZip-long (IsLineOp (in_space r) f k) ms ops zip))))
 
     counted : (ops : List LineOp) → AllZip (IsLineOp (in_space r) f k) ms ops → length ops ≡ length (map pair_motion ms)
     counted ops zip = AllZip-long (IsLineOp (in_space r) f k) ms ops zip ∙ sym (count g r a tau d f scanning x S S2 same members closed ms list)

@@ -1,6 +1,7 @@
 -- The solver for matrices: their two sides are written once, as matrices of expressions, and compared entry by entry.
-use Rattle.std.proofs.Common.{◌≡◌, ℕ, ◌+◌, List, [], ◌∷◌, ℤ, pos, Bool, true, false, T, ◌&&◌}
+use Rattle.std.proofs.Common.{◌≡◌, ℕ, ◌+◌, List, [], ◌∷◌, ℤ, pos, Bool, T, ◌&&◌}
 use Rattle.integers.proofs.Solver.{Expr, Expr.{var, num, ◌⊕◌, ◌⊝◌, ◌⊗◌}, value, linear, is_linear, given}
+use Rattle.integers.proofs.Booleans.{both}
 use Rattle.symmetry.specs.Vectors.{Vector, Matrix}
 
 pub record Row : Type 0 where
@@ -69,10 +70,6 @@ abbrev pub grid_value : List ℤ → Grid → Matrix
 grid_value e m = record { first = row_value e m.first; second = row_value e m.second; third = row_value e m.third }
 
 -- ---- equations
-
-both : (a b : Bool) → T (a && b) → T a × T b
-both true b t = (tt, t)
-both false b t = absurd t
 
 -- whether the entries of a and b differ by those of c, each times the difference of l and r
 abbrev pub is_row_linear : Expr → Expr → Row → Row → Row → Bool

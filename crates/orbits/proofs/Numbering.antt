@@ -2,12 +2,9 @@
 use Rattle.std.proofs.Common.{◌≡◌, ◌↔◌, ◌⊎◌, ℕ, ◌+◌, ◌<◌, ◌≤◌, List, [], ◌∷◌, ◌++◌, length, arith, inl, inr, sym, ap, subst, ◌∙◌}
 use Rattle.std.proofs.lemmas.Bool.{cases_lt}
 use Rattle.std.proofs.lemmas.List.{get_or_append_left, get_or_push, length-append}
+use Rattle.integers.proofs.Order.{last_or_before}
 use Rattle.symmetry.specs.Orbits.{number_at}
 use Rattle.orbits.specs.Numbers.{AreClasses, AreNumbered}
-
--- a place below n + 1 is below n or n
-last_or_before : (i n : ℕ) → i < n + 1 → (i < n) ⊎ (i ≡ n)
-last_or_before i n h = elim (cases_lt i n) [ inl k ↦ inl k | inr k ↦ inr (omega (arith, h, k)) ]
 
 pub none_numbered : (R : ℕ → ℕ → Type 0) (numbers : List ℕ) → numbers ≡ [] → AreNumbered R 0 numbers 0
 none_numbered R numbers e = record {

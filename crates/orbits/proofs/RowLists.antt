@@ -1,11 +1,12 @@
 -- The rows of motions, each at its first appearance.
-use Rattle.std.proofs.Common.{◌≡◌, ◌↔◌, ℕ, suc, ◌+◌, ◌<◌, ◌≤◌, ℤ, pos, Bool, true, false, ◌&&◌, ◌||◌, IsTrue, All, Any, Contains, List, [], ◌∷◌, ◌++◌, length, get_or, map, take, arith, refl, sym, ap, subst, ◌∙◌, unsigned_abs}
+use Rattle.std.proofs.Common.{◌≡◌, ◌↔◌, ℕ, suc, ◌+◌, ◌<◌, ◌≤◌, ℤ, pos, ◌||◌, IsTrue, All, Any, Contains, List, [], ◌∷◌, ◌++◌, length, get_or, map, take, arith, refl, sym, ap, subst, ◌∙◌, unsigned_abs}
 use Rattle.std.specs.List.{list_any}
 use Rattle.std.specs.Ordering.{int_eq}
 use Rattle.std.proofs.lemmas.List.{get_or_default, length-map, map-append, map_more, take-map, take_all}
 use Rattle.std.proofs.lemmas.List.Elements.{All-nil, All-push, All-contains}
 use Rattle.std.proofs.lemmas.List.Folds.{Any-from_list_any, list_any-from_Any}
 use lib.Pointwise.{pointwise}
+use Rattle.integers.proofs.Booleans.{bracketed}
 use Rattle.quotient.specs.Kind.{IsEquivalence}
 use Rattle.quotient.specs.Lists.{AreFirst}
 use Rattle.quotient.specs.Lists.AreFirst.{none}
@@ -16,6 +17,7 @@ use Rattle.symmetry.specs.Motions.{Motion}
 use Rattle.symmetry.specs.Groups.{Listing}
 use Rattle.symmetry.specs.Frames.{same_vector}
 use Rattle.symmetry.specs.Sizes.{IsSmall, IsVectorWithin}
+use Rattle.quotient.proofs.ListLaws.{three_items}
 use Rattle.motions.specs.ListedSizes.{IsSmallWithin}
 use Rattle.motions.specs.Laws.MotionLaws.{same_vector-is}
 use Rattle.motions.specs.Views.{motion_of, vector_of}
@@ -30,23 +32,10 @@ pub record AreRowsOf (r : Vector) (ms : List Motion) (rows : List Vector) : Type
 
 -- ---- rows that are listed
 
-three_numbers : (r : List ℤ) → length r ≡ 3 → r ≡ get_or r 0 (pos 0) ∷ get_or r 1 (pos 0) ∷ get_or r 2 (pos 0) ∷ []
-three_numbers [] e = absurd (omega arith)
-three_numbers (a ∷ []) e = absurd (omega arith)
-three_numbers (a ∷ b ∷ []) e = absurd (omega arith)
-three_numbers (a ∷ b ∷ c ∷ []) e = refl
-three_numbers (a ∷ b ∷ c ∷ d ∷ r) e = absurd (omega arith)
-
-bracketed : (a b c : Bool) → (a && (b && (c && true))) ≡ (a && b && c)
-bracketed true true true = refl
-bracketed true true false = refl
-bracketed true false c = refl
-bracketed false b c = refl
-
 -- equality entry by entry is that of the rows
 pointwise-row : (r s : List ℤ) → length r ≡ 3 → length s ≡ 3 → pointwise int_eq r s ≡ same_vector (vector_of r) (vector_of s)
 pointwise-row r s h k =
-    (λ i. pointwise int_eq (three_numbers r h i) (three_numbers s k i))
+    (λ i. pointwise int_eq (three_items r (pos 0) h i) (three_items s (pos 0) k i))
     ∙ bracketed (int_eq (get_or r 0 (pos 0)) (get_or s 0 (pos 0))) (int_eq (get_or r 1 (pos 0)) (get_or s 1 (pos 0))) (int_eq (get_or r 2 (pos 0)) (get_or s 2 (pos 0)))
 
 list_any-rows : (rs : List (List ℤ)) (s : List ℤ) → ((i : ℕ) → i < length rs → length (get_or rs i []) ≡ 3) → length s ≡ 3

@@ -1,13 +1,12 @@
 -- How large the numbers of a' and b' are: the rod operations take a and b to combinations with small coefficients.
-use Rattle.std.proofs.Common.{◌≡◌, inl, inr, ℕ, zero, suc, ◌*◌, ◌<◌, ◌≤◌, ◌^◌, ℤ, pos, negsuc, ◌+ℤ◌, ◌*ℤ◌, ◌≤ℤ◌, Bool, true, false, cond, List, [], ◌∷◌, length, map, sym, ap, subst, ◌∙◌, arith, lit≤}
+use Rattle.std.proofs.Common.{◌≡◌, inl, inr, ℕ, suc, ◌*◌, ◌<◌, ◌≤◌, ◌^◌, ℤ, pos, negsuc, ◌+ℤ◌, ◌*ℤ◌, ◌≤ℤ◌, Bool, true, false, cond, List, [], ◌∷◌, length, map, sym, ap, subst, ◌∙◌, arith, lit≤}
 use Rattle.std.specs.Prelude.{slice_index_or, unsigned_abs}
 use Rattle.std.proofs.lemmas.Int.{ints}
 use Rattle.std.proofs.lemmas.List.{length-map}
 use Rattle.std.proofs.lemmas.List.Sums.{count_by-le-length, length-filter}
-use Rattle.std.proofs.Math.Nat.{eq-one_of_dvd-one}
 use Rattle.fractions.specs.declared.part.TheConstants.{UNIT}
 use Rattle.fractions.specs.declared.ratio.Ratio.{Ratio}
-use Rattle.fractions.specs.Fraction.{Fraction, IsFraction, IsInLowestTerms}
+use Rattle.fractions.specs.Fraction.{Fraction}
 use Rattle.fractions.specs.Fractions.{fraction_at, fractions_of}
 use Rattle.fractions.specs.LowestTerms.{IsLowestForm, IsNoLarger, lowest_terms}
 use Rattle.fractions.proofs.Lowest.{IsNoLarger-lowest_terms, lowest_terms-only}
@@ -15,6 +14,7 @@ use Rattle.integers.specs.Size.{IsWithin}
 use Rattle.integers.proofs.Order.{mul_left_cancel_pos}
 use Rattle.integers.proofs.Ring.{IsWithin-add, IsWithin-more, IsWithin-mul, mul_zero}
 use Rattle.integers.proofs.Solver.{Expr.{var, num, ◌⊕◌, ◌⊗◌}, ring}
+use Rattle.fractions.proofs.Arrays.{fraction_at-lowest, fraction_at-positive}
 use Rattle.symmetry.specs.Vectors.{Vector, dot, cross, image, multiple, plus}
 use Rattle.symmetry.specs.Motions.{Motion}
 use Rattle.symmetry.specs.Planes.{IsCoprime}
@@ -31,18 +31,6 @@ use Rattle.plane_lattice.specs.Scanning.{IsPointOf}
 use Rattle.penetration.specs.RodFrames.{AreRodOperations, IsRodFrame, IsRodSkewed, coefficient, levelled, sign_along, total_along}
 use Rattle.penetration.specs.RodOperations.{AreAcrossFractions, ArePointsOf, IsAcrossFraction, IsAcrossWithin, keeps_along, rod_ops}
 use Rattle.penetration.proofs.MadeRodFrames.{rod_turned_near, turned_a, turned_b}
-
--- ---- an array of ratios is a point in lowest terms
-
-pub fraction_at-positive : (c : List Ratio) (i : ℕ) → IsFraction (fraction_at c i)
-fraction_at-positive [] i = omega (arith, ints)
-fraction_at-positive (q ∷ c) zero = q.positive
-fraction_at-positive (q ∷ c) (suc i) = fraction_at-positive c i
-
-pub fraction_at-lowest : (c : List Ratio) (i : ℕ) → IsInLowestTerms (fraction_at c i)
-fraction_at-lowest [] i = λ d _ h. eq-one_of_dvd-one h
-fraction_at-lowest (q ∷ c) zero = q.lowest
-fraction_at-lowest (q ∷ c) (suc i) = fraction_at-lowest c i
 
 -- ---- the sum of what the operations do
 

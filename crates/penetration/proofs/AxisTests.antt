@@ -1,11 +1,11 @@
 -- What the code's numbers tell of vectors along an axis, and the motion at home by them.
-use Rattle.std.proofs.Common.{◌≡◌, ◌↔◌, ◌⊎◌, inl, inr, ℕ, zero, suc, ◌*◌, ◌≤◌, ◌+ℤ◌, ◌*ℤ◌, ◌≤ℤ◌, ℤ, pos, nat_abs, IsTrue, nat_eq, FitsSigned, w64, to_z, of_z, eq-eqb, refl, sym, ap, subst, ◌∙◌, arith, lit<}
-use Rattle.std.proofs.lemmas.Int.{ints, to_z-of_z}
-use Rattle.std.specs.Int.{int_div_euclid, w128}
-use borrow.Author.Tests.{eqb-true}
+use Rattle.std.proofs.Common.{◌≡◌, ◌↔◌, inl, inr, ℕ, ◌*◌, ◌≤◌, ◌+ℤ◌, ◌*ℤ◌, ◌≤ℤ◌, ℤ, pos, refl, sym, ap, ◌∙◌, arith, lit<}
+use Rattle.std.proofs.lemmas.Int.{ints}
+use Rattle.std.specs.Int.{int_div_euclid}
 use Rattle.integers.specs.Size.{IsWithin}
-use Rattle.integers.proofs.Coded.{again}
-use Rattle.integers.proofs.Ring.{abs-mul, abs-zero}
+use Rattle.integers.proofs.Wide.{wide, wide_is}
+use Rattle.integers.proofs.Order.{zero_or_not}
+use Rattle.integers.proofs.Sizes.{multiplier_within}
 use Rattle.symmetry.specs.Vectors.{Vector, minus, multiple, dot, cross}
 use Rattle.symmetry.specs.Frames.{Basis, combination}
 use Rattle.symmetry.specs.Sizes.{IsVectorWithin}
@@ -13,15 +13,8 @@ use Rattle.symmetry.proofs.VectorLaws.{vector_path}
 use Rattle.plane_lattice.specs.Bounds.{largest_scaled}
 use Rattle.plane_lattice.specs.Coordinates.{scaled, volume}
 use Rattle.plane_lattice.proofs.Cramer.{combination_once}
-use Rattle.plane_lattice.proofs.Wide.{wide, wide_is}
 use Rattle.penetration.specs.RodHomes.{IsAlongAxis, rod_home_shift}
 use Rattle.penetration.proofs.LineMembers.{only_axis}
-
-pub zero_tells : (z : ℤ) → FitsSigned w128 z → IsTrue (nat_eq (of_z w128 z) 0) ↔ (z ≡ pos 0)
-zero_tells z f = (λ t. sym (to_z-of_z w128 z f) ∙ ap (to_z w128) (eqb-true (of_z w128 z) 0 t), λ e. eq-eqb (of_z w128 z) 0 (ap (of_z w128) e))
-
-pub zero_is : (z : ℤ) → FitsSigned w128 z → of_z w128 z ≡ 0 → z ≡ pos 0
-zero_is z f e = sym (to_z-of_z w128 z f) ∙ ap (to_z w128) e
 
 pub on_axis : (f : Basis) (v c : Vector) → c.x ≡ pos 0 → c.y ≡ pos 0 → combination f c ≡ v → multiple c.z f.tau ≡ v
 on_axis f v c x y is = sym (only_axis f c.z) ∙ ap (combination f) (vector_path {v = record { x = pos 0; y = pos 0; z = c.z }} {w = c} (sym x) (sym y) refl) ∙ is
@@ -47,25 +40,6 @@ less_turns f g v d s q same small d_is s_small s_is q_small q_is =
     g.tau))
     ∙ ap (λ b. rod_home_shift b v) same
 
--- ---- numbers that go to 64 bits
-
-pub narrow_fits : (z : ℤ) → FitsSigned w128 z → FitsSigned w64 z → FitsSigned w64 (wide z)
-narrow_fits z f h = let P : ℤ → Type 0 = FitsSigned w64 in subst P (sym (to_z-of_z w128 z f)) h
-
-pub narrow_is : (z : ℤ) → FitsSigned w128 z → FitsSigned w64 z → again (wide z) ≡ z
-narrow_is z f h = ap again (to_z-of_z w128 z f) ∙ to_z-of_z w64 z h
-
--- a factor is no larger than a multiple that is not of 0
-factor_within : (n : ℕ) (t c x : ℤ) → ¬ (c ≡ pos 0) → t *ℤ c ≡ x → IsWithin n x → IsWithin n t
-factor_within n t c x some e small = record { most = by (nat_abs c) (nat_abs t) (nat_abs x) (λ z. some (abs-zero c z)) (sym (abs-mul t c) ∙ ap nat_abs e) small.most }
-  where
-    by : (c t x : ℕ) → ¬ (c ≡ 0) → t * c ≡ x → x ≤ n → t ≤ n
-    by zero t x some e h = absurd (some refl)
-    by (suc c) t x some e h = omega (arith, e, h)
-
-zero_or_not : (z : ℤ) → (z ≡ pos 0) ⊎ (¬ (z ≡ pos 0))
-zero_or_not z = grind (arith, ints)
-
 no_volume : (f : Basis) → f.tau.x ≡ pos 0 → f.tau.y ≡ pos 0 → f.tau.z ≡ pos 0 → ¬ (pos 1 ≤ℤ volume f)
 unfolding dot
 no_volume f x y z h =
@@ -77,11 +51,11 @@ pub axis_times_within : (f : Basis) (v : Vector) (t : ℤ) (n : ℕ) → pos 1 �
 unfolding multiple
 axis_times_within f v t n positive e small =
     elim (zero_or_not f.tau.x) [
-      | inr x ↦ factor_within n t f.tau.x v.x x (λ i. (e i).x) small.x
+      | inr x ↦ multiplier_within n t f.tau.x v.x x (λ i. (e i).x) small.x
       | inl x ↦ elim (zero_or_not f.tau.y) [
-        | inr y ↦ factor_within n t f.tau.y v.y y (λ i. (e i).y) small.y
+        | inr y ↦ multiplier_within n t f.tau.y v.y y (λ i. (e i).y) small.y
         | inl y ↦ elim (zero_or_not f.tau.z) [
-          | inr z ↦ factor_within n t f.tau.z v.z z (λ i. (e i).z) small.z
+          | inr z ↦ multiplier_within n t f.tau.z v.z z (λ i. (e i).z) small.z
           | inl z ↦ absurd (no_volume f x y z positive)
         ]
       ]

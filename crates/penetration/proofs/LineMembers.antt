@@ -1,10 +1,10 @@
 -- The motions that differ from a given one by a vector of the lattice and map a line to itself: when there are any, and which of
 -- them is near.
-use Rattle.std.proofs.Common.{◌≡◌, ℤ, pos, negsuc, ◌+ℤ◌, ◌-ℤ◌, ◌*ℤ◌, ◌≤ℤ◌, ◌<ℤ◌, None, Some, refl, sym, ◌∙◌, ap, subst, arith, [], ◌∷◌}
+use Rattle.std.proofs.Common.{◌≡◌, ℤ, pos, negsuc, ◌+ℤ◌, ◌-ℤ◌, ◌*ℤ◌, ◌≤ℤ◌, None, Some, refl, sym, ◌∙◌, ap, subst, arith, [], ◌∷◌}
 use Rattle.std.proofs.lemmas.Int.{ints}
 use Rattle.fractions.specs.declared.part.TheConstants.{UNIT}
 use Rattle.integers.proofs.Division.{fractional_parts}
-use Rattle.integers.proofs.Order.{mul_left_cancel_pos, one-le-mul}
+use Rattle.integers.proofs.Order.{mul_left_cancel_pos, one-le-mul, at_least_one}
 use Rattle.integers.proofs.Ring.{mul_zero}
 use Rattle.integers.proofs.Solver.{Expr.{var, num, neg, ◌⊕◌, ◌⊝◌, ◌⊗◌}, linear, given}
 use Rattle.integers.proofs.Spread.{spread}
@@ -154,9 +154,6 @@ apart_along o o' k s t x y d c e h p q =
 module _ (g : Listing) (u : Vector) (f : Basis) (group : IsGroup g) (coprime : IsCoprime u) (frame : IsRodFrame g u f) (at : Vector) where
   pub frame_volume : pos 1 ≤ℤ volume f
   frame_volume = at_least_one (volume f) frame.right_handed
-    where
-      at_least_one : (v : ℤ) → pos 0 <ℤ v → pos 1 ≤ℤ v
-      at_least_one v h = omega (arith, ints, h)
 
   -- a rational multiple of the direction has no coordinate by a row that the axis has none by
   none_by : (row v : Vector) (b a : ℤ) → dot row f.tau ≡ pos 0 → pos 1 ≤ℤ b → multiple b v ≡ multiple a u → dot row v ≡ pos 0

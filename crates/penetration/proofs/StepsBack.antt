@@ -6,6 +6,7 @@ use Rattle.std.proofs.Math.Nat.{mul-le-mul}
 use native.Mathlib.Decide.{dec_lt}
 use Rattle.integers.specs.Size.{IsWithin}
 use Rattle.integers.proofs.Ring.{IsWithin-add, IsWithin-more, IsWithin-sub, abs-mul}
+use Rattle.integers.proofs.Wide.{wide, wide_is}
 use Rattle.symmetry.specs.Vectors.{Vector, plus, multiple, image}
 use Rattle.symmetry.specs.Motions.{Motion}
 use Rattle.symmetry.specs.Frames.{Basis}
@@ -15,7 +16,6 @@ use Rattle.plane_lattice.specs.Coordinates.{scaled, volume}
 use Rattle.plane_lattice.specs.Laws.QuotientLaws.{div_euclid_from, div_euclid_below}
 use Rattle.plane_lattice.proofs.Passed.{passed_volume, passed_x, passed_y, passed_z}
 use Rattle.plane_lattice.proofs.Sizes.{image_within}
-use Rattle.plane_lattice.proofs.Wide.{wide, wide_is}
 use Rattle.penetration.specs.RodHomes.{AreStepsBack, HasWholeSteps}
 use Rattle.penetration.specs.RodSections.{drift}
 use Rattle.penetration.proofs.LineMembers.{drift_along, taken_back}

@@ -19,8 +19,8 @@ use Rattle.closure.specs.Groups.{group_listing, IsGroupOf}
 use Rattle.symmetry.proofs.LatticeLaws.{lattice-made}
 use Rattle.closure.specs.Lattices.{residues_of}
 use Rattle.closure.specs.Laws.ShiftLaws.{residues-reduced}
-use Rattle.closure.specs.Laws.ListLaws.{nothing_contained}
 use Rattle.integers.proofs.Remainders.{Divides-zero, rem-same}
+use Rattle.quotient.proofs.ListLaws.{nothing_contained}
 use Rattle.closure.specs.Residues.{residue}
 use Rattle.closure.proofs.Made.{edge-whole}
 use Rattle.plane_motions.specs.PlaneMotions.{IsFlat, IsFlatListing}

@@ -1,10 +1,10 @@
 -- The motion at home, in the plane lattice of a basis.
-use Rattle.std.proofs.Common.{◌≡◌, ℕ, ◌+◌, ◌*◌, ◌≤◌, ◌<◌, ℤ, pos, negsuc, ◌+ℤ◌, ◌*ℤ◌, ◌≤ℤ◌, ◌<ℤ◌, nat_abs, unsigned_abs, ◌^◌, refl, sym, ap, subst, ◌∙◌, arith}
-use Rattle.std.proofs.Math.Nat.{le_of_mul-le-mul_left, le-mul_of_pos_right}
+use Rattle.std.proofs.Common.{◌≡◌, ◌+◌, ◌*◌, ◌≤◌, ◌<◌, ℤ, pos, negsuc, ◌+ℤ◌, ◌*ℤ◌, ◌≤ℤ◌, ◌<ℤ◌, nat_abs, unsigned_abs, ◌^◌, refl, sym, ap, subst, ◌∙◌, arith}
 use Rattle.std.proofs.lemmas.Int.{ints}
 use lib.IntN.{*ℤ_comm}
 use Rattle.integers.specs.Size.{IsWithin}
-use Rattle.integers.proofs.Ring.{IsWithin-add, IsWithin-mul, abs-mul, neg_as_mul}
+use Rattle.integers.proofs.Ring.{IsWithin-mul, neg_as_mul}
+use Rattle.integers.proofs.Sizes.{below_within, combined_within, factor_within}
 use Rattle.symmetry.specs.Vectors.{Vector, plus, minus, multiple, dot}
 use Rattle.symmetry.specs.Motions.{Motion}
 use Rattle.symmetry.specs.Frames.{Basis, combination, IsAtHome}
@@ -88,37 +88,6 @@ home_level r f a b v =
 
 -- ---- sizes
 
--- numbers from 0 to below d
-below_within : (d x : ℤ) → pos 0 ≤ℤ x → x <ℤ d → IsWithin (nat_abs d) x
-below_within d x h k = record { most = omega (arith, ints) }
-
--- a number is no larger than its multiple
-divided_within : (d x : ℤ) (n : ℕ) → pos 1 ≤ℤ d → IsWithin n (d *ℤ x) → IsWithin n x
-divided_within d x n h k =
-    let size = abs-mul d x in
-    let least : 0 < nat_abs d = omega (arith, ints) in
-    let le = le-mul_of_pos_right (nat_abs x) least in
-    record { most = omega (arith, ints, k.most) }
-
--- and n times smaller where the multiple is by d and within d n
-times_within : (d x : ℤ) (n : ℕ) → pos 1 ≤ℤ d → IsWithin (nat_abs d * n) (d *ℤ x) → IsWithin n x
-times_within d x n h k =
-    let least : 0 < nat_abs d = omega (arith, ints) in
-    record { most = le_of_mul-le-mul_left {k = nat_abs d} (subst (λ (s : ℕ). s ≤ nat_abs d * n) (abs-mul d x) k.most) least }
-
--- a combination x a + y b + z t that is d times h, where x and y are below d and z is within k times d
-entry_within : (d x y z a b t e : ℤ) (n k : ℕ) → pos 1 ≤ℤ d → x *ℤ a +ℤ y *ℤ b +ℤ z *ℤ t ≡ d *ℤ e
-    → IsWithin (nat_abs d) x → IsWithin (nat_abs d) y → IsWithin (nat_abs d * k) z
-    → IsWithin n a → IsWithin n b → IsWithin n t → IsWithin (n + n + k * n) e
-entry_within d x y z a b t e n k h is hx hy hz ha hb ht =
-    times_within d e (n + n + k * n) h
-    (subst (λ (m : ℕ). IsWithin m (d *ℤ e)) (gathered (nat_abs d) n k)
-    (subst (IsWithin (nat_abs d * n + nat_abs d * n + nat_abs d * k * n)) is
-    (IsWithin-add (IsWithin-add (IsWithin-mul hx ha) (IsWithin-mul hy hb)) (IsWithin-mul hz ht))))
-  where
-    gathered : (d n k : ℕ) → d * n + d * n + d * k * n ≡ d * (n + n + k * n)
-    gathered d n k = omega arith
-
 module _ (r : Vector) (f : Basis) (h : pos 1 ≤ℤ volume f) (a_flat : dot r f.a ≡ pos 0) (b_flat : dot r f.b ≡ pos 0) (above : pos 1 ≤ℤ dot r f.tau)
     (a : IsVectorWithin largest_entry f.a) (b : IsVectorWithin largest_entry f.b) (tau : IsVectorWithin largest_entry f.tau)
     (row : IsVectorWithin (unsigned_abs INDEX) r) (v : Vector) (small : IsVectorWithin (2 ^ 20) v) where
@@ -130,7 +99,7 @@ module _ (r : Vector) (f : Basis) (h : pos 1 ≤ℤ volume f) (a_flat : dot r f.
 
   third_within : IsWithin (nat_abs (volume f) * largest_level) (rest f v).z
   third_within =
-      divided_within (dot r f.tau) (rest f v).z (nat_abs (volume f) * largest_level) above
+      factor_within (nat_abs (volume f) * largest_level) (dot r f.tau) (rest f v).z (λ e. absurd (omega (arith, ints, above, e)))
       (subst (IsWithin (nat_abs (volume f) * largest_level)) (sym third) (IsWithin-mul (record { most = omega arith }) (dot_within row small)))
 
   abbrev across : IsWithin (nat_abs (volume f)) (rest f v).x
@@ -145,7 +114,7 @@ module _ (r : Vector) (f : Basis) (h : pos 1 ≤ℤ volume f) (a_flat : dot r f.
       let is = combination-rest f v in
       let c = rest f v in
       let e = home_shift f v in record {
-        x = entry_within (volume f) c.x c.y c.z f.a.x f.b.x f.tau.x e.x largest_entry largest_level h (ap (λ (u : Vector). u.x) is) across along third_within a.x b.x tau.x;
-        y = entry_within (volume f) c.x c.y c.z f.a.y f.b.y f.tau.y e.y largest_entry largest_level h (ap (λ (u : Vector). u.y) is) across along third_within a.y b.y tau.y;
-        z = entry_within (volume f) c.x c.y c.z f.a.z f.b.z f.tau.z e.z largest_entry largest_level h (ap (λ (u : Vector). u.z) is) across along third_within a.z b.z tau.z;
+        x = combined_within (volume f) c.x c.y c.z f.a.x f.b.x f.tau.x e.x largest_entry largest_level h (ap (λ (u : Vector). u.x) is) across along third_within a.x b.x tau.x;
+        y = combined_within (volume f) c.x c.y c.z f.a.y f.b.y f.tau.y e.y largest_entry largest_level h (ap (λ (u : Vector). u.y) is) across along third_within a.y b.y tau.y;
+        z = combined_within (volume f) c.x c.y c.z f.a.z f.b.z f.tau.z e.z largest_entry largest_level h (ap (λ (u : Vector). u.z) is) across along third_within a.z b.z tau.z;
       }

@@ -3,13 +3,13 @@ use Rattle.std.proofs.Common.{◌≡◌, ℤ, pos, ◌*ℤ◌, ◌≤ℤ◌, Fit
 use Rattle.std.specs.Int.{w128}
 use Rattle.std.proofs.lemmas.Int.{to_z-of_z}
 use Rattle.integers.specs.Size.{IsWithin}
+use Rattle.integers.proofs.Wide.{wide, wide_is}
 use Rattle.symmetry.specs.Frames.{Basis, combination}
 use Rattle.symmetry.specs.Sizes.{IsVectorWithin}
 use Rattle.symmetry.specs.Vectors.{Vector}
 use Rattle.plane_lattice.specs.Bounds.{largest_scaled}
 use Rattle.plane_lattice.specs.Coordinates.{volume, scaled, IsCombination}
 use Rattle.plane_lattice.proofs.Cramer.{whole_x, whole_y, whole_z, combination_of}
-use Rattle.plane_lattice.proofs.Wide.{wide, wide_is}
 
 module _ (f : Basis) (v : Vector) (d : ℤ) (s : Vector) (small : IsWithin largest_scaled d) (d_is : d ≡ volume f)
     (smalls : IsVectorWithin largest_scaled s) (s_is : s ≡ scaled f v) where

@@ -4,6 +4,7 @@ use Rattle.std.proofs.Math.Nat.{div-le_self}
 use Rattle.integers.specs.Size.{IsWithin}
 use Rattle.std.specs.Int.{int_div_euclid, int_rem_euclid}
 use Rattle.std.proofs.lemmas.Int.{ints}
+use Rattle.integers.proofs.Ring.{zero_add}
 use Rattle.plane_lattice.specs.Laws.QuotientLaws.{div_euclid-multiple}
 
 -- the remainder is what the quotient leaves
@@ -21,16 +22,13 @@ rem-multiple d q h =
     let quotient : int_div_euclid (pos 0 +ℤ d *ℤ q) d ≡ int_div_euclid (pos 0) d +ℤ q = div_euclid-multiple (pos 0) d q h in
     let sum : pos 0 +ℤ d *ℤ q ≡ d *ℤ q = omega (arith, ints) in
     let whole : int_div_euclid (d *ℤ q) d ≡ q =
-    ap (λ x. int_div_euclid x d) (sym sum) ∙ quotient ∙ ap (λ z. z +ℤ q) none ∙ first q in
+    ap (λ x. int_div_euclid x d) (sym sum) ∙ quotient ∙ ap (λ z. z +ℤ q) none ∙ zero_add q in
     rem_euclid_is (d *ℤ q) d h ∙ ap (λ z. d *ℤ q -ℤ d *ℤ z) whole ∙ same (d *ℤ q)
   where
     nothing : (d : ℤ) → pos 1 ≤ℤ d → int_div_euclid (pos 0) d ≡ pos 0
     nothing (pos zero) h = absurd (omega (arith, ints))
     nothing (pos (suc b)) h = omega (arith, ints)
     nothing (negsuc b) h = absurd (omega (arith, ints))
-
-    first : (q : ℤ) → pos 0 +ℤ q ≡ q
-    first q = omega (arith, ints)
 
     same : (x : ℤ) → x -ℤ x ≡ pos 0
     same x = omega (arith, ints)

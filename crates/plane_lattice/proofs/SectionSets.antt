@@ -1,4 +1,5 @@
 -- A section is what a list of its motions stands for, up to whole vectors.
+use lib.IntN.{*ℤ_comm}
 use Rattle.std.proofs.Common.{◌≡◌, ◌↔◌, ℕ, ◌<◌, ℤ, pos, negsuc, ◌+ℤ◌, ◌-ℤ◌, ◌*ℤ◌, ◌≤ℤ◌, ◌<ℤ◌, List, [], ◌∷◌, length, get_or, refl, sym, ap, subst, ◌∙◌, arith}
 use Rattle.std.specs.List.{AllPairs}
 use Rattle.std.proofs.lemmas.Int.{ints}
@@ -301,10 +302,7 @@ module _ (g : Listing) (r : Vector) (f : Basis) (frame : IsFrame g r f) (c o : P
       (combination-multiple f q' (flat p) ∙ ap (multiple q') (flat-combination f p)
       ∙ shift_once_entries q q' o.over (move m o) (plus (multiple p.x f.a) (multiple p.y f.b)) (plus (multiple p'.x f.a) (multiple p'.y f.b)) above_o seen.translation seen'.translation
       ∙ ap (multiple q) (sym (flat-combination f p')) ∙ sym (combination-multiple f q (flat p'))) in
-      record { x = swap p.x q' ∙ (λ i. (e i).x) ∙ swap q p'.x; y = swap p.y q' ∙ (λ i. (e i).y) ∙ swap q p'.y }
-    where
-      swap : (a b : ℤ) → a *ℤ b ≡ b *ℤ a
-      swap a b = omega (arith, ints)
+      record { x = *ℤ_comm p.x q' ∙ (λ i. (e i).x) ∙ *ℤ_comm q p'.x; y = *ℤ_comm p.y q' ∙ (λ i. (e i).y) ∙ *ℤ_comm q p'.y }
 
   pub motion_once : (m k : Motion) (op : RationalMotion) → pos 1 ≤ℤ op.translation.over → IsSeenAs f c o m op → IsSeenAs f c o k op → m ≡ k
   motion_once m k op positive seen seen' =

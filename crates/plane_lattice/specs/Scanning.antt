@@ -1,9 +1,9 @@
 -- The scanning operations of a list, and their mean.
-use Rattle.std.specs.Prelude.{ℕ, pos, Bool, ◌||◌, List, map, slice_index_or}
+use Rattle.std.specs.Prelude.{Bool, ◌||◌, List}
 use Rattle.std.specs.List.{filter}
 use Rattle.fractions.specs.declared.ratio.Ratio.{Ratio}
-use Rattle.fractions.specs.Fraction.{Fraction, SameFraction}
-use Rattle.fractions.specs.FractionOf.{fraction_of}
+use Rattle.fractions.specs.Fraction.{SameFraction}
+use Rattle.fractions.specs.Fractions.{fraction_at}
 use Rattle.symmetry.specs.Vectors.{Vector, opposite, row_times}
 use Rattle.symmetry.specs.Motions.{Motion, Point}
 use Rattle.symmetry.specs.Frames.{same_vector}
@@ -15,10 +15,6 @@ keeps_orientation r m = same_vector (row_times r m.matrix) r || same_vector (row
 -- the operations of the list that keep the orientation
 abbrev pub scanning_ops : Vector → List Motion → List Motion
 scanning_ops r ops = filter (keeps_orientation r) ops
-
--- the fraction at a place of an array
-abbrev pub fraction_at : List Ratio → ℕ → Fraction
-fraction_at c i = slice_index_or (map fraction_of c) i (record { num = pos 0; den = pos 1 })
 
 -- the three fractions are the point
 pub record IsPointOf (p : Point) (c : List Ratio) : Type 0 where

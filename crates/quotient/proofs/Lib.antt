@@ -12,3 +12,5 @@ pub mod Positions
 pub mod Products
 pub mod Sameness
 pub mod TableLemma
+pub mod ListLaws
+pub mod Zips

@@ -1,6 +1,7 @@
 -- The finite tests tell whether a change carries a section onto a type, and so do the conditions of its motions.
 use Rattle.std.proofs.Common.{◌↔◌, ℕ, ◌<◌, ◌≤◌, List, length, slice_index_or, arith}
 use Rattle.std.specs.Prelude.{Any}
+use Rattle.quotient.proofs.ListLaws.{item_at}
 use Rattle.motions.specs.declared.layer.LayerMotion.{LayerMotion}
 use Rattle.motions.specs.PlaneMatrices.{Matrix2}
 use Rattle.layer_types.specs.declared.layer_type.LayerType.{LayerType}
@@ -11,7 +12,6 @@ use Rattle.recognition.specs.Classes.{Meets, MeetsFirst}
 use Rattle.recognition.specs.Order.{origin_at}
 use Rattle.recognition.specs.Listed.{Agrees, AreDistinct, Fits, IsPaired}
 use Rattle.recognition.proofs.CarriesLemma.{carries_fits, fits_carries}
-use Rattle.recognition.proofs.Lists.{item_at}
 use Rattle.recognition.proofs.Ready.{type_keeps}
 use Rattle.recognition.proofs.TypeSets.{carries_listed}
 use Rattle.recognition.proofs.Unique.{from_forth}

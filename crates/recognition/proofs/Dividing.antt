@@ -1,9 +1,11 @@
 -- Congruences whose factor divides the number of the grid.
-use Rattle.std.proofs.Common.{◌≡◌, ◌↔◌, ℕ, suc, ◌+◌, ◌*◌, ◌/◌, ◌%◌, ◌<◌, ◌≤◌, ℤ, pos, negsuc, ◌+ℤ◌, ◌-ℤ◌, ◌*ℤ◌, ◌≤ℤ◌, ◌<ℤ◌, ◌⊎◌, inl, inr, [], ◌∷◌, refl, ◌∙◌, ap, arith}
+use lib.IntN.{pos-*ℤ-pos}
+use Rattle.std.proofs.Common.{◌≡◌, ◌↔◌, ℕ, suc, ◌+◌, ◌*◌, ◌/◌, ◌%◌, ◌<◌, ◌≤◌, ℤ, pos, negsuc, ◌+ℤ◌, ◌-ℤ◌, ◌*ℤ◌, ◌≤ℤ◌, ◌<ℤ◌, inl, inr, [], ◌∷◌, refl, ◌∙◌, ap, arith, sym}
 use Rattle.std.specs.Int.{int_rem_euclid}
 use Rattle.std.specs.Prelude.{unsigned_abs, MatchOption, Option, None, Some}
 use Rattle.std.proofs.lemmas.Int.{ints}
 use Rattle.std.proofs.Math.Nat.{mul-le-mul_left}
+use Rattle.std.proofs.lemmas.Bool.{cases_lt}
 use Rattle.integers.proofs.Order.{mul-le-mul_right, mul_left_cancel_pos}
 use Rattle.integers.proofs.Solver.{Expr.{var, num, neg, ◌⊕◌, ◌⊝◌, ◌⊗◌}, given, linear}
 use Rattle.recognition.specs.Grid.{grid}
@@ -57,12 +59,9 @@ wanted_positive c d n rest v o (k, e) = (
 
 -- ---- where the factor s makes parts of the length l
 
-product_of : (s l : ℕ) → pos (s * l) ≡ pos s *ℤ pos l
-product_of s l = omega (arith, ints)
-
 module _ (s l rest : ℕ) (some : 1 ≤ s) (below : rest < grid) (divides : grid ≡ s * l) where
   parts : pos grid ≡ pos s *ℤ pos l
-  parts = ap pos divides ∙ product_of s l
+  parts = ap pos divides ∙ sym (pos-*ℤ-pos s l)
 
   one_positive : pos 1 ≤ℤ pos s
   one_positive = omega (arith, ints)
@@ -70,13 +69,10 @@ module _ (s l rest : ℕ) (some : 1 ≤ s) (below : rest < grid) (divides : grid
   -- s q is the rest
   module _ (q : ℕ) (is : rest ≡ s * q) where
     short : q < l
-    short = elim (compare q l) [ inl less ↦ less | inr more ↦ absurd (omega (arith, mul-le-mul_left s more)) ]
-      where
-        compare : (j m : ℕ) → (j < m) ⊎ (m ≤ j)
-        compare j m = grind arith
+    short = elim (cases_lt q l) [ inl less ↦ less | inr more ↦ absurd (omega (arith, mul-le-mul_left s more)) ]
 
     rest_is : pos rest ≡ pos s *ℤ pos q
-    rest_is = ap pos is ∙ product_of s q
+    rest_is = ap pos is ∙ sym (pos-*ℤ-pos s q)
 
     step : (v : ℕ) (y : ℤ) → pos s *ℤ pos v -ℤ pos rest ≡ pos grid *ℤ y → pos v ≡ pos q +ℤ y *ℤ pos l
     step v y e =

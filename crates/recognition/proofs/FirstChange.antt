@@ -1,18 +1,12 @@
 -- The order of changes is total, and the first change comes from its steps.
-use Rattle.std.proofs.Common.{◌≡◌, ℕ, ◌<◌, ◌≤◌, ℤ, ◌<ℤ◌, ◌⊎◌, inl, inr, refl, sym, subst, arith, List}
-use Rattle.std.proofs.lemmas.Int.{ints}
+use Rattle.std.proofs.Common.{◌≡◌, ℕ, ◌<◌, ◌≤◌, ◌⊎◌, inl, inr, refl, sym, subst, List}
+use Rattle.integers.proofs.Order.{compare_nat, compare_int}
 use Rattle.motions.specs.declared.layer.LayerMotion.{LayerMotion}
 use Rattle.motions.specs.PlaneMatrices.{Matrix2}
 use Rattle.motions.specs.Laws.PlaneMatrixLaws.{matrix2_path, pair_path}
 use Rattle.recognition.specs.Changes.{Carries}
 use Rattle.recognition.specs.Order.{Change, IsBefore, IsBounded, IsChangeOf, IsFirstChange, IsGreater, IsMatrixBefore, IsTypeNumber, origin_at, size_of}
 use Rattle.recognition.specs.Search.{HasNoMatrix, IsFirstMatrix}
-
-compare_nat : (a b : ℕ) → (a < b) ⊎ ((a ≡ b) ⊎ (b < a))
-compare_nat a b = grind arith
-
-compare_int : (a b : ℤ) → (a <ℤ b) ⊎ ((a ≡ b) ⊎ (b <ℤ a))
-compare_int a b = grind (arith, ints)
 
 -- of two matrices one stands before the other, or they are one
 by_entries : (p q : Matrix2) → IsGreater p q ⊎ ((p ≡ q) ⊎ IsGreater q p)

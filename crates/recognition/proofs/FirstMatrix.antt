@@ -1,13 +1,14 @@
 -- The order of matrices, and the first matrix of a table.
-use Rattle.std.proofs.Common.{◌≡◌, ℕ, ◌<◌, ◌⊎◌, inl, inr, ℤ, Bool, List, length, map, slice_index_or, sym, ◌∙◌, ap, subst, arith}
+use Rattle.std.proofs.Common.{◌≡◌, ℕ, ◌<◌, inl, inr, ℤ, Bool, List, length, map, slice_index_or, sym, ◌∙◌, ap, subst, arith}
 use Rattle.std.proofs.lemmas.Int.{ints}
 use Rattle.std.proofs.lemmas.List.{get_or_default, get_or-map, length-map}
+use Rattle.integers.proofs.Order.{compare_nat}
+use Rattle.quotient.proofs.ListLaws.{All-from_map, Contains-from_map}
 use Rattle.motions.specs.PlaneMatrices.{Matrix2}
 use Rattle.motions.specs.PlaneViews.{matrix2_of}
 use Rattle.recognition.specs.Order.{IsBoundedMatrix, IsGreater, IsMatrixBefore}
 use Rattle.recognition.specs.Search.{HasNoMatrix, IsFirstMatrix, IsLeastOrigin, IsMatrixTable, IsNowhere}
 use Rattle.recognition.specs.Listed.{TakesLattice}
-use Rattle.recognition.proofs.Lists.{All-from_map, Contains-from_map}
 
 -- ---- the order
 
@@ -38,9 +39,6 @@ not_both_before p q (inl h) (inl k) = absurd (omega arith)
 not_both_before p q (inl h) (inr (e, _)) = absurd (omega (arith, e))
 not_both_before p q (inr (e, _)) (inl h) = absurd (omega (arith, e))
 not_both_before p q (inr (e, g)) (inr (f, h)) = not_both_greater p q g h
-
-compare : (a b : ℕ) → (a < b) ⊎ ((a ≡ b) ⊎ (b < a))
-compare a b = grind arith
 
 -- ---- a table as rows of the code
 
@@ -74,7 +72,7 @@ module _ (centred : Bool) (rows : List (List (List ℤ))) (table : IsMatrixTable
         first q b before u v o h =
             let (r, (j, below, here), is) = Contains-from_map matrix2_of rows q (table.complete q b (takes q u v h)) in
             let same : at j r ≡ q = ap matrix2_of here ∙ is in
-            elim (compare j k) [
+            elim (compare_nat j k) [
               | inl less ↦ none j r less u v o (subst (λ p. C p u v) (sym same) h)
               | inr s ↦ elim s [
                 | inl equal ↦

@@ -7,7 +7,7 @@ use Rattle.motions.specs.Rationals.{RationalPair, IsRationalPair, IsMultiple, Is
 use Rattle.recognition.specs.Changes.{rational_image}
 use Rattle.recognition.specs.Listed.{IsUnit, IsInLattice, TakesLattice, KeepsCentring, half}
 use Rattle.integers.proofs.Spread.{spread, numerals_out}
-use Rattle.integers.proofs.Ring.{mul_assoc}
+use Rattle.integers.proofs.Ring.{mul_assoc, mul_zero, one_mul, mul_one}
 use Rattle.integers.proofs.Order.{mul_left_cancel_pos}
 use Rattle.recognition.proofs.Whole.{unit_factor}
 
@@ -21,10 +21,7 @@ unit_square s (inl e) = ap (λ z. z *ℤ z) e
 unit_square s (inr e) = ap (λ z. z *ℤ z) e
 
 unit_twice : (s k : ℤ) → IsUnit s → s *ℤ (s *ℤ k) ≡ k
-unit_twice s k h = sym (mul_assoc s s k) ∙ ap (λ z. z *ℤ k) (unit_square s h) ∙ one_times k
-  where
-    one_times : (k : ℤ) → pos 1 *ℤ k ≡ k
-    one_times k = omega (arith, ints)
+unit_twice s k h = sym (mul_assoc s s k) ∙ ap (λ z. z *ℤ k) (unit_square s h) ∙ one_mul k
 
 -- Cramer's rule: what the equations a x + m y = k and b x + n y = l have as x and y
 abbrev solved_x : ℤ → ℤ → ℤ → ℤ → ℤ → ℤ → ℤ
@@ -109,10 +106,7 @@ in_centred x y =
     ]
 
 same_row : (p q x y d v k : ℤ) → v ≡ d *ℤ k → p *ℤ x +ℤ q *ℤ y ≡ k → v *ℤ pos 1 ≡ (p *ℤ x +ℤ q *ℤ y) *ℤ d
-same_row p q x y d v k e f = one_times v ∙ e ∙ ap (λ z. d *ℤ z) (sym f) ∙ *ℤ_comm d (p *ℤ x +ℤ q *ℤ y)
-  where
-    one_times : (v : ℤ) → v *ℤ pos 1 ≡ v
-    one_times v = omega (arith, ints)
+same_row p q x y d v k e f = mul_one v ∙ e ∙ ap (λ z. d *ℤ z) (sym f) ∙ *ℤ_comm d (p *ℤ x +ℤ q *ℤ y)
 
 same_half_row : (p q a x y d v k : ℤ) → p +ℤ q ≡ pos 2 *ℤ a → v ≡ d *ℤ k → a *ℤ x +ℤ q *ℤ y ≡ k
     → v *ℤ pos 2 ≡ (p *ℤ x +ℤ q *ℤ (x +ℤ pos 2 *ℤ y)) *ℤ d
@@ -275,10 +269,7 @@ lattice_back false p whole every =
 -- ---- matrices beside one that takes the lattice onto the whole vectors
 
 pub by_unit : (s x : ℤ) → IsUnit s → s *ℤ x ≡ pos 0 → x ≡ pos 0
-by_unit s x h e = sym (unit_twice s x h) ∙ ap (λ z. s *ℤ z) e ∙ none_times s
-  where
-    none_times : (s : ℤ) → s *ℤ pos 0 ≡ pos 0
-    none_times s = omega (arith, ints)
+by_unit s x h e = sym (unit_twice s x h) ∙ ap (λ z. s *ℤ z) e ∙ mul_zero s
 
 -- a row that such a matrix takes to 0 is 0
 no_row : (a m b n x y : ℤ) → IsUnit (a *ℤ n -ℤ m *ℤ b) → x *ℤ a +ℤ y *ℤ b ≡ pos 0 → x *ℤ m +ℤ y *ℤ n ≡ pos 0 → (x ≡ pos 0) × (y ≡ pos 0)

@@ -1,8 +1,10 @@
 -- how a congruence narrows a class
+use lib.IntN.{pos-*ℤ-pos}
 use Rattle.std.proofs.Common.{◌≡◌, ℕ, zero, suc, ◌+◌, ◌-◌, ◌*◌, ◌/◌, ◌%◌, ◌<◌, ◌≤◌, ℤ, pos, ◌+ℤ◌, ◌-ℤ◌, ◌*ℤ◌, ◌⊎◌, inl, inr, refl, sym, ◌∙◌, ap, subst, arith}
 use Rattle.std.specs.Prelude.{◌↔◌}
 use Rattle.std.proofs.lemmas.Int.{ints}
 use Rattle.std.proofs.Math.Nat.{mul-le-mul, mul-le-mul_right}
+use Rattle.std.proofs.lemmas.Bool.{cases_lt}
 use Rattle.motions.specs.Rationals.{IsMultiple}
 use Rattle.recognition.specs.Grid.{grid}
 use Rattle.recognition.specs.Classes.{InClass, Solves, IsPeriod, IsFirstSolution, IsNextStep}
@@ -36,14 +38,11 @@ same_multiple n x y e (k, f) = (k, sym e ∙ f)
 pos_sum : (m n : ℕ) → pos (m + n) ≡ pos m +ℤ pos n
 pos_sum m n = omega (arith, ints)
 
-pos_product : (m n : ℕ) → pos (m * n) ≡ pos m *ℤ pos n
-pos_product m n = omega (arith, ints)
-
 -- a solution and a period later is a solution
 later : (c a : ℤ) (v q r : ℕ) → Solves c a v → IsPeriod a r → Solves c a (v + q * r)
 later c a v q r h p =
     same_multiple (pos grid) (c +ℤ a *ℤ pos v +ℤ pos q *ℤ (a *ℤ pos r)) (c +ℤ a *ℤ pos (v + q * r))
-    (grouped c a (pos v) (pos q) (pos r) ∙ ap (λ z. c +ℤ a *ℤ z) (ap (λ z. pos v +ℤ z) (sym (pos_product q r)) ∙ sym (pos_sum v (q * r))))
+    (grouped c a (pos v) (pos q) (pos r) ∙ ap (λ z. c +ℤ a *ℤ z) (ap (λ z. pos v +ℤ z) (pos-*ℤ-pos q r) ∙ sym (pos_sum v (q * r))))
     (plus_multiple (pos grid) (c +ℤ a *ℤ pos v) (pos q *ℤ (a *ℤ pos r)) h (times_multiple (pos grid) (pos q) (a *ℤ pos r) p))
   where
     grouped : (c a v q r : ℤ) → c +ℤ a *ℤ v +ℤ q *ℤ (a *ℤ r) ≡ c +ℤ a *ℤ (v +ℤ q *ℤ r)
@@ -63,7 +62,7 @@ between c a v t h k =
 shorter : (a : ℤ) (r q t : ℕ) → IsPeriod a (r + q * t) → IsPeriod a t → IsPeriod a r
 shorter a r q t h p =
     same_multiple (pos grid) (a *ℤ pos (r + q * t) -ℤ pos q *ℤ (a *ℤ pos t)) (a *ℤ pos r)
-    (ap (λ z. a *ℤ z -ℤ pos q *ℤ (a *ℤ pos t)) (pos_sum r (q * t) ∙ ap (λ z. pos r +ℤ z) (pos_product q t)) ∙ grouped a (pos r) (pos q) (pos t))
+    (ap (λ z. a *ℤ z -ℤ pos q *ℤ (a *ℤ pos t)) (pos_sum r (q * t) ∙ ap (λ z. pos r +ℤ z) (sym (pos-*ℤ-pos q t))) ∙ grouped a (pos r) (pos q) (pos t))
     (minus_multiple (pos grid) (a *ℤ pos (r + q * t)) (pos q *ℤ (a *ℤ pos t)) h (times_multiple (pos grid) (pos q) (a *ℤ pos t) p))
   where
     grouped : (a r q t : ℤ) → a *ℤ (r +ℤ q *ℤ t) -ℤ q *ℤ (a *ℤ t) ≡ a *ℤ r
@@ -90,10 +89,7 @@ not_zero zero s r h e = absurd (omega (arith, e))
 not_zero (suc m) s r h e = omega arith
 
 less : (j m s : ℕ) → j * s < grid → grid ≤ m * s → j < m
-less j m s h k = elim (compare j m) [ inl e ↦ e | inr e ↦ absurd (omega (arith, mul-le-mul_right s e)) ]
-  where
-    compare : (j m : ℕ) → (j < m) ⊎ (m ≤ j)
-    compare j m = grind arith
+less j m s h k = elim (cases_lt j m) [ inl e ↦ e | inr e ↦ absurd (omega (arith, mul-le-mul_right s e)) ]
 
 -- each period below grid that is a multiple of the step is a multiple of the next step
 by_next : (step : ℕ) (a : ℤ) (r : ℕ) (n : IsNextStep step a r) (j : ℕ) → j * step < grid → IsPeriod a (j * step) → (q : ℕ) × (j * step ≡ q * r)
@@ -119,10 +115,7 @@ by_next step a r n j small p =
 
 -- the index of a member is not below that of the first solution
 from_first : (y step : ℕ) (c a : ℤ) (w : ℕ) (f : IsFirstSolution y step c a w) (k : ℕ) → Solves c a (y + k * step) → f.index ≤ k
-from_first y step c a w f k h = elim (compare k f.index) [ inl less ↦ absurd (f.first k less h) | inr e ↦ e ]
-  where
-    compare : (j m : ℕ) → (j < m) ⊎ (m ≤ j)
-    compare j m = grind arith
+from_first y step c a w f k h = elim (cases_lt k f.index) [ inl less ↦ absurd (f.first k less h) | inr e ↦ e ]
 
 apart : (y k i s : ℕ) → i ≤ k → y + k * s ≡ (y + i * s) + (k - i) * s
 apart y k i s h =

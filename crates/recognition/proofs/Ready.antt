@@ -1,9 +1,11 @@
 -- What a type brings for the tests, and that a section that a change carries onto it has as many motions.
-use Rattle.std.proofs.Common.{◌≡◌, ℕ, Bool, true, false, IsTrue, ◌<◌, ◌⊎◌, ◌-ℤ◌, inl, inr, sym, ap, subst, ◌∙◌, arith, List, length, map, slice_index_or}
+use Rattle.std.proofs.Common.{◌≡◌, ℕ, Bool, true, false, IsTrue, ◌<◌, ◌-ℤ◌, inl, inr, sym, ap, subst, ◌∙◌, arith, List, length, map, slice_index_or}
 use Rattle.std.specs.Prelude.{AllPairs}
 use Rattle.std.proofs.lemmas.Int.{ints}
 use Rattle.std.proofs.lemmas.List.{get_or-map, length-map}
+use Rattle.integers.proofs.Order.{compare_nat}
 use Rattle.quotient.specs.Kind.{Keeps}
+use Rattle.quotient.proofs.ListLaws.{All-from_map}
 use Rattle.motions.specs.declared.layer.LayerMotion.{LayerMotion}
 use Rattle.motions.specs.PlaneMatrices.{Matrix2, image2}
 use Rattle.motions.specs.PlaneViews.{matrix2_of}
@@ -16,7 +18,6 @@ use Rattle.layer_types.specs.Rows.{layer_row}
 use Rattle.layer_types.specs.Laws.ShiftLaws.{keeps_is}
 use Rattle.recognition.specs.Sections.{IsSection}
 use Rattle.recognition.specs.Listed.{AreDistinct, IsReady, KeepsCentring, KeepsLattice}
-use Rattle.recognition.proofs.Lists.{All-from_map}
 
 -- ---- a type
 
@@ -45,12 +46,9 @@ apart_block ops apart i j d e less within side matrix =
       ap (λ (m : PlanarMotion). m.side) a ∙ side ∙ sym (ap (λ (m : PlanarMotion). m.side) b),
     )
 
-compare : (i j : ℕ) → (i < j) ⊎ ((i ≡ j) ⊎ (j < i))
-compare i j = grind arith
-
 distinct : (ops : List LayerMotion) → AllPairs (λ l m. ¬ HaveOneBlock l m) (map planar_of ops) → AreDistinct ops
 distinct ops apart i j d e hi hj side matrix =
-    elim (compare i j) [
+    elim (compare_nat i j) [
       | inl less ↦ absurd (apart_block ops apart i j d e less hj side matrix)
       | inr r ↦ elim r [ inl is ↦ is | inr less ↦ absurd (apart_block ops apart j i e d less hi (sym side) (sym matrix)) ]
     ]

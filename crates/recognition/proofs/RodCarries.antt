@@ -5,7 +5,7 @@ use Rattle.std.proofs.lemmas.Int.{ints}
 use Rattle.std.proofs.lemmas.List.Elements.{All-contains, All-contains_itself}
 use lib.IntN.{*ℤ_comm}
 use Rattle.fractions.specs.declared.part.TheConstants.{UNIT}
-use Rattle.fractions.specs.Fraction.{Fraction}
+use Rattle.fractions.specs.Fraction.{Fraction, IsWhole, fraction_minus}
 use Rattle.integers.proofs.Order.{one-le-mul}
 use Rattle.integers.proofs.Solver.{Expr.{var, num, ◌⊕◌, ◌⊝◌, ◌⊗◌}, ring}
 use Rattle.motions.specs.declared.rod.RodMotion.{RodMotion}
@@ -14,7 +14,7 @@ use Rattle.motions.specs.Signs.{sign_value}
 use Rattle.motions.specs.PlaneMatrices.{Matrix2, product2, determinant2, adjugate2}
 use Rattle.motions.specs.RodMotions.{RodOperation, rod_of}
 use Rattle.recognition.specs.declared.found_rod.TheConstants.{ROD_GRID}
-use Rattle.recognition.specs.RationalRods.{RationalRod, IsRationalRod, IsListedRod, IsWhole, fraction_minus, multiple2, part_of_axis, rational_rod}
+use Rattle.recognition.specs.RationalRods.{RationalRod, IsRationalRod, IsListedRod, multiple2, part_of_axis, rational_rod}
 use Rattle.recognition.specs.RodChanges.{hand, rest_along, IsCarried, grid_part, Carries}
 use Rattle.recognition.specs.RodTests.{IsClose, IsPaired, Fits}
 use Rattle.recognition.proofs.RodTranslations as shifts

@@ -1,8 +1,9 @@
 -- A change of basis keeps the sign, the trace and the determinant of an operation.
+use lib.IntN.{*ℤ_comm}
 use Rattle.std.proofs.Common.{◌≡◌, ℤ, pos, ◌+ℤ◌, ◌-ℤ◌, ◌*ℤ◌, sym, ◌∙◌, ap, List, [], ◌∷◌, slice_index_or}
 use Rattle.std.specs.Prelude.{All, Any}
 use Rattle.integers.proofs.Ring.{mul_left_cancel}
-use Rattle.integers.proofs.Solver.{Expr.{var, neg, ◌⊕◌, ◌⊝◌, ◌⊗◌}, ring, linear, given}
+use Rattle.integers.proofs.Solver.{Expr.{var, neg, ◌⊕◌, ◌⊝◌, ◌⊗◌}, linear, given}
 use Rattle.motions.specs.declared.rod.RodMotion.{RodMotion}
 use Rattle.motions.specs.PlaneMatrices.{Matrix2, determinant2}
 use Rattle.motions.specs.RodMotions.{RodOperation, rod_of}
@@ -37,11 +38,8 @@ kin_of_like p m n crossed like =
           (same_trace a.first.x a.first.y a.second.x a.second.y p.first.x p.first.y p.second.x p.second.y b.first.x b.first.y b.second.x b.second.y
           (λ i. (e i).first.x) (λ i. (e i).first.y) (λ i. (e i).second.x) (λ i. (e i).second.y));
       determinant = mul_left_cancel (determinant2 p) (determinant2 a) (determinant2 b) crossed
-          (commuted (determinant2 p) (determinant2 a) ∙ sym (determinant2-product a p) ∙ ap determinant2 e ∙ determinant2-product p b);
+          (*ℤ_comm (determinant2 p) (determinant2 a) ∙ sym (determinant2-product a p) ∙ ap determinant2 e ∙ determinant2-product p b);
     }
-  where
-    commuted : (x y : ℤ) → x *ℤ y ≡ y *ℤ x
-    commuted x y = ring (x ∷ y ∷ []) (var 0 ⊗ var 1) (var 1 ⊗ var 0) tt
 
 -- the kin of a list's motions in another
 abbrev pub AllHaveKin : List RodMotion → List RodMotion → Type 0

@@ -3,6 +3,7 @@ use Rattle.std.proofs.Common.{◌≡◌, ℕ, ◌+◌, ◌*◌, ◌/◌, ◌%◌
 use Rattle.std.specs.Prelude.{unsigned_abs}
 use Rattle.std.proofs.lemmas.Int.{ints}
 use Rattle.integers.specs.Size.{IsWithin}
+use Rattle.integers.proofs.Order.{compare_nat, compare_int}
 use Rattle.motions.specs.PlaneMatrices.{Matrix2}
 use Rattle.motions.specs.Laws.PlaneMatrixLaws.{pair_path, matrix2_path}
 use Rattle.motions.specs.PlaneSizes.{IsMatrix2Within}
@@ -128,12 +129,6 @@ module _ (C : Matrix2 → ℕ → Type 0) where
   no_matrix none q h = at_place (size_of q) (none (size_of q) (size_within q h)) q h refl
 
 -- ---- the order is total
-
-compare_nat : (a b : ℕ) → (a < b) ⊎ ((a ≡ b) ⊎ (b < a))
-compare_nat a b = grind arith
-
-compare_int : (a b : ℤ) → (a <ℤ b) ⊎ ((a ≡ b) ⊎ (b <ℤ a))
-compare_int a b = grind (arith, ints)
 
 -- of two matrices one stands before the other, or they are one
 by_entries : (p q : Matrix2) → IsGreater p q ⊎ ((p ≡ q) ⊎ IsGreater q p)

@@ -1,9 +1,10 @@
 -- The least origin, told by one motion that turns the axis.
-use Rattle.std.proofs.Common.{◌≡◌, ℕ, ◌<◌, ◌≤◌, ◌⊎◌, inl, inr, ℤ, pos, negsuc, ◌+ℤ◌, ◌-ℤ◌, ◌*ℤ◌, ◌<ℤ◌, sym, ◌∙◌, ap, subst, arith, List, slice_index_or, map, lit<}
+use Rattle.std.proofs.Common.{◌≡◌, ℕ, ◌<◌, ◌≤◌, inl, inr, ℤ, pos, negsuc, ◌+ℤ◌, ◌-ℤ◌, ◌*ℤ◌, ◌<ℤ◌, sym, ◌∙◌, ap, subst, arith, List, slice_index_or, map, lit<}
 use Rattle.std.specs.Prelude.{All, Any, Contains}
 use Rattle.std.proofs.lemmas.Int.{ints}
 use Rattle.std.proofs.lemmas.List.{get_or-map, length-map}
 use Rattle.std.proofs.lemmas.List.Elements.{All-contains, All-contains_itself}
+use Rattle.integers.proofs.Order.{compare_nat}
 use Rattle.fractions.specs.declared.part.TheConstants.{UNIT}
 use Rattle.fractions.specs.Parts.{IsReduced}
 use Rattle.motions.specs.declared.rod.RodMotion.{RodMotion}
@@ -76,9 +77,6 @@ close_turning p m n v z is o (k, f) = by m.along is f
 entries_path : (m n : RodOperation) → m.matrix ≡ n.matrix → m.along ≡ n.along → rod_entries m ≡ rod_entries n
 entries_path m n e f = λ i. rod_entries (record { matrix = e i; along = f i; translation = pos 0 })
 
-compare : (i j : ℕ) → (i < j) ⊎ ((i ≡ j) ⊎ (j < i))
-compare i j = grind arith
-
 module _ (ops : List RodMotion) (apart : AreApart ops) where
   abbrev at : ℕ → RodOperation
   at i = slice_index_or (map rod_of ops) i rod_identity
@@ -94,7 +92,7 @@ module _ (ops : List RodMotion) (apart : AreApart ops) where
 
   unique : (n n' : RodMotion) → Contains ops n → Contains ops n' → (rod_of n).matrix ≡ (rod_of n').matrix → (rod_of n).along ≡ (rod_of n').along → rod_of n ≡ rod_of n'
   unique n n' h h' e f =
-      elim (compare h.0 h'.0) [
+      elim (compare_nat h.0 h'.0) [
         | inl less ↦ absurd (not_earlier n n' h h' e f less)
         | inr r ↦ elim r [
           | inl same ↦ sym (at_listed n h) ∙ ap at same ∙ at_listed n' h'

@@ -4,6 +4,7 @@ use Rattle.std.proofs.lemmas.Int.{ints}
 use Rattle.std.proofs.lemmas.List.{get_or_default}
 use Rattle.integers.proofs.Solver.{Expr.{var, num, ◌⊕◌, ◌⊝◌, ◌⊗◌}, given, linear}
 use Rattle.integers.proofs.Order.{mul_left_cancel_pos}
+use Rattle.quotient.proofs.ListLaws.{item_at}
 use Rattle.motions.specs.declared.layer.LayerMotion.{LayerMotion}
 use Rattle.motions.specs.PlaneMatrices.{Matrix2, dot2}
 use Rattle.motions.specs.PlaneViews.{matrix2_of, pair_of}
@@ -13,7 +14,7 @@ use Rattle.layer_types.specs.Lattices.{edge}
 use Rattle.recognition.specs.Grid.{grid}
 use Rattle.recognition.specs.Listed.{Fits, IsPaired, IsReady}
 use Rattle.recognition.proofs.Lattices.{same_matrix}
-use Rattle.recognition.proofs.Lists.{item_at, not_more}
+use Rattle.recognition.proofs.Lists.{not_more}
 use Rattle.recognition.proofs.Unique.{same_right}
 
 -- translations that agree with one translation differ by whole edges

@@ -5,7 +5,7 @@ use Rattle.std.specs.Bool.{MatchBool}
 use Rattle.std.specs.List.{AllWithin, HoldsAt}
 use Rattle.std.proofs.lemmas.Bool.{true≢false}
 use Rattle.std.proofs.lemmas.List.Elements.{All-from_all_within}
-use Rattle.recognition.proofs.Lists.{item_at}
+use Rattle.quotient.proofs.ListLaws.{item_at}
 
 module _ {X : Type 0} (P : X → Type 0) (xs : List X) where
   pub all_are : (r : Bool) → MatchBool r (AllWithin P xs 0 (length xs)) ((k : ℕ) × (k < length xs) × HoldsAt (λ x. ¬ P x) xs k) → IsTrue r ↔ All P xs

@@ -4,6 +4,7 @@ use Rattle.std.proofs.lemmas.Int.{ints}
 use Rattle.integers.proofs.Solver.{Expr.{var, num, ◌⊕◌, ◌⊝◌, ◌⊗◌}, given, linear}
 use Rattle.integers.proofs.Order.{mul_left_cancel_pos}
 use Rattle.quotient.specs.Closure.{IsClosure, IsProduct}
+use Rattle.quotient.proofs.ListLaws.{Contains-map, Contains-from_map}
 use Rattle.motions.specs.declared.layer.LayerMotion.{LayerMotion}
 use Rattle.motions.specs.PlaneMatrices.{Matrix2, Pair, minus2, plus2}
 use Rattle.motions.specs.Laws.PlaneMatrixLaws.{plus2-minus_first}
@@ -18,7 +19,6 @@ use Rattle.motions.specs.Rationals.{IsListed, RationalMotion, RationalPair, Same
 use Rattle.recognition.specs.Changes.{Carries, IsLatticeVector, IsOperation}
 use Rattle.recognition.specs.Order.{origin_at}
 use Rattle.recognition.specs.Listed.{CarriesListed, IsInLattice}
-use Rattle.recognition.proofs.Lists.{Contains-map, Contains-from_map}
 
 -- ---- vectors of a lattice
 

@@ -8,7 +8,7 @@ use Rattle.layer_types.specs.declared.layer_type.LayerType.{LayerType}
 use Rattle.motions.specs.PlaneMatrices.{Matrix2, determinant2, product2}
 use Rattle.recognition.specs.Listed.{Agrees, TakesLattice, IsLike, IsPaired, Fits, AreDistinct}
 use Rattle.integers.proofs.Spread.{spread}
-use Rattle.integers.proofs.Ring.{mul_assoc}
+use Rattle.integers.proofs.Ring.{mul_assoc, same_of_sub}
 use Rattle.integers.proofs.Order.{mul_left_cancel_pos}
 use Rattle.recognition.proofs.Determinants.{half_determinant}
 use Rattle.recognition.proofs.Lattices.{matrix_path, by_unit}
@@ -27,11 +27,8 @@ same_columns : (c : Bool) (p : Matrix2) → TakesLattice c p → (x y u v : ℤ)
 same_columns c p h x y u v e f =
     let first = zero_by_lattice c p h (x -ℤ u) (one p.first.x p.first.y p.second.x p.second.y x y u v ∙ (λ i. p.second.y *ℤ (e i -ℤ (p.first.x *ℤ u +ℤ p.first.y *ℤ v)) -ℤ p.first.y *ℤ (f i -ℤ (p.second.x *ℤ u +ℤ p.second.y *ℤ v))) ∙ none p.second.y p.first.y (p.first.x *ℤ u +ℤ p.first.y *ℤ v) (p.second.x *ℤ u +ℤ p.second.y *ℤ v)) in
     let second = zero_by_lattice c p h (y -ℤ v) (two p.first.x p.first.y p.second.x p.second.y x y u v ∙ (λ i. p.first.x *ℤ (f i -ℤ (p.second.x *ℤ u +ℤ p.second.y *ℤ v)) -ℤ p.second.x *ℤ (e i -ℤ (p.first.x *ℤ u +ℤ p.first.y *ℤ v))) ∙ none p.first.x p.second.x (p.second.x *ℤ u +ℤ p.second.y *ℤ v) (p.first.x *ℤ u +ℤ p.first.y *ℤ v)) in
-    (equal x u first, equal y v second)
+    (same_of_sub x u first, same_of_sub y v second)
   where
-    equal : (a b : ℤ) → a -ℤ b ≡ pos 0 → a ≡ b
-    equal a b e = omega (arith, ints)
-
     none : (a b m n : ℤ) → a *ℤ (m -ℤ m) -ℤ b *ℤ (n -ℤ n) ≡ pos 0
     none a b m n = simp spread (omega (arith, ints))
 

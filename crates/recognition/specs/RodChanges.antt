@@ -1,11 +1,11 @@
 -- Changes of basis and origin that carry a section onto a rod type.
 use Rattle.std.specs.Prelude.{◌≡◌, ◌↔◌, ℕ, ℤ, pos, negsuc, ◌-ℤ◌, ◌*ℤ◌, List}
-use Rattle.fractions.specs.Fraction.{Fraction}
+use Rattle.fractions.specs.Fraction.{Fraction, IsWhole, fraction_minus}
 use Rattle.motions.specs.declared.rod.RodMotion.{RodMotion}
 use Rattle.motions.specs.Signs.{sign_value}
 use Rattle.motions.specs.PlaneMatrices.{Matrix2, product2, determinant2}
 use Rattle.recognition.specs.declared.found_rod.TheConstants.{ROD_GRID}
-use Rattle.recognition.specs.RationalRods.{RationalRod, IsRationalRod, IsListedRod, IsWhole, fraction_minus, multiple2}
+use Rattle.recognition.specs.RationalRods.{RationalRod, IsRationalRod, IsListedRod, multiple2}
 
 -- 1, or -1 below zero
 abbrev pub sign_number : ℤ → ℤ

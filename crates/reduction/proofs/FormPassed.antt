@@ -4,9 +4,9 @@ use Rattle.std.specs.Int.{int_div_euclid}
 use Rattle.std.proofs.lemmas.Int.{ints}
 use Rattle.integers.specs.Size.{IsWithin}
 use Rattle.integers.proofs.Coded.{again, again_is}
+use Rattle.integers.proofs.Wide.{wide, wide_is}
 use Rattle.plane_lattice.specs.Laws.QuotientLaws.{div_euclid_from}
 use Rattle.plane_lattice.proofs.Quotients.{IsWithin-div_euclid}
-use Rattle.plane_lattice.proofs.Wide.{wide, wide_is}
 use Rattle.reduction.specs.Bounds.{largest_form, largest_short, largest_form_value}
 
 pub form_again : (x : ℤ) → IsWithin largest_form x → again x ≡ x

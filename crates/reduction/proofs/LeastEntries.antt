@@ -1,20 +1,18 @@
 -- The least of the entries so far.
-use Rattle.std.proofs.Common.{◌≡◌, ◌<ℤ◌, ◌≤ℤ◌, pos, ℕ, ◌+◌, ◌<◌, ◌⊎◌, inl, inr, List, [], length, get_or, map, arith, subst, sym, ℤ}
+use Rattle.std.proofs.Common.{◌<ℤ◌, ◌≤ℤ◌, pos, ℕ, ◌+◌, ◌<◌, inl, inr, List, [], length, get_or, map, arith, subst, sym, ℤ}
 use Rattle.std.specs.Prelude.{Contains}
 use Rattle.std.proofs.lemmas.Int.{ints}
 use Rattle.std.proofs.lemmas.List.{get_or_default}
 use Rattle.std.proofs.lemmas.List.Elements.{Contains-get_or}
+use Rattle.integers.proofs.Order.{last_or_before}
 use Rattle.fractions.specs.declared.part.Part.{Part}
+use Rattle.quotient.proofs.ListLaws.{Contains-map}
 use Rattle.motions.specs.Views.{parts}
-use Rattle.closure.specs.Laws.ListLaws.{Contains-map}
 use Rattle.reduction.specs.LeadingEntries.{leading_entry}
 
 -- no entry among the first i is less
 abbrev pub IsLeast : List (List Part) → ℕ → ℕ → List Part → Type 0
 IsLeast rs p i best = (k : ℕ) (d : List Part) → k < i → pos 0 <ℤ leading_entry p (parts (get_or rs k d)) → leading_entry p (parts best) ≤ℤ leading_entry p (parts (get_or rs k d))
-
-pub last_or_before : (k i : ℕ) → k < i + 1 → (k < i) ⊎ (k ≡ i)
-last_or_before k i h = grind arith
 
 from_not : (x y : ℤ) → ¬ (y <ℤ x) → x ≤ℤ y
 from_not x y n = grind (arith, ints)

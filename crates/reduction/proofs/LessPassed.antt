@@ -5,14 +5,13 @@ use Rattle.std.proofs.lemmas.Int.{ints}
 use Rattle.integers.specs.Size.{IsWithin}
 use Rattle.integers.proofs.Coded.{again, fits_within}
 use Rattle.integers.proofs.Solver.{Expr, Expr.{var, num, ◌⊕◌, ◌⊝◌, ◌⊗◌}, ring}
+use Rattle.integers.proofs.Wide.{wide, wide_is, code_fits, code_is}
 use Rattle.symmetry.specs.Vectors.{Vector, Matrix, plus, multiple}
 use Rattle.symmetry.specs.Sizes.{IsVectorWithin}
 use Rattle.symmetry.proofs.VectorLaws.{vector_path}
 use Rattle.reduction.specs.Bounds.{largest_short, largest_form_value}
 use Rattle.reduction.specs.Forms.{by_form, IsForm, IsShort, Shortens}
 use Rattle.reduction.specs.LatticeBases.{combined}
-use Rattle.plane_lattice.proofs.Wide.{wide, wide_is}
-use Rattle.reduction.proofs.WideCoded.{code_fits, code_is}
 use Rattle.reduction.proofs.FormPassed.{short_again, short_again_within, value_wide}
 use Rattle.reduction.proofs.Shortening.{shorter_less, short_within}
 

@@ -1,4 +1,3 @@
-pub mod WideCoded
 pub mod LeastEntries
 pub mod FirstBasis
 pub mod FirstFacts

@@ -13,5 +13,4 @@ pub mod ScanSections
 pub mod SeenLists
 pub mod SmallSizes
 pub mod StepNumbers
-pub mod TextLines
 pub mod WrittenGenerators

@@ -4,7 +4,7 @@ use Rattle.fractions.specs.declared.ratio.Ratio.{Ratio}
 use Rattle.symmetry.specs.Motions.{Point}
 use Rattle.plane_lattice.specs.Scanning.{IsPointOf}
 use Rattle.fractions.specs.Fractions.{fractions_of}
-use Rattle.penetration.proofs.AcrossSizes.{fraction_at-lowest, fraction_at-positive}
+use Rattle.fractions.proofs.Arrays.{fraction_at-lowest, fraction_at-positive}
 use Rattle.report.specs.Reports.{IsPointInLowestTerms}
 
 pub point_in_lowest_terms : (p : Point) (c : List Ratio) → IsPointOf p c → IsPointInLowestTerms p (fractions_of c)

@@ -1,9 +1,7 @@
 -- How large the numbers are that the vectors and the origin of a rod type are written with.
-use Rattle.std.proofs.Common.{◌≡◌, ℕ, ◌^◌, ◌<◌, ℤ, List, [], ◌∷◌, ap, ◌∙◌}
-use Rattle.integers.specs.Size.{IsWithin}
+use Rattle.std.proofs.Common.{ℕ, ◌^◌, List, [], ◌∷◌}
 use Rattle.integers.proofs.Solver.{Expr, Expr.{var, num, ◌⊕◌, ◌⊗◌}}
 use Rattle.plane_lattice.specs.Bounds.{largest_entry}
-use Rattle.plane_lattice.proofs.Wide.{wide, wide_is}
 use Rattle.recognition.specs.declared.found_rod.TheConstants.{ROD_GRID}
 
 -- x v, over the product of both denominators
@@ -26,7 +24,3 @@ along_bounds = largest_entry ∷ largest_entry ∷ 96 ∷ []
 
 abbrev pub along : Expr
 along = num ROD_GRID ⊗ var 0 ⊕ var 2 ⊗ var 1
-
--- a number that goes through 128 bits
-pub cast_is : (n : ℕ) (z t : ℤ) → n < 2 ^ 127 → IsWithin n t → z ≡ t → wide z ≡ t
-cast_is n z t below within e = ap wide e ∙ wide_is n t below within

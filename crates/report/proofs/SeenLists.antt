@@ -1,10 +1,10 @@
 -- Lists of the motions of a plane, as they are seen, and what is found of the sets that they stand for.
-use Rattle.std.proofs.Common.{◌≡◌, ◌↔◌, ℕ, zero, suc, ◌<◌, ℤ, pos, ◌*ℤ◌, ◌≤ℤ◌, List, [], ◌∷◌, ◌++◌, length, get_or, Option, Some, None, Result, Ok, Err, refl, sym, subst, ◌∙◌, arith}
+use Rattle.std.proofs.Common.{◌≡◌, ◌↔◌, ℤ, pos, ◌*ℤ◌, ◌≤ℤ◌, List, [], ◌∷◌, get_or, Option, Some, None, Result, Ok, Err, refl, sym, subst, ◌∙◌, arith}
 use Rattle.std.specs.Prelude.{All, IfOk, IfSome, IsNone, option_map}
 use Rattle.std.specs.List.{AllZip}
 use Rattle.std.proofs.lemmas.Int.{ints}
 use Rattle.std.proofs.lemmas.List.Elements.{All-from_get_or}
-use Rattle.std.proofs.lemmas.Slice.Zip.{AllZip-long, all_zipped_more}
+use Rattle.std.proofs.lemmas.Slice.Zip.{AllZip-long}
 use Rattle.integers.proofs.Order.{mul_left_cancel_pos, one-le-mul}
 use Rattle.integers.proofs.Solver.{Expr.{var, num, ◌⊗◌}, linear, given}
 use Rattle.fractions.specs.declared.part.TheConstants.{UNIT}
@@ -18,6 +18,7 @@ use Rattle.symmetry.specs.Scans.{SpecialHeight}
 use Rattle.symmetry.proofs.HomeLaws.{has_one_at_home}
 use Rattle.symmetry.proofs.ListLaws.{lists_in_plane}
 use Rattle.symmetry.proofs.PlaneLattice.{differs_all, differs_stabiliser}
+use Rattle.quotient.proofs.Zips.{zip_at}
 use Rattle.motions.specs.declared.layer.LayerMotion.{LayerMotion}
 use Rattle.motions.specs.Rationals.{InSection}
 use Rattle.motions.specs.Views.{row_of}
@@ -51,21 +52,6 @@ step_divides d k s at =
 pub step_found : (d k q : ℤ) (s : Height) → pos 1 ≤ℤ d → IsHeight s → IsAtStep d s k → s.den *ℤ d *ℤ q ≡ s.num *ℤ (pos 2 *ℤ UNIT *ℤ UNIT) → q ≡ k
 step_found d k q s above high at e = mul_left_cancel_pos (s.den *ℤ d) q k (one-le-mul s.den d high above) (e ∙ sym (step_divides d k s at))
 
--- ---- lists place by place
-
-zip_at : {A B : Type 0} (R : A → B → Type 0) (xs : List A) (ys : List B) (i : ℕ) (d : A) (e : B) → AllZip R xs ys → i < length xs
-    → R (get_or xs i d) (get_or ys i e)
-zip_at R [] ys i d e h l = absurd (omega arith)
-zip_at R (x ∷ xs) [] i d e h l = absurd h
-zip_at R (x ∷ xs) (y ∷ ys) zero d e h l = h.0
-zip_at R (x ∷ xs) (y ∷ ys) (suc i) d e h l = zip_at R xs ys i d e h.1 (omega arith)
-
--- one more
-pub zip_more : {A B : Type 0} (R : A → B → Type 0) (xs xs' : List A) (x : A) (ys ys' : List B) (y : B) → xs' ≡ xs ++ x ∷ [] → ys' ≡ ys ++ y ∷ []
-    → AllZip R xs ys → R x y → AllZip R xs' ys'
-zip_more R xs xs' x ys ys' y e e' h r =
-    subst (AllZip R xs') (sym e') (subst (λ l. AllZip R l (ys ++ y ∷ [])) (sym e) (all_zipped_more R xs ys x y h r))
-
 -- ---- sections
 
 module _ (group : Group) (frame : Frame) (made : IsMadeFor group frame) where
@@ -90,7 +76,7 @@ module _ (group : Group) (frame : Frame) (made : IsMadeFor group frame) where
       → AreSeenAs f (mean_of r f.tau ms) (point_at (dot r f.tau) (height_in_steps (dot r f.tau) k) (in_cell f.tau)) ops section
   seen_as k ops section seen ms scanning = record {
     count = AllZip-long (IsSeen g r f k) ops section seen;
-    each = λ i d l. zip_at (IsSeen g r f k) ops section i identity d seen l ms scanning;
+    each = λ i d l. zip_at (IsSeen g r f k) ops section seen i identity d (omega (arith, l, AllZip-long (IsSeen g r f k) ops section seen)) ms scanning;
   }
 
   step_high : (k : ℤ) → IsHeight (height_in_steps (dot r f.tau) k)

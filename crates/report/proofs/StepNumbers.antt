@@ -1,15 +1,15 @@
 -- The step of a height, as the code computes it.
-use Rattle.std.proofs.Common.{◌≡◌, ℕ, ◌*◌, ◌^◌, ◌<◌, ℤ, pos, ◌*ℤ◌, ◌≤ℤ◌, ◌<ℤ◌, [], ◌∷◌, FitsSigned, w64, unsigned_abs, arith, lit<, lit≤, sym, ap, subst, ◌∙◌}
+use Rattle.std.proofs.Common.{◌≡◌, ◌*◌, ◌<◌, ℤ, pos, ◌*ℤ◌, ◌≤ℤ◌, ◌<ℤ◌, [], ◌∷◌, FitsSigned, w64, unsigned_abs, lit<, lit≤, sym, ap, subst, ◌∙◌}
 use Rattle.fractions.specs.declared.part.TheConstants.{UNIT}
 use Rattle.integers.specs.Size.{IsWithin}
 use Rattle.integers.proofs.Coded.{again, again_is, code_is, fits_within}
 use Rattle.integers.proofs.Order.{one-le-mul}
 use Rattle.integers.proofs.Ring.{IsWithin-mul}
 use Rattle.integers.proofs.Solver.{Expr.{var, num, ◌⊗◌}}
+use Rattle.integers.proofs.Wide.{wide, wide_is, cast_is}
 use Rattle.symmetry.specs.Planes.{Height}
 use Rattle.plane_lattice.specs.Bounds.{largest_period}
 use Rattle.plane_lattice.proofs.Steps.{step_within}
-use Rattle.plane_lattice.proofs.Wide.{wide, wide_is}
 use Rattle.report.specs.SectionTypes.{IsAtStep}
 use Rattle.report.specs.SmallHeights.{IsSmallHeight}
 use Rattle.report.proofs.SeenLists.{step_divides, step_found}
@@ -17,13 +17,6 @@ use Rattle.report.proofs.SeenLists.{step_divides, step_found}
 -- a step goes through 64 bits
 pub step_again : (k : ℤ) → pos 0 ≤ℤ k → k <ℤ (pos 2 *ℤ UNIT) → again k ≡ k
 step_again k from below = again_is k (2 * unsigned_abs UNIT) (step_within k from below) (lit< tt)
-
--- the numbers of the height, which go through 128 and 64 bits
-cast_is : (n : ℕ) (z t : ℤ) → n < 2 ^ 127 → IsWithin n t → z ≡ t → wide z ≡ t
-cast_is n z t below within e = ap wide e ∙ wide_is n t below within
-
-pub word_is : (n : ℕ) (z t : ℤ) → n < 2 ^ 63 → IsWithin n t → z ≡ t → again (wide z) ≡ t
-word_is n z t below within e = ap again (cast_is n z t (omega arith) within e) ∙ again_is t n within below
 
 pub parts_are : (s : Height) (n : ℤ) → IsSmallHeight s → n ≡ s.num → again (again (wide n) *ℤ (pos 2 *ℤ UNIT *ℤ UNIT)) ≡ s.num *ℤ (pos 2 *ℤ UNIT *ℤ UNIT)
 parts_are s n small e =

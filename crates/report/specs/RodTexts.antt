@@ -6,13 +6,14 @@ use Rattle.fractions.specs.Fractions.{Fractions}
 use Rattle.fractions.specs.LowestTerms.{lowest_terms}
 use Rattle.symmetry.specs.Vectors.{Vector, multiple, plus}
 use Rattle.symmetry.specs.Motions.{Point}
+use Rattle.triplets.specs.Writing.{number_line}
 use Rattle.line_types.specs.RodRows.{rod_row}
 use Rattle.recognition.specs.declared.found_rod.FoundRod.{FoundRod}
 use Rattle.recognition.specs.RodChanges.{grid_part, hand}
 use Rattle.recognition.specs.RodOrder.{Change}
 use Rattle.recognition.specs.RodTypes.{change_of}
 use Rattle.report.specs.RodReports.{RodReport}
-use Rattle.report.specs.Texts.{fractions_text, indices_text, number_line, operation_line, origin_line, vector_text}
+use Rattle.report.specs.Texts.{fractions_text, indices_text, operation_line, origin_line, vector_text}
 use Rattle.report.specs.TypeVectors.{lowest_point}
 
 -- x v + y w, in lowest terms

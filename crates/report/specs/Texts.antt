@@ -7,7 +7,7 @@ use Rattle.symmetry.specs.Vectors.{Vector}
 use Rattle.symmetry.specs.Motions.{Motion}
 use Rattle.symmetry.specs.Frames.{Basis}
 use Rattle.symmetry.specs.Planes.{Height}
-use Rattle.triplets.specs.Writing.{number_text, triplet_text}
+use Rattle.triplets.specs.Writing.{number_text, triplet_text, number_line}
 use Rattle.layer_types.specs.Rows.{layer_row}
 use Rattle.recognition.specs.Order.{Change}
 use Rattle.report.specs.Reports.{HeightBlock, Report}
@@ -54,10 +54,6 @@ frame_text report =
     codes "b " ++ vector_text report.basis.b ++ codes "\n" ++
     codes "tau " ++ vector_text report.basis.tau ++ codes "\n" ++
     codes "c " ++ fractions_text report.mean ++ codes "\n"
-
--- the number and the symbol of a type
-unfoldable pub number_line : ℕ → List ℕ → List ℕ
-number_line n symbol = codes "type " ++ decimal n ++ codes " " ++ symbol ++ codes "\n"
 
 -- its two vectors in the plane, in parts, and the third one
 unfoldable pub basis_line : Vector → Vector → Fractions → List ℕ

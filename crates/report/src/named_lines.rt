@@ -1,9 +1,10 @@
 // The lines of the type of a section.
 ghost use Rattle.std.specs.Prelude.{◌≡◌, ◌++◌, OnOk, string_bytes};
 ghost use Rattle.fractions.specs.Fractions.{fractions_of};
+ghost use Rattle.triplets.specs.Writing.{number_line};
 ghost use Rattle.plane_lattice.specs.FrameView.{basis_of_frame};
 ghost use Rattle.recognition.specs.Search.{change_of};
-ghost use Rattle.report.specs.Texts.{basis_line, named_lines, number_line, origin_line};
+ghost use Rattle.report.specs.Texts.{basis_line, named_lines, origin_line};
 ghost use Rattle.report.specs.TypeVectors.{first_vector, second_vector, third_vector};
 ghost use Rattle.report.specs.WrittenView.{directed_of, edges_of, parts_of};
 
@@ -31,7 +32,7 @@ pub(crate) fn write_named(
 }
 
 /// The line of the number and the symbol of a type.
-#[tactic(auto, unfolding(crate::specs::Texts::number_line))]
+#[tactic(auto, unfolding(triplets::specs::Writing::number_line))]
 pub(crate) fn write_number(text: &mut String, number: u8, symbol: &str) -> Result<(), NoMemory>
     ensures { OnOk result
         (string_bytes text.new ≡ string_bytes text.old ++ number_line number symbol.now) }

@@ -6,7 +6,7 @@ use Rattle.std.specs.Ordering.{int_eq}
 use Rattle.std.proofs.lemmas.Int.{ints}
 use Rattle.std.proofs.lemmas.Bool.Decides.{Decides-eqb, Decides-int_eq, Decides-like, same_from_decides}
 use Rattle.integers.specs.Size.{IsWithin}
-use Rattle.plane_lattice.proofs.Wide.{wide, wide_sum, wide_zero, within_sum}
+use Rattle.integers.proofs.Wide.{wide, wide_sum, wide_zero, within_sum}
 
 within : (z : ℤ) → FitsSigned w64 z → IsWithin (2 ^ 63) z
 within z fits = record { most = omega (arith, ints, fits) }

@@ -3,6 +3,7 @@ use Rattle.std.proofs.Common.{◌≡◌, ℕ, ◌+◌, ◌<◌, ℤ, List, [], �
 use Rattle.std.specs.Prelude.{All}
 use Rattle.std.proofs.lemmas.List.{map-append, map_more}
 use Rattle.std.proofs.lemmas.List.Elements.{All-contains, Contains-get_or}
+use Rattle.quotient.proofs.ListLaws.{Contains-map}
 use Rattle.motions.specs.declared.layer.LayerMotion.{LayerMotion}
 use Rattle.motions.specs.declared.motion.Motion3.{Motion3}
 use Rattle.motions.specs.Layers.{HasHalfPart, planar_of}
@@ -11,7 +12,6 @@ use Rattle.motions.specs.Views.{motion_of}
 use Rattle.layer_types.specs.declared.layer_type.LayerType.{LayerType}
 use Rattle.layer_types.specs.Lattices.{IsReduced}
 use Rattle.layer_types.specs.LayerTypes.{IsLayerType}
-use Rattle.closure.specs.Laws.ListLaws.{Contains-map}
 use Rattle.report.specs.TypeTexts.{block_of_layer}
 use Rattle.sample.specs.Shears.{sheared}
 use Rattle.sample.specs.TypeOperations.{IsTypeOperation}

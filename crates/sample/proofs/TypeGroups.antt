@@ -18,6 +18,7 @@ use Rattle.symmetry.proofs.GroupLaws.{group_from_listed}
 use Rattle.quotient.specs.Kind.{IsInverse, IsMonoid, IsSame, Keeps, Kind}
 use Rattle.quotient.proofs.Sameness.{same_products, same_reflexive, same_symmetric}
 use Rattle.quotient.specs.Lists.{IsListed}
+use Rattle.quotient.proofs.ListLaws.{Contains-from_map, Contains-map}
 use Rattle.motions.specs.declared.motion.Sign.{Sign}
 use Rattle.motions.specs.declared.motion.Sign.TheVariants.{Plus, Minus}
 use Rattle.motions.specs.declared.layer.LayerMotion.{LayerMotion}
@@ -35,7 +36,6 @@ use Rattle.layer_types.specs.LayerTypes.{HaveOneBlock, IsLayerType}
 use Rattle.layer_types.specs.Rows.{layer_row}
 use Rattle.closure.specs.GroupErrors.{IsWithinLimits}
 use Rattle.closure.specs.Laws.ResidueLaws.{whole-image}
-use Rattle.closure.specs.Laws.ListLaws.{Contains-from_map, Contains-map}
 use Rattle.plane_lattice.proofs.FrameTestFacts.{tests_make_frame}
 use Rattle.report.specs.TypeTexts.{block_of_layer}
 use Rattle.sample.specs.SampleGroups.{centring, sample_frame, sheared_group, upright}

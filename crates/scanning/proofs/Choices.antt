@@ -1,4 +1,5 @@
 -- What the members that keep the row, or turn it with a given shift, have at home of the coset of one motion.
+use lib.IntN.{*ℤ_comm}
 use Rattle.std.proofs.Common.{◌≡◌, ℤ, pos, negsuc, ◌+ℤ◌, ◌-ℤ◌, ◌*ℤ◌, inl, inr, Option, None, Some, sym, ◌∙◌, ap, arith}
 use Rattle.std.proofs.lemmas.Int.{ints}
 use Rattle.symmetry.specs.Vectors.{Vector, plus, minus, opposite, multiple, dot, row_times}
@@ -125,7 +126,4 @@ module _ (g : Listing) (r : Vector) (f : Basis) (frame : IsFrame g r f) where
       pub off_shift : ((k : ℤ) → ¬ (dot r f.tau *ℤ k ≡ t -ℤ dot r m.translation)) → IsChoice (SameModulo g) (IsAtHome f) (InRows g r turned) m None
       off_shift none =
           no_choice g r f frame (InRows g r turned) m t (asks turned e row t is)
-          (λ k apart. none k (flipped (dot r f.tau) k ∙ sym apart))
-        where
-          flipped : (d k : ℤ) → d *ℤ k ≡ k *ℤ d
-          flipped d k = omega (arith, ints)
+          (λ k apart. none k (*ℤ_comm (dot r f.tau) k ∙ sym apart))

@@ -4,6 +4,7 @@ use Rattle.std.specs.Prelude.{All, AllPairs, Contains}
 use Rattle.std.specs.List.{AllZip}
 use Rattle.std.proofs.lemmas.Int.{ints, by_lt_z}
 use Rattle.std.proofs.lemmas.List.Elements.{All-contains, at_from_Contains, Contains-get_or}
+use Rattle.std.proofs.lemmas.Slice.Zip.{AllZip-long}
 use Rattle.fractions.specs.declared.part.TheConstants.{UNIT}
 use Rattle.integers.proofs.Division.{floor}
 use Rattle.integers.proofs.Order.{mul_left_cancel_pos}
@@ -17,13 +18,13 @@ use Rattle.symmetry.specs.Scans.{IsInOneClass, general, special, IsInPeriod, IsL
 use Rattle.symmetry.proofs.Heights.{level_above, stands_above, stands_once}
 use Rattle.symmetry.proofs.LatticeLaws.{same_member, same_refl, same_sym, same_trans}
 use Rattle.symmetry.proofs.PlaneRows.{special_by_row}
+use Rattle.quotient.proofs.Zips.{zip_at}
 use Rattle.scanning.specs.Levels.{AreLevels, IsInTwoPeriods, IsLevel, IsTurned}
 use Rattle.scanning.specs.Members.{AreSameMotions}
 use Rattle.scanning.proofs.Choices.{periods_between}
 use Rattle.scanning.proofs.HeightNumbers.{divides_or_not, one_rest}
 use Rattle.scanning.proofs.RaisedMotions.{raised, raised_shift, raised_same}
 use Rattle.scanning.proofs.SameMotions.{same_listed, same_members}
-use Rattle.scanning.proofs.Zips.{zip_at, zip_length}
 
 -- whether a list has a number
 contained : (t : ℤ) (ts : List ℤ) → Contains ts t ⊎ ¬ Contains ts t
@@ -80,7 +81,7 @@ module _ (g : Listing) (r : Vector) (f : Basis) (frame : IsFrame g r f) (group :
     level_at i h = zip_at (λ t (h : SpecialHeight). IsHeight h.height × IsLevel h.height t) ts sp zip i (pos 0) (record { height = record { num = pos 0; den = pos 1 }; ops = [] }) h
 
     within_levels : (i : ℕ) → i < length sp → i < length ts
-    within_levels i h = let long = zip_length (λ t (h : SpecialHeight). IsHeight h.height × IsLevel h.height t) ts sp zip in omega arith
+    within_levels i h = let long = AllZip-long (λ t (h : SpecialHeight). IsHeight h.height × IsLevel h.height t) ts sp zip in omega arith
 
     module _ (s : Height) (high : IsHeight s) where
       -- a height that stands over a listed one has a level
@@ -119,7 +120,7 @@ module _ (g : Listing) (r : Vector) (f : Basis) (frame : IsFrame g r f) (group :
         in_class : Contains ts t0 → IsInOneClass g r (dot r f.tau) sp s
         in_class listed =
             let (i, below, at) = at_from_Contains ts t0 listed in
-            let long = zip_length (λ t (h : SpecialHeight). IsHeight h.height × IsLevel h.height t) ts sp zip in
+            let long = AllZip-long (λ t (h : SpecialHeight). IsHeight h.height × IsLevel h.height t) ts sp zip in
             let within : i < length sp = omega arith in
             let h = (special_at sp i).height in
             let here = level_at i within in

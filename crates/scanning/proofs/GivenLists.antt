@@ -6,6 +6,7 @@ use Rattle.std.proofs.lemmas.List.{get_or-map, length-map}
 use Rattle.fractions.specs.Fraction.{IsFractionWithin}
 use Rattle.integers.specs.Size.{IsWithin}
 use Rattle.integers.proofs.Coded.{again, again_is}
+use Rattle.integers.proofs.Wide.{wide, wide_is}
 use Rattle.symmetry.specs.Vectors.{Vector, dot}
 use Rattle.symmetry.specs.Motions.{Motion}
 use Rattle.symmetry.specs.Planes.{Height as HeightOfPlane, IsHeight}
@@ -15,6 +16,7 @@ use Rattle.symmetry.specs.Lists.{IsListOf}
 use Rattle.symmetry.specs.Scans.{GivesAt, general, special, IsScan, SpecialHeight, StandsAt, special_at}
 use Rattle.symmetry.proofs.Heights.{at_in_period}
 use Rattle.symmetry.proofs.ScanLists.{scan_list}
+use Rattle.quotient.proofs.Zips.{zip_map_both}
 use Rattle.motions.specs.declared.motion.Motion3.{Motion3}
 use Rattle.motions.specs.ListedSizes.{IsSmallWithin}
 use Rattle.motions.specs.Views.{motion_of, row_of}
@@ -29,8 +31,6 @@ use Rattle.scanning.specs.declared.scan.Scan.{Scan}
 use Rattle.scanning.proofs.ChosenLists.{op_has}
 use Rattle.scanning.proofs.MovedLists.{moved_are_conjugated}
 use Rattle.scanning.proofs.Places.{periods_within}
-use Rattle.scanning.proofs.Wide.{wide, wide_is}
-use Rattle.scanning.proofs.Zips.{zip_map_both}
 
 -- the height at an index, as the code reads it
 module _ (hs : List Height) (i : ℕ) (h : Height) (within : i < length hs) (is : h ≡ get_or hs i h) where
@@ -57,7 +57,7 @@ module _ (scan : Scan) (s : HeightOfPlane) (high : IsHeight s) where
         periods_within scan.frame.period.0 scan.special.items scan.in_period scan.rising s high 1000000000 small.num scan.frame.above i k stands
 
     pub periods_wide : wide k ≡ k
-    periods_wide = wide_is k largest_periods periods_small (lit< tt)
+    periods_wide = wide_is largest_periods k (lit< tt) periods_small
 
     pub periods_are : again (wide k) ≡ k
     periods_are = ap again periods_wide ∙ again_is k largest_periods periods_small (lit< tt)

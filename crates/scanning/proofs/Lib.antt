@@ -17,5 +17,3 @@ pub mod RowSets
 pub mod SameMotions
 pub mod Shifts
 pub mod TurnedLevels
-pub mod Wide
-pub mod Zips

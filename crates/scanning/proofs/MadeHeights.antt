@@ -3,6 +3,7 @@ use Rattle.std.proofs.Common.{ℕ, ◌<◌, ℤ, pos, negsuc, ◌*ℤ◌, List, 
 use Rattle.std.specs.Prelude.{All, AllPairs, int_rem}
 use Rattle.std.proofs.lemmas.Int.{ints}
 use Rattle.std.proofs.lemmas.List.Elements.{All-map}
+use Rattle.std.proofs.lemmas.Slice.Zip.{AllZip-long}
 use Rattle.fractions.specs.Fraction.{Fraction}
 use Rattle.fractions.specs.FractionOf.{fraction_of}
 use Rattle.fractions.specs.LowestTerms.{IsLowestForm}
@@ -12,14 +13,14 @@ use Rattle.integers.proofs.Solver.{Expr.{var, num, ◌⊗◌}, given, linear}
 use Rattle.symmetry.specs.Motions.{Motion}
 use Rattle.symmetry.specs.Planes.{Height as HeightOfPlane}
 use Rattle.symmetry.specs.Scans.{IsInPeriod, IsLower, SpecialHeight}
-use Rattle.closure.specs.Laws.ListLaws.{AllPairs-map}
+use Rattle.quotient.proofs.ListLaws.{AllPairs-map}
+use Rattle.quotient.proofs.Zips.{zip_at}
 use Rattle.plane_lattice.specs.declared.frame.Frame.{Frame}
 use Rattle.scanning.specs.declared.height.Height.{Height}
 use Rattle.scanning.specs.HeightView.{IsInHalves, heights_of_specials, special_of, specials_of}
 use Rattle.scanning.specs.Levels.{IsLevel}
 use Rattle.scanning.specs.SpecialHeights.{AreHeights, IsHeightAt}
 use Rattle.scanning.proofs.HeightNumbers.{height_below, height_from, height_lower}
-use Rattle.scanning.proofs.Zips.{zip_at, zip_length}
 
 -- half of t parts has the level t
 pub level_of_form : (s : Fraction) (t : ℤ) → IsLowestForm s t (pos 2 *ℤ UNIT) → IsLevel s t
@@ -78,7 +79,7 @@ module _ (frame : Frame) (ms : List Motion) (hs : List Height) (are : AreHeights
           let before : i < length hs = omega arith in
           let s = fraction_of (get_or hs i e).s in
           let t = fraction_of (get_or hs j e).s in
-          let long = zip_length (IsHeightAt frame ms) are.levels hs are.each in
+          let long = AllZip-long (IsHeightAt frame ms) are.levels hs are.each in
           height_lower UNIT s.num s.den (level_at i) (omega (arith, ints)) (height_is i e before).form.positive (has_level i e before)
           t.num t.den (level_at j) (height_is j e h).form.positive (has_level j e h)
           (are.are.rising i j (pos 0) below (omega arith))

@@ -16,6 +16,7 @@ use Rattle.symmetry.specs.Lists.{AreChosen, IsListOf, motion_at}
 use Rattle.symmetry.specs.Scans.{IsInPeriod, IsLower, IsScan, SpecialHeight}
 use Rattle.symmetry.specs.Sizes.{IsMatrixWithin}
 use Rattle.symmetry.proofs.PlaneRows.{all_by_row, stabiliser_by_row}
+use Rattle.quotient.proofs.Zips.{zip_map}
 use Rattle.motions.specs.declared.motion.Motion3.{Motion3}
 use Rattle.motions.specs.ListedSizes.{IsSmallWithin}
 use Rattle.motions.specs.Laws.MotionLaws.{IsVectorWithin-more}
@@ -35,7 +36,6 @@ use Rattle.scanning.proofs.HomeSizes.{home_within}
 use Rattle.scanning.proofs.MadeHeights.{are_in_period, are_rising, has_level, height_is, level_of_form}
 use Rattle.scanning.proofs.RowSets.{rows_member, rows_of_all, rows_of_stabiliser}
 use Rattle.scanning.proofs.SameMotions.{same_members}
-use Rattle.scanning.proofs.Zips.{zip_map}
 
 module _ (frame : Frame) (g : Listing) (is_frame : IsFrame g (row_of frame.plane) (basis_of_frame frame)) (group : IsGroup g)
     (apart : AllPairs (λ m n. ¬ SameModulo g m n) g.ops) (ms : List Motion) (same : AreSameMotions g g.ops ms) where

@@ -1,6 +1,7 @@
 -- Motions that stay or are raised by 2 k tau are those of the special height, conjugated by k tau and brought home.
 use Rattle.std.proofs.Common.{◌≡◌, ℤ, pos, ◌*ℤ◌, ◌⊎◌, inl, inr, List, refl, sym, ◌∙◌, subst, arith}
 use Rattle.std.specs.List.{AllZip}
+use Rattle.std.proofs.lemmas.Slice.Zip.{AllZip-long}
 use Rattle.symmetry.specs.Vectors.{Vector, dot, multiple, opposite, row_times}
 use Rattle.symmetry.specs.Motions.{Motion, identity}
 use Rattle.symmetry.specs.Planes.{Height, IsCoprime, IsHeight, KeepsRow, TurnsRow}
@@ -13,9 +14,9 @@ use Rattle.symmetry.proofs.FrameLaws.{tau_multiple}
 use Rattle.symmetry.proofs.LatticeLaws.{same_refl, same_sym, same_trans}
 use Rattle.symmetry.proofs.PlaneRows.{stabiliser_by_row}
 use Rattle.symmetry.proofs.VectorLaws.{dot-minus_same}
+use Rattle.quotient.proofs.Zips.{zip_at}
 use Rattle.scanning.specs.Conjugates.{IsMoved}
 use Rattle.scanning.proofs.RaisedMotions.{raised, raised_at_home, raised_shift, raised_same}
-use Rattle.scanning.proofs.Zips.{zip_at, zip_length}
 
 module _ (g : Listing) (r : Vector) (f : Basis) (frame : IsFrame g r f) (group : IsGroup g) (k : ℤ) where
   abbrev t : Vector
@@ -51,11 +52,11 @@ module _ (g : Listing) (r : Vector) (f : Basis) (frame : IsFrame g r f) (group :
   pub moved_are_conjugated : IsCoprime r → (s : Height) → IsHeight s → (ms ns : List Motion)
       → IsListOf (SameModulo g) g.ops (IsAtHome f) (InStabiliser g r s) ms → AllZip (IsMoved r f k) ms ns → AreConjugated g r f t ms ns
   moved_are_conjugated coprime s high ms ns list zip = record {
-    count = sym (zip_length (IsMoved r f k) ms ns zip);
+    count = AllZip-long (IsMoved r f k) ms ns zip;
     each = λ i h.
         let m = motion_at ms i in
         let is = list.listed i h in
-        let long = zip_length (IsMoved r f k) ms ns zip in
+        let long = AllZip-long (IsMoved r f k) ms ns zip in
         moved_is_conjugated s m (motion_at ns i) is.0.0 is.1 ((stabiliser_by_row g r s m group coprime high).0 is.0).1
         (zip_at (IsMoved r f k) ms ns zip i identity identity (omega arith));
   }

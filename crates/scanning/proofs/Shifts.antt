@@ -6,13 +6,13 @@ use Rattle.integers.specs.Size.{IsWithin}
 use Rattle.integers.proofs.Coded.{again, again_is, code_fits, code_is, fits_within}
 use Rattle.integers.proofs.Ring.{IsWithin-add, IsWithin-more, IsWithin-mul, IsWithin-sub}
 use Rattle.integers.proofs.Solver.{Expr.{var, ◌⊕◌, ◌⊝◌}}
+use Rattle.integers.proofs.Wide.{wide, wide_is}
 use Rattle.symmetry.specs.Sizes.{IsVectorWithin}
 use Rattle.symmetry.specs.Vectors.{Vector, dot}
 use Rattle.motions.specs.declared.miller.TheConstants.{INDEX}
 use Rattle.motions.specs.Views.{parts, row_of}
 use Rattle.plane_lattice.specs.declared.frame.Frame.{Frame}
 use Rattle.scanning.specs.Bounds.{largest_count, largest_level, largest_shift}
-use Rattle.scanning.proofs.Wide.{wide, wide_is}
 
 pub shift_within : (n : ℕ) (r v : Vector) → IsVectorWithin (unsigned_abs INDEX) r → IsVectorWithin n v → IsWithin (largest_shift n) (dot r v)
 unfolding dot
@@ -79,10 +79,10 @@ module _ (q : Frame) (asked shift at num den : ℤ) (num_is : num ≡ again (aga
   num_wide : wide num ≡ asked -ℤ at
   num_wide =
       ap wide (num_is ∙ apart_is asked shift at shift_is asked_small small)
-      ∙ wide_is (asked -ℤ at) largest_count (apart_within asked shift at shift_is asked_small small) (lit< tt)
+      ∙ wide_is largest_count (asked -ℤ at) (lit< tt) (apart_within asked shift at shift_is asked_small small)
 
   den_wide : wide den ≡ q.period.0
-  den_wide = ap wide (den_is ∙ period_is q) ∙ wide_is q.period.0 (largest_shift (1000 * unsigned_abs UNIT)) (period_within q) (lit< tt)
+  den_wide = ap wide (den_is ∙ period_is q) ∙ wide_is (largest_shift (1000 * unsigned_abs UNIT)) q.period.0 (lit< tt) (period_within q)
 
   pub no_periods : ((k : ℤ) → ¬ (wide den *ℤ k ≡ wide num)) → (k : ℤ) → ¬ (q.period.0 *ℤ k ≡ asked -ℤ at)
   no_periods none k e = none k (ap (λ n. n *ℤ k) den_wide ∙ e ∙ sym num_wide)
@@ -94,7 +94,7 @@ module _ (q : Frame) (asked shift at num den : ℤ) (num_is : num ≡ again (aga
         record { most = let same = ap unsigned_abs num_wide in omega (arith, least, within.most) }
 
     count_wide : wide k ≡ k
-    count_wide = wide_is k largest_count count_within (lit< tt)
+    count_wide = wide_is largest_count k (lit< tt) count_within
 
     count_again : again (wide k) ≡ k
     count_again = ap again count_wide ∙ again_is k largest_count count_within (lit< tt)

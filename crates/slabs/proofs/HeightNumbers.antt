@@ -9,7 +9,7 @@ use Rattle.fractions.specs.LowestTerms.{lowest_terms}
 use Rattle.fractions.specs.declared.ratio.Ratio.{Ratio}
 use Rattle.integers.specs.Size.{IsWithin}
 use Rattle.integers.proofs.Ring.{IsWithin-add, IsWithin-more, IsWithin-mul}
-use Rattle.plane_lattice.proofs.Wide.{wide, wide_fits, wide_is}
+use Rattle.integers.proofs.Wide.{wide, wide_fits, wide_is}
 
 -- the product of two numbers
 module _ (m n : ℕ) (a b : ℤ) (below_a : m < 2 ^ 127) (below_b : n < 2 ^ 127) (h : IsWithin m a) (k : IsWithin n b) where

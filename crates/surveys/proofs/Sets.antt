@@ -1,10 +1,10 @@
 -- Lists that have exactly the members of a set, each once.
 use Rattle.std.proofs.Common.{◌≡◌, ◌⊎◌, inl, inr, List, [], ◌∷◌, ◌++◌, get_or, map, refl, sym, ◌∙◌, subst, arith}
-use Rattle.std.specs.Prelude.{AllPairs, Contains}
+use Rattle.std.specs.Prelude.{Contains}
 use Rattle.std.proofs.lemmas.List.{get_or_default}
 use Rattle.std.proofs.lemmas.List.Elements.{All-append, All-map, All-nil, All-push, All-weaker, Contains-append_left, Contains-append_right, Contains-push, All-contains}
 use Rattle.std.proofs.lemmas.List.Quantifiers.{all_pairs_push}
-use Rattle.closure.specs.Laws.ListLaws.{AllPairs-append, AllPairs-map, AllPairs-none, Contains-map}
+use Rattle.quotient.proofs.ListLaws.{AllPairs-append, AllPairs-map, AllPairs-none, Contains-map}
 use Rattle.surveys.specs.Additions.{IsWith}
 use Rattle.surveys.specs.Surveys.{ListsSet}
 

@@ -1,5 +1,5 @@
 -- The special heights in a period are the halves of the shifts, and of what is a period more.
-use Rattle.std.proofs.Common.{◌≡◌, ℕ, ◌+◌, ◌*◌, ℤ, pos, negsuc, ◌+ℤ◌, ◌-ℤ◌, ◌*ℤ◌, ◌≤ℤ◌, ◌<ℤ◌, ◌⊎◌, inl, inr, List, [], ◌∷◌, ◌++◌, length, map, refl, sym, ◌∙◌, ap, subst, arith}
+use Rattle.std.proofs.Common.{◌≡◌, ℕ, ◌+◌, ◌*◌, ℤ, pos, negsuc, ◌+ℤ◌, ◌-ℤ◌, ◌*ℤ◌, ◌≤ℤ◌, ◌⊎◌, inl, inr, List, [], ◌∷◌, ◌++◌, length, map, refl, sym, ◌∙◌, ap, subst, arith}
 use Rattle.std.proofs.lemmas.Int.{ints, by_lt_z}
 use Rattle.std.proofs.lemmas.List.{length-append, length-map}
 use Rattle.fractions.specs.LowestTerms.{IsLowestForm, lowest_terms}
@@ -7,10 +7,11 @@ use Rattle.fractions.specs.declared.part.TheConstants.{UNIT}
 use Rattle.fractions.proofs.Lowest.{IsLowestForm-lowest_terms, lowest_terms-only}
 use Rattle.integers.proofs.Order.{mul_left_cancel_pos}
 use Rattle.integers.proofs.Solver.{Expr.{var, num, ◌⊕◌, ◌⊝◌, ◌⊗◌}, given, linear}
-use Rattle.symmetry.specs.Vectors.{Vector, dot, minus, multiple, opposite, plus, row_times}
+use Rattle.integers.proofs.Ring.{add_comm}
+use Rattle.symmetry.specs.Vectors.{Vector, dot, minus, multiple, plus, row_times}
 use Rattle.symmetry.specs.Motions.{Motion}
-use Rattle.symmetry.specs.Planes.{Height, IsCoprime, TurnsRow}
-use Rattle.symmetry.specs.Groups.{IsGroup, IsInLattice, IsMember, Listing}
+use Rattle.symmetry.specs.Planes.{Height, IsCoprime}
+use Rattle.symmetry.specs.Groups.{IsGroup, IsInLattice, Listing}
 use Rattle.symmetry.specs.Frames.{IsPeriod, IsSpecial}
 use Rattle.symmetry.specs.Scans.{IsInPeriod}
 use Rattle.symmetry.proofs.PlaneRows.{special_by_row}
@@ -19,7 +20,7 @@ use Rattle.symmetry.proofs.LatticeLaws.{lattice-multiple}
 use Rattle.scanning.specs.Levels.{IsInTwoPeriods, IsLevel, IsTurned}
 use Rattle.scanning.proofs.HeightNumbers.{height_below, height_from, level_below, level_from}
 use Rattle.scanning.proofs.MadeHeights.{level_of_form}
-use Rattle.surveys.specs.Surveys.{IsCountOf, IsSpecialCount, ListsSet}
+use Rattle.surveys.specs.Surveys.{IsSpecialCount, ListsSet}
 use Rattle.surveys.specs.TurnedShifts.{IsTurnedShift}
 use Rattle.surveys.proofs.LatticeNumbers.{whole_periods}
 use Rattle.surveys.proofs.Sets.{lists_both, lists_images, lists_same}
@@ -140,7 +141,7 @@ module _ (g : Listing) (r : Vector) (d : ℤ) (group : IsGroup g) (coprime : IsC
       let (k, value) = whole_periods g r d period (minus m.translation member.of.translation) member.same.translation in
       let shift : x ≡ dot r member.of.translation +ℤ k *ℤ d =
       ap (dot r) (sym (minus-plus m.translation member.of.translation)) ∙ dot-plus r (minus m.translation member.of.translation) member.of.translation
-      ∙ ap (λ z. z +ℤ dot r member.of.translation) value ∙ turned_round (k *ℤ d) (dot r member.of.translation) in (
+      ∙ ap (λ z. z +ℤ dot r member.of.translation) value ∙ add_comm (k *ℤ d) (dot r member.of.translation) in (
         x,
         record {
           within = record {
@@ -151,9 +152,6 @@ module _ (g : Listing) (r : Vector) (d : ℤ) (group : IsGroup g) (coprime : IsC
         },
         half_is s d x inside level,
       )
-    where
-      turned_round : (a b : ℤ) → a +ℤ b ≡ b +ℤ a
-      turned_round a b = omega (arith, ints)
 
   -- two for each shift
   pub special_count : (ts : List ℤ) (n : ℕ) → n ≡ 2 * length ts → ListsSet (IsTurnedShift r d g.ops) ts → IsSpecialCount g r d n

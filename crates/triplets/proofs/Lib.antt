@@ -49,3 +49,4 @@ mod TermTrees
 mod PartTrees
 mod TripletTrees
 mod WritingSamples
+pub mod TextLines

@@ -1,5 +1,5 @@
 -- The trees of the grammar that write the terms of a part.
-use Rattle.std.proofs.Common.{Bool, true, refl, cond, inl, inr, lt-ltb, le-ltb, le_antisymm, ◌≡◌, ℕ, zero, suc, ◌*◌, ◌/◌, ◌<◌, ◌≤◌, false, List, [], ◌∷◌, ◌++◌, ℤ, pos, negsuc, ◌+ℤ◌, neg_ℤ, nat_abs, refl, sym, ap, subst, ◌∙◌, arith}
+use Rattle.std.proofs.Common.{Bool, true, refl, cond, inl, inr, lt-ltb, le-ltb, le_antisymm, ◌≡◌, ℕ, zero, suc, ◌*◌, ◌/◌, ◌<◌, ◌≤◌, false, List, [], ◌∷◌, ◌++◌, ℤ, pos, negsuc, ◌+ℤ◌, neg_ℤ, refl, sym, ap, subst, ◌∙◌, arith}
 use Rattle.std.specs.Int.{◌∣◌}
 use Rattle.std.specs.Fmt.{decimal as decimal_text, signed_decimal}
 use Rattle.std.proofs.lemmas.Bool.{cases_lt}
@@ -7,6 +7,7 @@ use Rattle.std.proofs.lemmas.Fmt.{decimal_digit}
 use Rattle.std.proofs.lemmas.List.{append-nil}
 use Rattle.std.proofs.Math.Nat.{dvd-mul_left, mul-div_cancel, mul-div_cancel', pos_of_dvd_of_pos}
 use Rattle.integers.specs.Size.{IsWithin}
+use Rattle.integers.proofs.Ring.{abs-neg}
 use Rattle.fractions.specs.declared.part.TheConstants.{UNIT}
 use Rattle.fractions.specs.LowestTerms.{gcd, signed_gcd, lowest_terms}
 use Rattle.fractions.specs.RatioText.{denominator_text as below_text}
@@ -129,10 +130,6 @@ over_tree n g above in_n in_unit short =
             new = λ u. tt;
           }
     ]
-
-abs-neg : (k : ℕ) → nat_abs (neg_ℤ (pos k)) ≡ k
-abs-neg zero = refl
-abs-neg (suc k) = refl
 
 signed_decimal-neg : (k : ℕ) → 0 < k → signed_decimal (neg_ℤ (pos k)) ≡ sign_byte Minus ∷ decimal_text k
 signed_decimal-neg zero h = absurd (omega arith)

@@ -1,5 +1,5 @@
 -- The one written form of a motion as a coordinate triplet or pair, and of a frieze motion as two parts of one.
-use Rattle.std.specs.Prelude.{Bool, true, false, ℕ, zero, suc, ℤ, pos, negsuc, List, [], ◌∷◌, ◌++◌, codes}
+use Rattle.std.specs.Prelude.{Bool, true, false, ℕ, zero, suc, ℤ, pos, negsuc, List, [], ◌∷◌, ◌++◌, codes, decimal}
 use Rattle.std.specs.Fmt.{signed_decimal}
 use Rattle.std.specs.Str.Parse.{without_leading_plus}
 use Rattle.fractions.specs.declared.part.TheConstants.{UNIT}
@@ -82,3 +82,7 @@ frieze_text m =
 abbrev pub placed : Bool → List ℕ → List ℕ
 placed true text = without_leading_plus text
 placed false text = text
+
+-- the line of the number and the symbol of a type
+unfoldable pub number_line : ℕ → List ℕ → List ℕ
+number_line n symbol = codes "type " ++ decimal n ++ codes " " ++ symbol ++ codes "\n"

@@ -12,7 +12,7 @@ use Rattle.std.proofs.lemmas.List.MinMax.{IsFirstBest-from_best_of}
 use Rattle.std.proofs.lemmas.List.Sorted.{ranks_by}
 use Rattle.symmetry.specs.Vectors.{Vector, origin, plus, minus, opposite}
 use Rattle.symmetry.proofs.VectorLaws.{minus-plus, minus-same, opposite-minus, minus-plus-minus, plus-minus_last}
-use Rattle.closure.specs.Laws.ListLaws.{Contains-map, Contains-from_map}
+use Rattle.quotient.proofs.ListLaws.{Contains-map, Contains-from_map}
 use Rattle.closure.specs.Residues.{residue, has_residue, vector_cmp, is_before, IsResidueGroup}
 use Rattle.closure.specs.Laws.ResidueLaws.{residue-residue, residue-plus, has_residue-is}
 use Rattle.closure.specs.Laws.VectorOrder.{vector_cmp_total, vector_cmp_equal}

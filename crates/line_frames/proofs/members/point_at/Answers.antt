@@ -8,8 +8,8 @@ use Rattle.integers.specs.Size.{IsWithin}
 use Rattle.integers.proofs.Coded.{again, again_is, code_fits, code_is, bound, code_within, coded}
 use Rattle.integers.proofs.Ring.{IsWithin-more}
 use Rattle.integers.proofs.Solver.{Expr, Expr.{var, ◌⊝◌, ◌⊗◌}}
+use Rattle.integers.proofs.Sizes.{factor_within}
 use Rattle.line_frames.proofs.Points.{point_by_quotient, point_without_second, quotient_of_point}
-use Rattle.line_frames.proofs.Sizes.{factor_within}
 use Rattle.line_frames.proofs.members.point_at.Goals as goal
 
 abbrev bounds : List ℕ

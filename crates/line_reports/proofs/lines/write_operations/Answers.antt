@@ -1,8 +1,8 @@
 use Rattle.std.proofs.Common.{◌∙◌, arith}
 use Rattle.std.specs.Prelude.{string_bytes}
 use Rattle.plane_motions.specs.PlaneMotions.{plane_of}
+use Rattle.triplets.proofs.TextLines.{one_line_more}
 use Rattle.line_reports.specs.LineTexts.{operation_line}
-use Rattle.line_reports.proofs.TextLines.{one_line_more}
 use Rattle.line_reports.proofs.lines.write_operations.Goals as goal
 
 pub loop-m-preserved : goal.loop-m-preserved

@@ -1,14 +1,14 @@
-use Rattle.std.proofs.Common.{◌≡◌, ◌*◌, pos, ◌+ℤ◌, ◌*ℤ◌, unsigned_abs, lit<, ◌∙◌}
+use Rattle.std.proofs.Common.{◌≡◌, ◌*◌, pos, ◌+ℤ◌, ◌*ℤ◌, unsigned_abs, lit<, ◌∙◌, arith}
 use Rattle.std.specs.Int.{w64}
-use Rattle.std.proofs.lemmas.Int.{to_z-of_z}
+use Rattle.std.proofs.lemmas.Int.{to_z-of_z, ints}
 use Rattle.fractions.specs.declared.part.TheConstants.{UNIT}
 use Rattle.fractions.specs.FractionOf.{fraction_of}
 use Rattle.fractions.specs.LowestTerms.{lowest_terms}
 use Rattle.friezes.specs.declared.found_frieze.TheConstants.{GRID}
 use Rattle.integers.proofs.Coded.{again}
+use Rattle.integers.proofs.Wide.{wide, word_is}
+use Rattle.fractions.proofs.Lowest.{lowest_terms-without}
 use Rattle.plane_lattice.specs.Bounds.{largest_period}
-use Rattle.plane_lattice.proofs.Wide.{wide}
-use Rattle.line_reports.proofs.OriginSizes.{without_unit, word_is}
 use Rattle.line_reports.proofs.named.origin_entry.Goals as goal
 
 pub returns : goal.returns
@@ -22,4 +22,4 @@ returns c =
     let denominator = to_z-of_z w64 c.denominator.result (record { sfits = c.denominator.type_inv }) ∙ c.denominator.ensures.is
     ∙ (λ i. den i *ℤ d *ℤ (pos GRID *ℤ UNIT)) in
     c.lowest.ensures ∙ (λ i. lowest_terms (numerator i) (denominator i))
-    ∙ without_unit q.num q.den d c.args.tau.0 c.args.v.0 c.requires.s.above c.requires.period.above
+    ∙ lowest_terms-without (pos GRID *ℤ UNIT) UNIT q.num q.den d c.args.tau.0 c.args.v.0 (omega (arith, ints)) (omega (arith, ints)) c.requires.s.above c.requires.period.above

@@ -2,9 +2,9 @@ use Rattle.std.proofs.Common.{◌++◌}
 use Rattle.std.specs.Prelude.{codes, string_bytes}
 use Rattle.plane_motions.specs.PlaneMotions.{parts2}
 use Rattle.triplets.specs.Writing.{number_text}
+use Rattle.triplets.proofs.TextLines.{three_pieces_more}
 use Rattle.line_scans.specs.LineView.{line_scan_of}
 use Rattle.line_reports.specs.LineTexts.{frame_text, indices_text, vector_text}
-use Rattle.line_reports.proofs.TextLines.{three_pieces_more}
 use Rattle.line_reports.proofs.text.write_frame.Goals as goal
 
 pub returns : goal.returns

@@ -1,10 +1,10 @@
 use Rattle.std.proofs.Common.{◌++◌, ap, sym, subst, ◌∙◌, arith}
 use Rattle.std.specs.Prelude.{string_bytes}
 use Rattle.fractions.specs.FractionOf.{fraction_of}
+use Rattle.triplets.proofs.TextLines.{one_line_more}
 use Rattle.line_scans.specs.LineView.{line_height_of, line_scan_of}
 use Rattle.line_reports.specs.LineTexts.{height_text}
 use Rattle.line_scans.specs.SmallLineScans.{IsSmallLineHeight}
-use Rattle.line_reports.proofs.TextLines.{one_line_more}
 use Rattle.line_reports.proofs.text.write_heights.Goals as goal
 
 pub write_height-requires-clause-height : goal.write_height-requires-clause-height

@@ -1,11 +1,11 @@
 use Rattle.std.proofs.Common.{ℤ, ap, sym, subst, ◌∙◌, take, ◌++◌, ◌∷◌, []}
 use Rattle.std.proofs.lemmas.List.{take_more}
+use Rattle.quotient.proofs.Zips.{zip_more}
 use Rattle.motions.specs.Views.{row_of}
 use Rattle.plane_lattice.specs.FrameView.{basis_of_frame}
 use Rattle.scanning.specs.declared.height.Height.{Height}
 use Rattle.line_scans.specs.LineOps.{IsStep}
 use Rattle.line_scans.specs.LineView.{IsLineHeightOf}
-use Rattle.line_scans.proofs.SectionLists.{zip_more}
 use Rattle.line_scans.proofs.make.line_heights.Goals as goal
 
 pub line_height-requires-clause-step : goal.line_height-requires-clause-step

@@ -1,11 +1,11 @@
 use Rattle.std.proofs.Common.{[], arith}
 use Rattle.std.proofs.lemmas.List.{map_more}
 use Rattle.symmetry.specs.Sizes.{IsSmall}
+use Rattle.quotient.proofs.Zips.{zip_more}
 use Rattle.motions.specs.Views.{motion_of, row_of}
 use Rattle.plane_lattice.specs.FrameView.{basis_of_frame}
 use Rattle.plane_lattice.proofs.Operations.{all_at}
 use Rattle.line_scans.specs.LineOps.{HasLineOp, IsLineOp}
-use Rattle.line_scans.proofs.SectionLists.{zip_more}
 use Rattle.line_scans.proofs.section.line_ops.Goals as goal
 
 pub line_op-requires-clause-motion : goal.line_op-requires-clause-motion

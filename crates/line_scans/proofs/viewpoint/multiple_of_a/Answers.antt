@@ -2,10 +2,11 @@
 use Rattle.std.proofs.Common.{rules, ◌^◌, ◌∙◌, FitsSigned, ap, lit<}
 use Rattle.std.specs.Int.{w128}
 use Rattle.integers.proofs.Coded.{fits_within}
+use Rattle.integers.proofs.Wide.{narrow_fits, narrow_is}
 use Rattle.symmetry.specs.Vectors.{multiple}
 use Rattle.motions.specs.BasisView.{basis_of}
 use Rattle.motions.specs.Views.{parts, vector_of}
-use Rattle.line_scans.proofs.Multiples.{first_is, first_within, is_combination, narrow_fits, narrow_is}
+use Rattle.line_scans.proofs.Multiples.{first_is, first_within, is_combination}
 use Rattle.line_scans.proofs.viewpoint.multiple_of_a.Goals as goal
 
 pub unreachable-requires : goal.unreachable-requires

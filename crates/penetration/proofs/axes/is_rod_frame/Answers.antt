@@ -1,10 +1,10 @@
 use Rattle.std.proofs.Common.{refl, sym, subst, arith, pos, ◌<ℤ◌, lit<}
 use Rattle.std.proofs.lemmas.Int.{ints}
+use Rattle.integers.proofs.Wide.{not_above, wide_is}
 use Rattle.motions.specs.BasisView.{basis_of}
 use Rattle.closure.specs.Groups.{group_listing}
 use Rattle.plane_lattice.specs.Bounds.{largest_scaled}
 use Rattle.plane_lattice.specs.Coordinates.{volume}
-use Rattle.plane_lattice.proofs.Wide.{not_above, wide_is}
 use Rattle.penetration.specs.DirectionView.{direction_of}
 use Rattle.penetration.proofs.AxisFacts.{from_tests, a_inside, b_inside}
 use Rattle.penetration.proofs.axes.is_rod_frame.Goals as goal

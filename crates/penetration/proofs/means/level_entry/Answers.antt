@@ -3,8 +3,8 @@ use Rattle.std.proofs.Common.{◌≡◌, ◌*◌, ◌+◌, ℕ, ℤ, negsuc, ◌
 use Rattle.fractions.specs.declared.part.TheConstants.{UNIT}
 use Rattle.integers.specs.Size.{IsWithin}
 use Rattle.integers.proofs.Ring.{IsWithin-mul, IsWithin-sub, neg_as_mul}
+use Rattle.integers.proofs.Wide.{wide, wide_is}
 use Rattle.plane_lattice.specs.Bounds.{largest_entry, largest_scaled}
-use Rattle.plane_lattice.proofs.Wide.{wide, wide_is}
 use Rattle.penetration.proofs.RodSums.{same_ratio}
 use Rattle.penetration.proofs.means.level_entry.Goals as goal
 

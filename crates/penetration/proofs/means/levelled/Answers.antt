@@ -1,12 +1,12 @@
 -- Entry by entry.
 use Rattle.std.proofs.Common.{◌≡◌, ◌*◌, ℤ, pos, negsuc, ◌+ℤ◌, ◌*ℤ◌, length, map, ap, ◌∙◌, lit<}
+use Rattle.integers.proofs.Wide.{wide, wide_is}
 use Rattle.fractions.specs.declared.part.TheConstants.{UNIT}
 use Rattle.symmetry.specs.Vectors.{plus, multiple}
 use Rattle.motions.specs.BasisView.{basis_of}
 use Rattle.motions.specs.Views.{motion_of, parts}
 use Rattle.plane_lattice.specs.Bounds.{largest_scaled}
 use Rattle.plane_lattice.specs.Coordinates.{volume}
-use Rattle.plane_lattice.proofs.Wide.{wide, wide_is}
 use Rattle.penetration.specs.DirectionView.{direction_of}
 use Rattle.penetration.specs.RodFrames.{total_along}
 use Rattle.penetration.specs.RodOperations.{rod_ops}

@@ -3,13 +3,13 @@ use Rattle.std.proofs.Common.{◌≡◌, ℕ, ◌+◌, ◌*◌, ◌<◌, ℤ, �
 use Rattle.std.specs.Int.{w128}
 use Rattle.integers.specs.Size.{IsWithin}
 use Rattle.integers.proofs.Ring.{IsWithin-add, IsWithin-more}
+use Rattle.integers.proofs.Wide.{wide, wide_is}
 use Rattle.symmetry.specs.Sizes.{IsSmall}
 use Rattle.motions.specs.BasisView.{basis_of}
 use Rattle.motions.specs.Views.{motion_of, parts}
 use Rattle.plane_lattice.specs.Bounds.{largest_scaled}
 use Rattle.plane_lattice.proofs.Operations.{all_at, operation_at}
 use Rattle.plane_lattice.proofs.Scanning.{taken_more}
-use Rattle.plane_lattice.proofs.Wide.{wide, wide_is}
 use Rattle.penetration.specs.DirectionView.{direction_of}
 use Rattle.penetration.specs.RodFrames.{total_along}
 use Rattle.penetration.specs.RodOperations.{rod_ops}

@@ -3,11 +3,11 @@ use Rattle.std.proofs.Common.{rules, FitsSigned, refl, sym, ap, ◌∙◌, subst
 use Rattle.std.specs.Int.{w128}
 use Rattle.integers.specs.Size.{IsWithin}
 use Rattle.integers.proofs.Coded.{fits_within}
+use Rattle.integers.proofs.Wide.{narrow_fits, narrow_is}
 use Rattle.symmetry.specs.Frames.{combination}
 use Rattle.symmetry.proofs.VectorLaws.{vector_path}
 use Rattle.motions.specs.BasisView.{basis_of}
 use Rattle.motions.specs.Views.{vector_of}
-use Rattle.penetration.proofs.AxisTests.{narrow_fits, narrow_is}
 use Rattle.penetration.proofs.sections.coordinates_across.Goals as goal
 
 pub overflow_cast-result : goal.overflow_cast-result

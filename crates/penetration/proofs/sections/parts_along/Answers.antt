@@ -2,10 +2,11 @@
 use Rattle.std.proofs.Common.{rules, ◌^◌, ◌∙◌, ap, FitsSigned, lit<}
 use Rattle.std.specs.Int.{w128}
 use Rattle.integers.proofs.Coded.{fits_within}
+use Rattle.integers.proofs.Wide.{narrow_fits, narrow_is}
 use Rattle.symmetry.specs.Vectors.{multiple}
 use Rattle.motions.specs.BasisView.{basis_of}
 use Rattle.motions.specs.Views.{parts}
-use Rattle.penetration.proofs.AxisTests.{axis_times_within, narrow_fits, narrow_is}
+use Rattle.penetration.proofs.AxisTests.{axis_times_within}
 use Rattle.penetration.proofs.sections.parts_along.Goals as goal
 
 pub overflow_cast-result : goal.overflow_cast-result

@@ -2,10 +2,11 @@
 use Rattle.std.proofs.Common.{rules, FitsSigned, pos, of_z, ap, ◌∙◌}
 use Rattle.std.specs.Int.{w128}
 use Rattle.std.proofs.lemmas.Int.{to_z-of_z}
+use Rattle.integers.proofs.Wide.{zero_is}
 use Rattle.symmetry.specs.Vectors.{multiple}
 use Rattle.motions.specs.BasisView.{basis_of}
 use Rattle.motions.specs.Views.{parts, vector_of}
-use Rattle.penetration.proofs.AxisTests.{along_by_coordinates, on_axis, zero_is}
+use Rattle.penetration.proofs.AxisTests.{along_by_coordinates, on_axis}
 use Rattle.penetration.proofs.LineMembers.{only_axis}
 use Rattle.penetration.proofs.shifts.axis_coordinate.Goals as goal
 use Rattle.penetration.proofs.shifts.axis_coordinate.Goals.{else-c-eq0-via-then-c-eq0+else-c-eq0-2, else-c-eq0-via-else-c-eq0}

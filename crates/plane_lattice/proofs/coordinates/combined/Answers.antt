@@ -1,9 +1,9 @@
 -- The bounds of the products bound their sum.
 use Rattle.std.proofs.Common.{◌≡◌, ◌*◌, ℕ, ℤ, ◌+ℤ◌, ◌*ℤ◌, ◌∙◌, ap, lit<, sym, subst}
 use Rattle.integers.specs.Size.{IsWithin}
+use Rattle.integers.proofs.Wide.{wide, wide_is, wide_sum_fits, wide_sum_is, within_sum}
 use Rattle.motions.specs.Views.{vector_of}
 use Rattle.plane_lattice.specs.Bounds.{largest_combined, largest_entry, largest_scaled}
-use Rattle.plane_lattice.proofs.Wide.{wide, wide_is, wide_sum_fits, wide_sum_is, within_sum}
 use Rattle.plane_lattice.proofs.coordinates.combined.Goals as goal
 
 abbrev most : ℕ

@@ -4,8 +4,8 @@ use Rattle.std.specs.Int.{w64, w128}
 use Rattle.integers.specs.Size.{IsWithin}
 use Rattle.integers.proofs.Coded.{again, again_is, fits_within}
 use Rattle.integers.proofs.Ring.{IsWithin-sub}
+use Rattle.integers.proofs.Wide.{wide, wide_is, wide_fits}
 use Rattle.plane_lattice.specs.Bounds.{largest_combined}
-use Rattle.plane_lattice.proofs.Wide.{wide, wide_is, wide_fits}
 use Rattle.plane_lattice.proofs.coordinates.difference.Goals as goal
 
 module _ (t p : ℤ) (h : IsWithin (2 ^ 40) t) (k : IsWithin largest_combined p) where

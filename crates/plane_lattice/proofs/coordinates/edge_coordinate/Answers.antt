@@ -7,9 +7,9 @@ use Rattle.fractions.specs.declared.part.TheConstants.{UNIT}
 use Rattle.integers.specs.Size.{IsWithin}
 use Rattle.integers.proofs.Coded.{again}
 use Rattle.integers.proofs.Ring.{IsWithin-mul}
+use Rattle.integers.proofs.Wide.{wide, wide_is}
 use Rattle.plane_lattice.specs.Bounds.{largest_scaled}
 use Rattle.plane_lattice.proofs.Quotients.{IsWithin-div_euclid, exact_quotient}
-use Rattle.plane_lattice.proofs.Wide.{wide, wide_is}
 use Rattle.plane_lattice.proofs.coordinates.edge_coordinate.Goals as goal
 
 pub returns : goal.returns

@@ -2,9 +2,9 @@
 use Rattle.std.proofs.Common.{◌∙◌, ℤ, ap, sym, subst, lit<}
 use Rattle.std.specs.Int.{int_div_euclid}
 use Rattle.integers.specs.Size.{IsWithin}
+use Rattle.integers.proofs.Wide.{wide, wide_is}
 use Rattle.plane_lattice.specs.Bounds.{largest_scaled}
 use Rattle.plane_lattice.proofs.Quotients.{IsWithin-div_euclid}
-use Rattle.plane_lattice.proofs.Wide.{wide, wide_is}
 use Rattle.plane_lattice.proofs.coordinates.floor.Goals as goal
 
 pub returns : goal.returns

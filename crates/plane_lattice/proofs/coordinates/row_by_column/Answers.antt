@@ -2,10 +2,10 @@
 use Rattle.std.proofs.Common.{◌*◌, ◌^◌, ℕ, ℤ, ◌+ℤ◌, ◌*ℤ◌, ◌≡◌, ◌∙◌, ap, lit<, sym, subst}
 use Rattle.integers.specs.Size.{IsWithin}
 use Rattle.integers.proofs.Coded.{again, again_is}
+use Rattle.integers.proofs.Wide.{wide_sum_fits, wide_sum_is, within_sum}
 use Rattle.symmetry.specs.Vectors.{dot}
 use Rattle.motions.specs.Views.{vector_of}
 use Rattle.plane_lattice.specs.Bounds.{largest_cross, largest_scaled}
-use Rattle.plane_lattice.proofs.Wide.{wide_sum_fits, wide_sum_is, within_sum}
 use Rattle.plane_lattice.proofs.coordinates.row_by_column.Goals as goal
 
 abbrev most : ℕ

@@ -2,10 +2,10 @@
 use Rattle.std.proofs.Common.{◌≡◌, ℤ, ◌∙◌, refl, lit<, lit≤, sym, subst}
 use Rattle.std.specs.Int.{int_div_euclid}
 use Rattle.integers.specs.Size.{IsWithin}
+use Rattle.integers.proofs.Wide.{wide, wide_is}
 use Rattle.symmetry.proofs.VectorLaws.{vector_path}
 use Rattle.motions.specs.Views.{vector_of}
 use Rattle.plane_lattice.specs.Bounds.{largest_scaled}
-use Rattle.plane_lattice.proofs.Wide.{wide, wide_is}
 use Rattle.plane_lattice.proofs.coordinates.whole_part.Goals as goal
 
 -- a quotient of numbers that were passed, and read again

@@ -2,10 +2,10 @@
 use Rattle.std.proofs.Common.{◌≡◌, ◌^◌, ℤ, ◌+ℤ◌, ◌-ℤ◌, ◌*ℤ◌, negsuc, ◌∙◌, ap, lit<, sym, subst}
 use Rattle.integers.specs.Size.{IsWithin}
 use Rattle.integers.proofs.Ring.{neg_as_mul}
+use Rattle.integers.proofs.Wide.{wide, wide_is}
 use Rattle.symmetry.specs.Vectors.{plus, multiple}
 use Rattle.symmetry.proofs.VectorLaws.{vector_path}
 use Rattle.plane_lattice.specs.Bounds.{largest_combined}
-use Rattle.plane_lattice.proofs.Wide.{wide, wide_is}
 use Rattle.plane_lattice.proofs.coordinates.without.Goals as goal
 
 -- a number less a combination that was passed

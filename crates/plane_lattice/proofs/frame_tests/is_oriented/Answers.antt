@@ -1,11 +1,11 @@
 -- (hkl).a, (hkl).b and (hkl).tau, and the volume, are tested one after the other.
 use Rattle.std.proofs.Common.{◌≡◌, ◌<ℤ◌, pos, ◌∙◌, sym, subst, lit<}
+use Rattle.integers.proofs.Wide.{wide_zero, not_above, above_tells}
 use Rattle.symmetry.specs.Vectors.{dot}
 use Rattle.motions.specs.BasisView.{basis_of}
 use Rattle.motions.specs.Views.{row_of}
 use Rattle.plane_lattice.specs.Bounds.{largest_period, largest_scaled}
 use Rattle.plane_lattice.proofs.Oriented.{oriented_by_volume}
-use Rattle.plane_lattice.proofs.Wide.{wide_zero, not_above, above_tells}
 use Rattle.plane_lattice.proofs.frame_tests.is_oriented.Goals as goal
 
 pub returns : goal.returns

@@ -1,9 +1,9 @@
 -- The table has exactly the matrices that take the lattice.
 use Rattle.std.proofs.Common.{◌≡◌, ◌∙◌, sym, ap, subst, List, ℤ, rules, tests}
 use Rattle.std.proofs.lemmas.Iterator.{cases_from_any, YieldsList-from_slice}
+use Rattle.quotient.proofs.ListLaws.{All-from_map, Contains-from_map}
 use Rattle.motions.specs.PlaneViews.{matrix2_of}
 use Rattle.recognition.specs.Listed.{TakesLattice}
-use Rattle.recognition.proofs.Lists.{All-from_map, Contains-from_map}
 use Rattle.recognition.proofs.Searches.{some_is}
 use Rattle.recognition.proofs.matrices.takes_lattice.Goals as goal
 

@@ -1,6 +1,6 @@
 use Rattle.std.proofs.Common.{◌≡◌, sym, ◌∙◌, rules, FitsSigned, w64}
+use Rattle.integers.proofs.Coded.{same_number, equal_is}
 use Rattle.motions.specs.RodMotions.{rod_of}
-use Rattle.recognition.proofs.Coded.{same_number, equal_is}
 use Rattle.recognition.proofs.rod_kinds.is_kin.Goals as goal
 
 pub returns : goal.returns

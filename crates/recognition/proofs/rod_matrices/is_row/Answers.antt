@@ -1,13 +1,10 @@
-use Rattle.std.proofs.Common.{◌≡◌, ℤ, sym, ap, ◌∙◌, rules, FitsSigned, w64, of_z, to_z, eq-eqb}
+use Rattle.std.proofs.Common.{◌≡◌, sym, ap, ◌∙◌, rules, FitsSigned, w64, of_z, eq-eqb}
 use borrow.Author.Tests.{eqb-true}
-use Rattle.std.proofs.lemmas.Int.{to_z-of_z}
+use Rattle.integers.proofs.Coded.{same_number}
 use Rattle.motions.specs.PlaneMatrices.{Pair}
 use Rattle.motions.specs.PlaneViews.{pair_of}
 use Rattle.motions.specs.Laws.PlaneMatrixLaws.{pair_path}
 use Rattle.recognition.proofs.rod_matrices.is_row.Goals as goal
-
-same : (x y : ℤ) → FitsSigned w64 x → FitsSigned w64 y → of_z w64 x ≡ of_z w64 y → x ≡ y
-same x y f g e = sym (to_z-of_z w64 x f) ∙ ap (to_z w64) e ∙ to_z-of_z w64 y g
 
 pub returns : goal.returns
 returns c =
@@ -16,8 +13,8 @@ returns c =
     let y : FitsSigned w64 other.y = search rules in
     let s : FitsSigned w64 c.first_entry-first.result = search rules in
     let t : FitsSigned w64 c.second_entry-second.result = search rules in
-    let first : other.x ≡ c.first_entry-first.result = same other.x c.first_entry-first.result x s c.if-other-first.false in (
+    let first : other.x ≡ c.first_entry-first.result = same_number other.x c.first_entry-first.result x s c.if-other-first.false in (
       λ h. pair_path (first ∙ c.first_entry-first.ensures)
-          (same other.y c.second_entry-second.result y t (eqb-true (of_z w64 other.y) (of_z w64 c.second_entry-second.result) h) ∙ c.second_entry-second.ensures),
+          (same_number other.y c.second_entry-second.result y t (eqb-true (of_z w64 other.y) (of_z w64 c.second_entry-second.result) h) ∙ c.second_entry-second.ensures),
       λ e. eq-eqb (of_z w64 other.y) (of_z w64 c.second_entry-second.result) (ap (of_z w64) (ap (λ (v : Pair). v.y) e ∙ sym c.second_entry-second.ensures)),
     )

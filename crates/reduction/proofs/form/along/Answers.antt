@@ -1,10 +1,10 @@
 use Rattle.std.proofs.Common.{ℕ, ◌+ℤ◌, ◌*ℤ◌, List, [], ◌∷◌, ◌∙◌}
 use Rattle.integers.proofs.Coded.{again}
 use Rattle.integers.proofs.Solver.{Expr, Expr.{var, ◌⊕◌, ◌⊗◌}}
+use Rattle.integers.proofs.Wide.{code_fits, code_is, code_within}
 use Rattle.symmetry.specs.Vectors.{dot}
 use Rattle.motions.specs.Views.{vector_of}
 use Rattle.reduction.specs.Bounds.{largest_form, largest_short}
-use Rattle.reduction.proofs.WideCoded.{code_fits, code_is, code_within}
 use Rattle.reduction.proofs.FormPassed.{form_within, form_again, short_again_within, short_again}
 use Rattle.reduction.proofs.form.along.Goals as goal
 

@@ -1,10 +1,10 @@
 use Rattle.std.proofs.Common.{◌+ℤ◌, ◌*ℤ◌, [], ◌∷◌, ◌∙◌}
 use Rattle.integers.proofs.Coded.{again}
 use Rattle.integers.proofs.Solver.{Expr.{var, ◌⊕◌, ◌⊗◌}}
+use Rattle.integers.proofs.Wide.{code_fits, code_is, code_within}
 use Rattle.symmetry.specs.Vectors.{dot}
 use Rattle.motions.specs.Views.{vector_of}
 use Rattle.reduction.specs.Bounds.{largest_along, largest_short}
-use Rattle.reduction.proofs.WideCoded.{code_fits, code_is, code_within}
 use Rattle.reduction.proofs.FormPassed.{short_again_within, short_again}
 use Rattle.reduction.proofs.form.value_at.Goals as goal
 

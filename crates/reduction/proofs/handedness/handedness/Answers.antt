@@ -5,13 +5,12 @@ use Rattle.std.specs.Prelude.{unsigned_abs}
 use Rattle.integers.specs.Size.{IsWithin}
 use Rattle.integers.proofs.Coded.{again, again_is, AllWithinBounds}
 use Rattle.integers.proofs.Solver.{Expr, Expr.{var, ◌⊕◌, ◌⊗◌}}
+use Rattle.integers.proofs.Wide.{wide, code_fits, code_is, coded, is_bounded}
 use Rattle.symmetry.specs.Vectors.{Vector, cross, dot}
 use Rattle.motions.specs.Views.{vector_of}
 use Rattle.motions.specs.declared.miller.TheConstants.{INDEX}
 use Rattle.reduction.specs.Bounds.{largest_minor, largest_short}
 use Rattle.reduction.proofs.FormPassed.{short_again}
-use Rattle.plane_lattice.proofs.Wide.{wide}
-use Rattle.reduction.proofs.WideCoded.{code_fits, code_is, coded, is_bounded}
 use Rattle.reduction.proofs.handedness.handedness.Goals as goal
 
 index_within : (x : ℤ) → IsWithin (unsigned_abs INDEX) x → IsWithin (unsigned_abs INDEX) (again x)

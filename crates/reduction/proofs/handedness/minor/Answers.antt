@@ -2,9 +2,9 @@
 use Rattle.std.proofs.Common.{ℕ, ℤ, ◌-ℤ◌, ◌*ℤ◌, List, [], ◌∷◌, ◌∙◌}
 use Rattle.integers.proofs.Coded.{again, AllWithinBounds}
 use Rattle.integers.proofs.Solver.{Expr, Expr.{var, ◌⊝◌, ◌⊗◌}}
+use Rattle.integers.proofs.Wide.{code_fits, code_is, code_within}
 use Rattle.reduction.specs.Bounds.{largest_short}
 use Rattle.reduction.proofs.FormPassed.{short_again, short_again_within}
-use Rattle.reduction.proofs.WideCoded.{code_fits, code_is, code_within}
 use Rattle.reduction.proofs.handedness.minor.Goals as goal
 
 abbrev bounds : List ℕ

@@ -1,8 +1,8 @@
 use Rattle.std.proofs.Common.{[], ◌∙◌, arith}
 use Rattle.std.specs.Prelude.{string_bytes}
 use Rattle.motions.specs.Views.{vector_of}
+use Rattle.triplets.proofs.TextLines.{one_line_more}
 use Rattle.report.specs.Texts.{image_line}
-use Rattle.report.proofs.TextLines.{one_line_more}
 use Rattle.report.proofs.images.images_text.Goals as goal
 
 pub loop-image-preserved : goal.loop-image-preserved

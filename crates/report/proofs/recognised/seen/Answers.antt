@@ -6,13 +6,13 @@ use Rattle.std.proofs.lemmas.List.Elements.{All-push}
 use Rattle.integers.proofs.Coded.{again}
 use Rattle.symmetry.specs.Motions.{identity}
 use Rattle.symmetry.specs.Vectors.{dot}
+use Rattle.quotient.proofs.Zips.{zip_more}
 use Rattle.motions.specs.Views.{motion_of, parts, row_of}
 use Rattle.closure.specs.Groups.{group_listing}
 use Rattle.plane_lattice.specs.FrameView.{basis_of_frame}
 use Rattle.plane_lattice.specs.Sections.{height_in_steps}
 use Rattle.recognition.specs.Sections.{IsSmallMotion}
 use Rattle.report.specs.SectionTypes.{IsOnPlane, IsSeen}
-use Rattle.report.proofs.SeenLists.{zip_more}
 use Rattle.report.proofs.StepNumbers.{step_again}
 use Rattle.report.proofs.recognised.seen.Goals as goal
 

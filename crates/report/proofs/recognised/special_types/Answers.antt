@@ -2,12 +2,12 @@ use Rattle.std.proofs.Common.{arith, subst}
 use Rattle.std.specs.Prelude.{option_map}
 use Rattle.std.proofs.lemmas.List.{take_more}
 use Rattle.fractions.specs.FractionOf.{fraction_of}
+use Rattle.quotient.proofs.Zips.{zip_more}
 use Rattle.motions.specs.Views.{row_of}
 use Rattle.closure.specs.Groups.{group_listing}
 use Rattle.plane_lattice.specs.FrameView.{basis_of_frame}
 use Rattle.recognition.specs.Search.{change_of}
 use Rattle.report.specs.FoundChanges.{IsTypeAt}
-use Rattle.report.proofs.SeenLists.{zip_more}
 use Rattle.report.proofs.recognised.special_types.Goals as goal
 
 pub loop-height-preserved : goal.loop-height-preserved

@@ -1,8 +1,8 @@
 use Rattle.std.proofs.Common.{◌≡◌, ◌^◌, ◌*ℤ◌, ◌≤ℤ◌, ℤ, pos, [], ◌∷◌, lit<, sym, subst, ◌∙◌}
 use Rattle.integers.proofs.Coded.{again, code_is}
 use Rattle.integers.proofs.Order.{one-le-mul}
-use Rattle.plane_lattice.proofs.Wide.{wide}
-use Rattle.report.proofs.RodNamedSizes.{below, below_bounds, cast_is}
+use Rattle.integers.proofs.Wide.{wide, cast_is}
+use Rattle.report.proofs.RodNamedSizes.{below, below_bounds}
 use Rattle.report.proofs.rod_named.denominator.Goals as goal
 
 pub returns-clause-above : goal.returns-clause-above

@@ -3,8 +3,8 @@ use Rattle.std.specs.Int.{w64}
 use Rattle.integers.specs.Size.{IsWithin}
 use Rattle.integers.proofs.Coded.{again, code_fits, code_is, code_within}
 use Rattle.integers.proofs.Ring.{IsWithin-more}
-use Rattle.plane_lattice.proofs.Wide.{wide}
-use Rattle.report.proofs.RodNamedSizes.{cast_is, term, term_bounds}
+use Rattle.integers.proofs.Wide.{wide, cast_is}
+use Rattle.report.proofs.RodNamedSizes.{term, term_bounds}
 use Rattle.report.proofs.rod_named.term.Goals as goal
 
 -- the product as the code has it

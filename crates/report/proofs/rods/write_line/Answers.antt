@@ -1,11 +1,11 @@
 use Rattle.std.proofs.Common.{◌++◌}
 use Rattle.std.specs.Prelude.{codes, string_bytes}
 use Rattle.motions.specs.Views.{parts}
+use Rattle.triplets.proofs.TextLines.{three_pieces_more}
 use Rattle.penetration.specs.DirectionView.{direction_of}
 use Rattle.penetration.specs.RodOperations.{vector_across}
 use Rattle.report.specs.RodTexts.{line_text}
 use Rattle.report.specs.Texts.{fractions_text, indices_text, vector_text}
-use Rattle.report.proofs.TextLines.{three_pieces_more}
 use Rattle.report.proofs.rods.write_line.Goals as goal
 
 pub returns : goal.returns

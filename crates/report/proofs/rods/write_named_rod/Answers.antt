@@ -1,8 +1,9 @@
 use Rattle.std.proofs.Common.{◌≡◌, ◌++◌, [], ap, subst, ◌∙◌}
 use Rattle.std.specs.Prelude.{OnOk, string_bytes}
+use Rattle.triplets.proofs.TextLines.{three_lines_more}
+use Rattle.triplets.specs.Writing.{number_line}
 use Rattle.report.specs.RodTexts.{rod_basis_line}
-use Rattle.report.specs.Texts.{number_line, origin_line}
-use Rattle.report.proofs.TextLines.{three_lines_more}
+use Rattle.report.specs.Texts.{origin_line}
 use Rattle.report.proofs.rods.write_named_rod.Goals as goal
 
 pub returns : goal.returns

@@ -1,8 +1,8 @@
 use Rattle.std.proofs.Common.{[], ◌++◌, ◌∙◌, ap, arith}
 use Rattle.std.specs.Prelude.{string_bytes}
+use Rattle.triplets.proofs.TextLines.{one_line_more}
 use Rattle.surveys.specs.SurveyView.{surveyed_of}
 use Rattle.report.specs.SurveyTexts.{surveyed_line}
-use Rattle.report.proofs.TextLines.{one_line_more}
 use Rattle.report.proofs.survey.survey_text.Goals as goal
 
 pub loop-surveyed-preserved : goal.loop-surveyed-preserved

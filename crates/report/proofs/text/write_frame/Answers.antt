@@ -2,8 +2,8 @@ use Rattle.std.proofs.Common.{◌++◌}
 use Rattle.std.specs.Prelude.{codes, string_bytes}
 use Rattle.motions.specs.Views.{parts, row_of}
 use Rattle.triplets.specs.Writing.{number_text}
+use Rattle.triplets.proofs.TextLines.{three_pieces_more}
 use Rattle.report.specs.Texts.{frame_text, indices_text, vector_text}
-use Rattle.report.proofs.TextLines.{three_pieces_more}
 use Rattle.report.proofs.text.write_frame.Goals as goal
 
 pub returns : goal.returns

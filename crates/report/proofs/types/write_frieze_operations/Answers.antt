@@ -1,8 +1,8 @@
 use Rattle.std.proofs.Common.{◌∙◌, arith}
 use Rattle.std.specs.Prelude.{string_bytes}
 use Rattle.motions.specs.FriezeMotions.{frieze_of}
+use Rattle.triplets.proofs.TextLines.{one_line_more}
 use Rattle.report.specs.TypeTexts.{frieze_line}
-use Rattle.report.proofs.TextLines.{one_line_more}
 use Rattle.report.proofs.types.write_frieze_operations.Goals as goal
 
 pub loop-m-preserved : goal.loop-m-preserved

@@ -2,9 +2,9 @@ use Rattle.std.proofs.Common.{length, map, subst, ◌∙◌, ◌<◌, arith}
 use Rattle.std.proofs.lemmas.List.{get_or-map, length-map}
 use Rattle.std.specs.Prelude.{string_bytes}
 use Rattle.motions.specs.Layers.{planar_identity, planar_of, HasHalfPart}
+use Rattle.triplets.proofs.TextLines.{one_line_more}
 use Rattle.report.specs.Texts.{operation_line}
 use Rattle.report.specs.TypeTexts.{block_of_layer}
-use Rattle.report.proofs.TextLines.{one_line_more}
 use Rattle.report.proofs.types.write_layer_operations.Goals as goal
 
 pub write_layer_operation-requires : goal.write_layer_operation-requires

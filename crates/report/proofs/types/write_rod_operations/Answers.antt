@@ -1,8 +1,8 @@
 use Rattle.std.proofs.Common.{◌++◌, ap, ◌∙◌, arith}
 use Rattle.std.specs.Prelude.{string_bytes}
+use Rattle.triplets.proofs.TextLines.{one_line_more}
 use Rattle.report.specs.Texts.{operation_line}
 use Rattle.report.specs.TypeTexts.{block_of_rod}
-use Rattle.report.proofs.TextLines.{one_line_more}
 use Rattle.report.proofs.types.write_rod_operations.Goals as goal
 
 pub loop-m-preserved : goal.loop-m-preserved

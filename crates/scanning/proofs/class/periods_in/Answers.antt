@@ -5,14 +5,14 @@ use Rattle.std.proofs.lemmas.Int.{to_z-of_z}
 use Rattle.integers.specs.Size.{IsWithin}
 use Rattle.integers.proofs.Coded.{again_is}
 use Rattle.integers.proofs.Ring.{IsWithin-mul}
+use Rattle.integers.proofs.Wide.{wide, wide_is}
 use Rattle.scanning.proofs.Remainders.{periods_is}
-use Rattle.scanning.proofs.Wide.{wide, wide_is}
 use Rattle.scanning.proofs.class.periods_in.Goals as goal
 
 two_periods : (d from : ℤ) → IsWithin (2 ^ 40) d → from ≡ d → wide (pos 2 *ℤ wide from) ≡ pos 2 *ℤ d
 two_periods d from small is =
-    ap (λ x. wide (pos 2 *ℤ wide x)) is ∙ ap (λ x. wide (pos 2 *ℤ x)) (wide_is d (2 ^ 40) small (lit< tt))
-    ∙ wide_is (pos 2 *ℤ d) (2 * 2 ^ 40) (IsWithin-mul {m = 2} {a = pos 2} two small) (lit< tt)
+    ap (λ x. wide (pos 2 *ℤ wide x)) is ∙ ap (λ x. wide (pos 2 *ℤ x)) (wide_is (2 ^ 40) d (lit< tt) small)
+    ∙ wide_is (2 * 2 ^ 40) (pos 2 *ℤ d) (lit< tt) (IsWithin-mul {m = 2} {a = pos 2} two small)
   where
     two : IsWithin 2 (pos 2)
     two = record { most = lit≤ tt }

@@ -7,11 +7,11 @@ use Rattle.fractions.specs.LowestTerms.{IsLowestForm}
 use Rattle.fractions.specs.declared.part.TheConstants.{UNIT}
 use Rattle.fractions.specs.declared.ratio.Ratio.{Ratio}
 use Rattle.integers.specs.Size.{IsWithin}
+use Rattle.integers.proofs.Wide.{wide}
 use Rattle.scanning.specs.Bounds.{largest_level}
 use Rattle.scanning.specs.Levels.{IsLevel}
 use Rattle.scanning.proofs.MadeHeights.{level_of_form}
 use Rattle.scanning.proofs.Shifts.{below_two_periods}
-use Rattle.scanning.proofs.Wide.{wide}
 use Rattle.scanning.proofs.heights.height_at.Goals as goal
 
 pub members-requires-clause-turned : goal.members-requires-clause-turned

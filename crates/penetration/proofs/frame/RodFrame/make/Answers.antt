@@ -1,6 +1,6 @@
 -- With the axis the vectors are no frame, one that is skewed, or one that is given.
-use Rattle.std.proofs.Common.{◌≡◌, ◌↔◌, ◌≤◌, ◌≤ℤ◌, ◌<ℤ◌, ℤ, pos, Bool, IsTrue, List, length, map, refl, sym, subst, arith}
-use Rattle.std.proofs.lemmas.Int.{ints}
+use Rattle.std.proofs.Common.{◌≡◌, ◌↔◌, ◌≤◌, Bool, IsTrue, List, length, map, refl, sym, subst, arith}
+use Rattle.integers.proofs.Order.{at_least_one}
 use Rattle.fractions.specs.declared.ratio.Ratio.{Ratio}
 use Rattle.symmetry.specs.Frames.{Basis}
 use Rattle.symmetry.specs.Vectors.{Vector}
@@ -22,9 +22,6 @@ use Rattle.penetration.proofs.FrameFaults.{no_fault, not_frame, skewed}
 use Rattle.penetration.proofs.RodSums.{rod_ops_are, some_rod}
 use Rattle.penetration.proofs.VolumeBound.{volume_bound}
 use Rattle.penetration.proofs.frame.RodFrame.make.Goals as goal
-
-at_least_one : (v : ℤ) → pos 0 <ℤ v → pos 1 ≤ℤ v
-at_least_one v h = omega (arith, ints, h)
 
 -- what is told of the vectors of the dual basis is told of these
 told : {b : Bool} {basis kept : BasisOfCode} (P : Basis → Type 0) → kept ≡ basis → (IsTrue b ↔ P (basis_of kept)) → (IsTrue b ↔ P (basis_of basis))

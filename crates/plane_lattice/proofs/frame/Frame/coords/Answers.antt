@@ -4,6 +4,7 @@ use Rattle.std.specs.Int.{int_div_euclid, int_rem_euclid, w64}
 use Rattle.std.proofs.lemmas.Int.{to_z-of_z}
 use Rattle.fractions.specs.declared.part.TheConstants.{UNIT}
 use Rattle.integers.specs.Size.{IsWithin}
+use Rattle.integers.proofs.Wide.{wide}
 use Rattle.symmetry.specs.Frames.{Basis, combination}
 use Rattle.symmetry.specs.Sizes.{IsVectorWithin}
 use Rattle.symmetry.specs.Vectors.{Vector}
@@ -14,7 +15,6 @@ use Rattle.plane_lattice.specs.Coordinates.{volume, scaled}
 use Rattle.plane_lattice.specs.FrameView.{basis_of_frame}
 use Rattle.plane_lattice.proofs.Edges.{edge_x, edge_y, edge_z, edge_combination, edge_quotients}
 use Rattle.plane_lattice.proofs.Passed.{passed_volume, passed_x, passed_y, passed_z}
-use Rattle.plane_lattice.proofs.Wide.{wide}
 use Rattle.plane_lattice.proofs.frame.Frame.coords.Goals as goal
 
 -- the numbers that arrive are the volume and the coordinates

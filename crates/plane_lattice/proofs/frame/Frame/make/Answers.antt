@@ -4,6 +4,7 @@ use Rattle.std.specs.Prelude.{Err}
 use Rattle.std.proofs.lemmas.Int.{ints}
 use Rattle.integers.specs.Size.{IsWithin}
 use Rattle.integers.proofs.Coded.{again, again_is}
+use Rattle.integers.proofs.Wide.{wide, wide_is}
 use Rattle.symmetry.specs.Frames.{Basis, IsFrame, IsPeriod, IsSkewed, mean_of}
 use Rattle.symmetry.specs.Groups.{Listing}
 use Rattle.symmetry.specs.Motions.{Motion}
@@ -22,7 +23,6 @@ use Rattle.plane_lattice.proofs.FrameListings.{frame_alike, good_frame, no_frame
 use Rattle.plane_lattice.proofs.FrameTestFacts.{frame_passes_tests, volume_positive}
 use Rattle.plane_lattice.proofs.LatticeTests.{edges_held, fine_as}
 use Rattle.plane_lattice.proofs.ScanningFacts.{scanning_ops_are, some_scanning}
-use Rattle.plane_lattice.proofs.Wide.{wide, wide_is}
 use Rattle.plane_lattice.proofs.frame.Frame.make.Goals as goal
 
 -- what is told of the vectors of the dual basis is told of these

@@ -1,6 +1,7 @@
 -- The motion is the one at home of the definition.
 use Rattle.std.proofs.Common.{◌≡◌, ◌^◌, ◌≤ℤ◌, ℤ, pos, ◌∙◌, ap, lit<, lit≤, sym, subst, refl}
 use Rattle.integers.specs.Size.{IsWithin}
+use Rattle.integers.proofs.Wide.{wide, wide_is}
 use Rattle.symmetry.specs.Frames.{Basis, combination, IsAtHome}
 use Rattle.symmetry.specs.Sizes.{IsVectorWithin}
 use Rattle.symmetry.specs.Vectors.{Vector, dot, minus}
@@ -14,7 +15,6 @@ use Rattle.plane_lattice.specs.FrameView.{basis_of_frame}
 use Rattle.plane_lattice.specs.PlaneLattice.{home_shift, home_motion}
 use Rattle.plane_lattice.specs.declared.frame.Frame.{Frame}
 use Rattle.plane_lattice.proofs.Homes.{home_at_home, home_differs, home_level, home_within}
-use Rattle.plane_lattice.proofs.Wide.{wide, wide_is}
 use Rattle.plane_lattice.proofs.space.FrameQuotient.home.Goals as goal
 
 -- what was computed from the basis, the volume and the coordinates

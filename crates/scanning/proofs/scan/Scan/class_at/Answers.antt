@@ -4,13 +4,13 @@ use Rattle.std.specs.Int.{w128}
 use Rattle.std.proofs.lemmas.Int.{to_z-of_z}
 use Rattle.fractions.specs.FractionOf.{fraction_of}
 use Rattle.integers.proofs.Ring.{IsWithin-more}
+use Rattle.integers.proofs.Wide.{wide, wide_is}
 use Rattle.scanning.specs.declared.height.Height.{Height}
 use Rattle.scanning.specs.HeightView.{specials_of}
 use Rattle.scanning.specs.PlaceView.{IsPlaceOf}
 use Rattle.scanning.specs.declared.class.Place.TheVariants.{Special}
 use Rattle.scanning.proofs.Places.{no_level_place, no_rest_place, rest_place}
 use Rattle.scanning.proofs.Shifts.{period_within}
-use Rattle.scanning.proofs.Wide.{wide, wide_is}
 use Rattle.scanning.proofs.scan.Scan.class_at.Goals as goal
 
 pub returns-in_default : goal.returns-in_default
@@ -34,7 +34,7 @@ returns-in-None c =
     let rest : FitsSigned w128 c.periods_in-k.result.1 = search rules in
     no_rest_place scan.frame.period.0 scan.special.items scan.in_period scan.rising (fraction_of c.args.s) c.args.s.positive
     c.in-Some.level c.in-Some.ensures.is c.periods_in-k.result.1 c.periods_in-k.result.0 c.periods_in-k.ensures.within
-    (sym (wide_is c.in-Some.level (2 ^ 70) c.in-Some.ensures.small (lit< tt)) ∙ c.periods_in-k.ensures.is)
+    (sym (wide_is (2 ^ 70) c.in-Some.level (lit< tt) c.in-Some.ensures.small) ∙ c.periods_in-k.ensures.is)
     (subst (HasNone scan.special.items) (to_z-of_z w128 c.periods_in-k.result.1 rest)
     (subst (λ hs. HasNone hs (wide c.periods_in-k.result.1)) c.deref.ensures.value c.in-None.ensures))
 
@@ -50,4 +50,4 @@ returns-in-Some-index_of c =
     subst R (sym (to_z-of_z w128 c.periods_in-k.result.0 times))
     (rest_place scan.frame.period.0 scan.special.items scan.in_period scan.rising (fraction_of c.args.s) c.args.s.positive
     c.in-Some.level c.in-Some.ensures.is c.periods_in-k.result.1 c.periods_in-k.result.0 c.periods_in-k.ensures.within
-    (sym (wide_is c.in-Some.level (2 ^ 70) c.in-Some.ensures.small (lit< tt)) ∙ c.periods_in-k.ensures.is) i found.0 found.1)
+    (sym (wide_is (2 ^ 70) c.in-Some.level (lit< tt) c.in-Some.ensures.small) ∙ c.periods_in-k.ensures.is) i found.0 found.1)

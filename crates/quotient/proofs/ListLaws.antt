@@ -1,6 +1,6 @@
--- Lists: pairs of places, and what a map contains. Proofs: they stand here since an `impl` cites them.
+-- Lists of anything: pairs of places, what a map contains, and elements that differ.
 use Rattle.std.proofs.Common.{◌≡◌, ℕ, zero, suc, Bool, false, ◌-◌, ◌<◌, ◌≤◌, inl, inr, arith, refl, sym, ap, subst, ◌∙◌, List, [], ◌∷◌, ◌++◌, length, get_or, map, take}
-use Rattle.std.specs.Prelude.{AllPairs, Contains}
+use Rattle.std.specs.Prelude.{All, AllPairs, Contains}
 use Rattle.std.proofs.lemmas.Bool.{cases_lt}
 use Rattle.std.proofs.lemmas.List.{get_or-map, length-map, length-append, get_or_append_left, get_or-append_right, take-append-drop}
 use Rattle.std.specs.List.{IsDistinct}
@@ -47,7 +47,7 @@ module _ {X : Type 0} (R : X → X → Type 0) where
   AllPairs-take n xs p = AllPairs-front (take n xs) _ (subst (AllPairs R) (sym (take-append-drop n xs)) p)
 
 -- the element at a place
-item_at : {X : Type 0} (xs : List X) (k : ℕ) → k < length xs → (x : X) × (get_or xs k x ≡ x)
+pub item_at : {X : Type 0} (xs : List X) (k : ℕ) → k < length xs → (x : X) × (get_or xs k x ≡ x)
 item_at [] k h = absurd (omega arith)
 item_at (x ∷ xs) zero h = (x, refl)
 item_at (x ∷ xs) (suc k) h = item_at xs k (omega arith)
@@ -71,6 +71,9 @@ module _ {X Y : Type 0} (f : X → Y) where
       let x = item_at xs k h in
       (x.0, (k, h, x.1), sym (ap f x.1) ∙ sym (get_or-map f xs k x.0 y h) ∙ is)
 
+  pub All-from_map : (P : Y → Type 0) (xs : List X) → All P (map f xs) → All (λ x. P (f x)) xs
+  All-from_map P xs all k d h = subst P (get_or-map f xs k d (f d) h) (all k (f d) (subst (λ n. k < n) (sym (length-map xs f)) h))
+
 -- ---- elements that differ, by a test of equality
 
 module _ {X : Type 0} (E : X → X → Bool) where
@@ -93,3 +96,11 @@ module _ {X : Type 0} (E : X → X → Bool) where
 -- the empty list contains nothing
 pub nothing_contained : {X : Type 0} (x : X) → ¬ Contains [] x
 nothing_contained x (k, within, is) = absurd (omega arith)
+
+-- a list of three
+pub three_items : {X : Type 0} (xs : List X) (d : X) → length xs ≡ 3 → xs ≡ get_or xs 0 d ∷ get_or xs 1 d ∷ get_or xs 2 d ∷ []
+three_items [] d e = absurd (omega arith)
+three_items (x ∷ []) d e = absurd (omega arith)
+three_items (x ∷ y ∷ []) d e = absurd (omega arith)
+three_items (x ∷ y ∷ z ∷ []) d e = refl
+three_items (x ∷ y ∷ z ∷ w ∷ xs) d e = absurd (omega arith)
