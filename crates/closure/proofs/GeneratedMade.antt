@@ -17,7 +17,7 @@ use Rattle.motions.specs.declared.motion.Motion3.{Motion3}
 use Rattle.motions.specs.Views.{motion_of}
 use Rattle.closure.specs.declared.lattice.Lattice.{Lattice}
 use Rattle.closure.specs.Residues.{residue}
-use Rattle.closure.specs.Laws.ResidueLaws.{has_residue-is, residue-residue}
+use Rattle.closure.specs.Laws.ResidueLaws.{has_residue-is, residue-residue, residue-origin}
 use Rattle.closure.specs.Lattices.{residues_of, IsLatticeOf}
 use Rattle.closure.specs.Operations.{listing_with, AreApart, HasSmallEntries, HoldsTranslations}
 use Rattle.closure.specs.Laws.ShiftLaws.{residues-reduced}
@@ -26,10 +26,10 @@ use Rattle.closure.specs.ClosedLists.{IsMatrixClosed, IsLatticeClosed}
 use Rattle.closure.specs.Derived.{IsOtherAtHome, IsOrdered}
 use Rattle.closure.proofs.Spans.{lattice-more, lattice-by_residue}
 use Rattle.closure.proofs.Pigeonhole.{no_longer}
-use Rattle.closure.proofs.Searching.{IsMatrixWithin-more}
+use Rattle.symmetry.proofs.Sizes.{IsMatrixWithin-more}
 use Rattle.closure.proofs.GeneratedLemma.{once_matrix, matrix_decided, covers, within, lattice_is, generated_products}
 use Rattle.closure.proofs.GeneratedGroup.{generated_inverse}
-use Rattle.closure.proofs.LeastVectors.{origin_reduced, not_before_origin, reduced_within}
+use Rattle.closure.proofs.LeastVectors.{not_before_origin, reduced_within}
 
 module _ (g : Listing) (list : List Motion) (C : IsMatrixClosed g list) where
   -- the list has each matrix of M
@@ -199,7 +199,7 @@ module _ (g : Listing) (list : List Motion) (C : IsMatrixClosed g list) where
 
     least_op : (n : Motion) → Contains (map motion_of ops) n → IsLeast g n.translation
     least_op n is = elim (op_case n is) [
-      | inl e ↦ subst (λ (m : Motion). IsLeast g m.translation) (sym e) (record { reduced = origin_reduced; first = λ u p r. not_before_origin u r })
+      | inl e ↦ subst (λ (m : Motion). IsLeast g m.translation) (sym e) (record { reduced = residue-origin; first = λ u p r. not_before_origin u r })
       | inr other ↦ least_other n other
     ]
 

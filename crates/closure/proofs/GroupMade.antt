@@ -17,7 +17,7 @@ use Rattle.symmetry.specs.Lists.{ComesBefore}
 use Rattle.symmetry.specs.Listings.{AreAlike}
 use Rattle.symmetry.specs.Sizes.{IsSmall, IsVectorWithin}
 use Rattle.motions.specs.declared.motion.Motion3.{Motion3}
-use Rattle.motions.specs.Laws.MotionLaws.{IsVectorWithin-more}
+use Rattle.symmetry.proofs.Sizes.{IsVectorWithin-more}
 use Rattle.motions.specs.ListedSizes.{IsSmallWithin}
 use Rattle.motions.specs.Views.{motion_of, parts}
 use Rattle.symmetry.proofs.LatticeLaws.{same_sym}

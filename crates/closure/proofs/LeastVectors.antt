@@ -14,10 +14,6 @@ use Rattle.symmetry.specs.Sizes.{IsVectorWithin}
 use Rattle.closure.specs.Residues.{residue, is_before}
 use Rattle.integers.proofs.Remainders.{zero-le-rem, rem-below}
 
-pub origin_reduced : residue origin ≡ origin
-unfolding residue
-origin_reduced = refl
-
 least : (x : ℤ) → pos 0 ≤ℤ reduced_parts x
 least x = zero-le-rem (unsigned_abs UNIT) (lit< tt) x
 

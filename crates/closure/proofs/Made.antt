@@ -19,14 +19,10 @@ use Rattle.symmetry.proofs.VectorLaws.{minus-origin}
 use Rattle.quotient.proofs.ListLaws.{nothing_contained}
 use Rattle.closure.specs.Fineness.{centrings_alone, IsTooFine}
 use Rattle.closure.specs.Spans.{AreResiduesOf, with_centring}
-use Rattle.closure.specs.Laws.ResidueLaws.{whole-origin, whole-plus, whole-minus, whole_from_residues, residue-same}
+use Rattle.closure.specs.Laws.ResidueLaws.{whole-origin, whole-plus, whole-minus, whole_from_residues, residue-same, residue-origin}
 use Rattle.closure.proofs.Spans.{lattice-whole, lattice-more}
 
 -- ---- no vectors: the cell edges alone
-
-residue-origin : residue origin ≡ origin
-unfolding residue
-residue-origin = refl
 
 pub edge-whole : (v : Vector) → Contains edges v → IsWhole v
 edge-whole v (zero, within, is) = subst IsWhole is (record { x = Divides-self (unsigned_abs UNIT); y = Divides-zero (unsigned_abs UNIT); z = Divides-zero (unsigned_abs UNIT) })

@@ -13,7 +13,7 @@ use Rattle.symmetry.specs.Groups.{Listing, IsInLattice}
 use Rattle.symmetry.specs.Sizes.{IsMatrixWithin, IsVectorWithin}
 use Rattle.motions.specs.declared.motion.Motion3.{Motion3}
 use Rattle.closure.specs.Operations.{HasSmallEntries}
-use Rattle.motions.specs.Laws.MotionLaws.{IsVectorWithin-more}
+use Rattle.symmetry.proofs.Sizes.{IsMatrixWithin-more}
 use Rattle.motions.specs.Views.{motion_of}
 use Rattle.symmetry.proofs.VectorLaws.{plus_comm, minus-plus, opposite-minus}
 use Rattle.symmetry.proofs.MotionLaws.{motion_path}
@@ -26,9 +26,6 @@ use Rattle.closure.specs.Generated.{IsGenerated, IsGeneratedMatrix, IsGeneratedM
 use Rattle.closure.specs.ClosedLists.{HasMatrixOf, IsMatrixClosed}
 use Rattle.closure.specs.Searches.{AreFound, GoesOn, HasNext}
 use Rattle.closure.proofs.Spans.{lattice-whole}
-
-pub IsMatrixWithin-more : {m n : ℕ} {w : Matrix} → IsMatrixWithin m w → m ≤ n → IsMatrixWithin n w
-IsMatrixWithin-more h le = record { first = IsVectorWithin-more h.first le; second = IsVectorWithin-more h.second le; third = IsVectorWithin-more h.third le }
 
 -- ---- lists that go on
 

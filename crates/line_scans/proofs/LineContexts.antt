@@ -25,6 +25,7 @@ use Rattle.motions.specs.Signs.{sign_value}
 use Rattle.motions.specs.declared.motion.Sign.{Sign}
 use Rattle.motions.specs.declared.motion.Sign.TheVariants.{Plus, Minus}
 use Rattle.motions.specs.Laws.PlaneMatrixLaws.{pair_path}
+use Rattle.motions.specs.Laws.SignLaws.{sign_is_sign}
 use Rattle.plane_lattice.proofs.SectionLaws.{above_mean}
 use Rattle.plane_motions.specs.PlaneMotions.{IsFlat, PlaneMotion, plane_block}
 use Rattle.line_frames.specs.LineFrames.{third_edge}
@@ -35,7 +36,7 @@ use Rattle.line_scans.specs.LineSections.{line_mean, line_total}
 use Rattle.line_scans.proofs.LineActions.{times_one}
 use Rattle.line_scans.proofs.LineMeans.{at_below, flat_scanning, total_below}
 use Rattle.line_scans.proofs.LineOps.{image_block}
-use Rattle.line_scans.proofs.LineStabilisers.{differs_along, differs_in_plane, sign_is_sign}
+use Rattle.line_scans.proofs.LineStabilisers.{differs_along, differs_in_plane}
 use Rattle.line_scans.proofs.PlaneBridges.{IsFlatMatrix, IsFlatModulo, all_by_lines, block_is, block_matrix_flat, block_member, dot_in_space, pair_motion, same_by_plane}
 
 -- the plane group g, the lines (hk) with a, tau and the period d, the frame f of the planes (h k 0), and the scanning operations

@@ -10,7 +10,6 @@ use Rattle.symmetry.specs.Motions.{Motion, followed_by, identity, translation}
 use Rattle.symmetry.specs.Planes.{Height, IsCoprime, IsHeight, KeepsRow, TurnsRow}
 use Rattle.symmetry.specs.Groups.{Listing, IsGroup, IsInLattice, IsMember}
 use Rattle.symmetry.specs.Frames.{DiffersInPlane}
-use Rattle.symmetry.specs.HeightMotions.{IsSign}
 use Rattle.symmetry.proofs.Coprime.{not_opposite}
 use Rattle.symmetry.proofs.GroupLaws.{member_keeps, member_translation}
 use Rattle.symmetry.proofs.MatrixLaws.{row_times-dot, row_times-multiple, row_times-product, row_times-unit}
@@ -24,6 +23,7 @@ use Rattle.motions.specs.Signs.{sign_product, sign_value}
 use Rattle.motions.specs.declared.motion.Sign.{Sign}
 use Rattle.motions.specs.declared.motion.Sign.TheVariants.{Plus, Minus}
 use Rattle.motions.specs.Laws.PlaneMatrixLaws.{image2-product, image2-unit}
+use Rattle.motions.specs.Laws.SignLaws.{sign_is_sign}
 use Rattle.plane_motions.specs.PlaneMotions.{PlaneMotion, plane_block, plane_followed_by, plane_identity}
 use Rattle.plane_motions.proofs.PlaneBlocks.{plane_block_product}
 use Rattle.line_frames.specs.Lines.{IsAlong, IsInPlaneLattice, first_two, in_space, times2}
@@ -38,10 +38,6 @@ pub record Follows (r : Vector) (s : Height) (m : Motion) : Type 0 where
   pub sign : Sign
   pub row : row_times r m.matrix ≡ multiple (sign_value sign) r
   pub translation : sign_value sign *ℤ s.num *ℤ UNIT +ℤ s.den *ℤ dot r m.translation ≡ s.num *ℤ UNIT
-
-pub sign_is_sign : (e : Sign) → IsSign (sign_value e)
-sign_is_sign Plus = inl refl
-sign_is_sign Minus = inr refl
 
 kept : (n d w : ℤ) → w ≡ pos 0 → pos 1 *ℤ n *ℤ UNIT +ℤ d *ℤ w ≡ n *ℤ UNIT
 kept n d w e = ap (λ x. pos 1 *ℤ n *ℤ UNIT +ℤ d *ℤ x) e ∙ none n d

@@ -5,7 +5,8 @@ ghost use Rattle.symmetry.specs.Motions.{Motion as MotionOfSpace, followed_by, i
 ghost use Rattle.symmetry.specs.Sizes.{IsSmall, IsVectorWithin};
 ghost use Rattle.symmetry.specs.Vectors.{image, unit_matrix};
 ghost use Rattle.motions.specs.Equality.{same_motion};
-ghost use Rattle.motions.specs.Laws.MotionLaws.{same_motion_laws, same_motion-is, followed_by_laws, followed_by_within, identity_within, IsVectorWithin-more};
+ghost use Rattle.motions.specs.Laws.MotionLaws.{same_motion_laws, same_motion-is, followed_by_laws, followed_by_within, identity_within};
+ghost use Rattle.symmetry.proofs.Sizes.{IsVectorWithin-more};
 ghost use Rattle.motions.specs.Views.{motion_of, parts};
 
 use crate::equality::{is_same_matrix, is_same_shift};

@@ -1,5 +1,5 @@
 -- What operations do to the planes, each motion of the planes once.
-use Rattle.std.proofs.Common.{◌≡◌, ℕ, ◌+◌, ◌<◌, ◌≤◌, ℤ, pos, ◌≤ℤ◌, ◌<ℤ◌, List, [], ◌∷◌, ◌++◌, length, get_or, map, take, All, Any, Contains, inl, inr, refl, sym, ap, subst, ◌∙◌, arith}
+use Rattle.std.proofs.Common.{◌≡◌, ℕ, ◌+◌, ◌<◌, ◌≤◌, ℤ, pos, ◌≤ℤ◌, ◌<ℤ◌, List, [], ◌∷◌, ◌++◌, length, get_or, map, take, All, Any, Contains, inl, inr, sym, ap, subst, ◌∙◌, arith}
 use Rattle.std.specs.Prelude.{Some}
 use Rattle.std.proofs.lemmas.List.{length-map, map-append, take_all}
 use Rattle.std.proofs.lemmas.List.Elements.{All-nil, All-push, All-weaker, Contains-append_left, Contains-get_or, Contains-push, Contains-push_cases}
@@ -15,8 +15,7 @@ use Rattle.symmetry.proofs.VectorLaws.{multiple-one}
 use Rattle.motions.specs.Signs.{sign_value}
 use Rattle.motions.specs.Views.{motion_of}
 use Rattle.motions.specs.declared.motion.Motion3.{Motion3}
-use Rattle.motions.specs.declared.motion.Sign.{Sign}
-use Rattle.motions.specs.declared.motion.Sign.TheVariants.{Plus, Minus}
+use Rattle.motions.specs.Laws.SignLaws.{sign_is_sign}
 use Rattle.orbits.specs.HeightMotionView.{height_motion_of, IsChosen}
 use Rattle.orbits.specs.declared.height_motion.HeightMotion.{HeightMotion as CodedMotion}
 use Rattle.orbits.proofs.RowLists.{motions_more}
@@ -107,10 +106,6 @@ one_sign r coprime v e f (inl p) (inr q) k l =
 one_sign r coprime v e f (inr p) (inl q) k l =
     absurd (not_opposite r coprime (sym (multiple-one r) ∙ ap (λ x. multiple x r) (sym q) ∙ sym l ∙ k ∙ ap (λ x. multiple x r) p))
 
-pub sign_of : (e : Sign) → IsSign (sign_value e)
-sign_of Plus = inl refl
-sign_of Minus = inr refl
-
 -- ---- the operations of the code, up to one more
 
 module _ (r : Vector) (d : ℤ) (coprime : IsCoprime r) (ops : List Motion3) (i : ℕ) (x : Motion3) (within : i < length ops) (motions more : List CodedMotion)
@@ -131,7 +126,7 @@ module _ (r : Vector) (d : ℤ) (coprime : IsCoprime r) (ops : List Motion3) (i 
 
   module _ (h : CodedMotion) (chosen : IsChosen r d m (Some h)) where
     only : (e : ℤ) → IsSign e → row_times r m.matrix ≡ multiple e r → sign_value h.sign ≡ e
-    only e sign row = one_sign r coprime (row_times r m.matrix) (sign_value h.sign) e (sign_of h.sign) sign chosen.0.row row
+    only e sign row = one_sign r coprime (row_times r m.matrix) (sign_value h.sign) e (sign_is_sign h.sign) sign chosen.0.row row
 
     pub again : more ≡ motions → Any (λ k. height_motion_of h ≡ k) (map height_motion_of motions)
         → AreMotionsOf r d (take (i + 1) (map motion_of ops)) (map height_motion_of more)
@@ -145,7 +140,7 @@ module _ (r : Vector) (d : ℤ) (coprime : IsCoprime r) (ops : List Motion3) (i 
     first e new =
         to_more (map height_motion_of more)
         (subst (AreMotionsOf r d (ms ++ m ∷ [])) (sym (ap (map height_motion_of) e ∙ map-append height_motion_of motions (h ∷ [])))
-        (done_first r d ms m (map height_motion_of motions) so_far (height_motion_of h) chosen.0 only (sign_of h.sign) chosen.1 chosen.2 new))
+        (done_first r d ms m (map height_motion_of motions) so_far (height_motion_of h) chosen.0 only (sign_is_sign h.sign) chosen.1 chosen.2 new))
 
 -- ---- all operations
 

@@ -2,7 +2,7 @@
 use Rattle.std.proofs.Common.{◌≡◌, ◌↔◌, ℕ, suc, ◌+◌, ◌<◌, ◌≤◌, ℤ, pos, ◌||◌, IsTrue, All, Any, Contains, List, [], ◌∷◌, ◌++◌, length, get_or, map, take, arith, refl, sym, ap, subst, ◌∙◌, unsigned_abs}
 use Rattle.std.specs.List.{list_any}
 use Rattle.std.specs.Ordering.{int_eq}
-use Rattle.std.proofs.lemmas.List.{get_or_default, length-map, map-append, map_more, take-map, take_all}
+use Rattle.std.proofs.lemmas.List.{length-map, map-append, map_more, take-map, take_all}
 use Rattle.std.proofs.lemmas.List.Elements.{All-nil, All-push, All-contains}
 use Rattle.std.proofs.lemmas.List.Folds.{Any-from_list_any, list_any-from_Any}
 use lib.Pointwise.{pointwise}
@@ -11,7 +11,7 @@ use Rattle.quotient.specs.Kind.{IsEquivalence}
 use Rattle.quotient.specs.Lists.{AreFirst}
 use Rattle.quotient.specs.Lists.AreFirst.{none}
 use Rattle.quotient.proofs.Firsts.{AreFirst-kept, AreFirst-left_out}
-use Rattle.quotient.proofs.Items.{Contains-item}
+use Rattle.quotient.proofs.Items.{Contains-item_at}
 use Rattle.symmetry.specs.Vectors.{Vector, row_times}
 use Rattle.symmetry.specs.Motions.{Motion}
 use Rattle.symmetry.specs.Groups.{Listing}
@@ -100,11 +100,8 @@ pub motions_more : (ops : List Motion3) (i : ℕ) (d : Motion3) → i < length o
 motions_more ops i d h =
     take-map motion_of (i + 1) ops ∙ map_more motion_of ops i d h ∙ ap (λ l. l ++ motion_of (get_or ops i d) ∷ []) (sym (take-map motion_of i ops))
 
-pub listed_motion : (ops : List Motion3) (i : ℕ) (d : Motion3) → i < length ops → Contains (map motion_of ops) (motion_of (get_or ops i d))
-listed_motion ops i d h = Contains-item motion_of ops i (get_or ops i d) h (get_or_default ops i d (get_or ops i d) h)
-
 pub motion_is_small : (n : ℕ) (ops : List Motion3) (i : ℕ) (d : Motion3) → All (IsSmallWithin n) (map motion_of ops) → i < length ops → IsSmall (motion_of (get_or ops i d))
-motion_is_small n ops i d small h = (All-contains (IsSmallWithin n) (map motion_of ops) (motion_of (get_or ops i d)) small (listed_motion ops i d h)).small
+motion_is_small n ops i d small h = (All-contains (IsSmallWithin n) (map motion_of ops) (motion_of (get_or ops i d)) small (Contains-item_at motion_of ops i d h)).small
 
 -- the rows of the code, up to one more operation
 module _ (r : Vector) (ops : List Motion3) (i : ℕ) (d : Motion3) (within : i < length ops) (row : List ℤ)
@@ -125,7 +122,7 @@ module _ (r : Vector) (ops : List Motion3) (i : ℕ) (d : Motion3) (within : i <
 
   pub wide_row : (g : Listing) → map motion_of ops ≡ g.ops → ¬ IsVectorWithin (unsigned_abs WIDE) (vector_of row) → IsWide g r
   wide_row g e wide =
-      (motion_of (get_or ops i d), subst (λ l. Contains l (motion_of (get_or ops i d))) e (listed_motion ops i d within), λ n. wide (subst (IsVectorWithin (unsigned_abs WIDE)) (sym is) n))
+      (motion_of (get_or ops i d), subst (λ l. Contains l (motion_of (get_or ops i d))) e (Contains-item_at motion_of ops i d within), λ n. wide (subst (IsVectorWithin (unsigned_abs WIDE)) (sym is) n))
 
 -- ---- all operations
 

@@ -21,6 +21,7 @@ use Rattle.quotient.specs.Lists.{IsListed}
 use Rattle.quotient.specs.Groups as groups
 use Rattle.motions.specs.Signs.{sign_value}
 use Rattle.motions.specs.RodMotions.{RodOperation, rod_followed_by, rod_identity}
+use Rattle.motions.specs.Laws.SignLaws.{sign_is_sign}
 use Rattle.line_types.specs.Lines.{modulo_lattice}
 use Rattle.line_types.specs.Laws.LineLaws.{keeps}
 use Rattle.line_types.specs.Laws.RodLaws.{rod_line_laws}
@@ -30,7 +31,7 @@ use Rattle.recognition.proofs.RodTypeLemma.{same_rod, moved_same}
 use Rattle.penetration.specs.Lines.{IsOnLine, InLineStabiliser}
 use Rattle.penetration.specs.RodFrames.{IsRodFrame, AreRodOperations, DiffersAlong, levelled}
 use Rattle.penetration.specs.RodSections.{ActsAs, SameRod, ListsAlong, AreSections, counted, drift, rod_at}
-use Rattle.penetration.proofs.DirectionSigns.{multiple_turned, sign_is_sign}
+use Rattle.penetration.proofs.DirectionSigns.{multiple_turned}
 use Rattle.penetration.proofs.LineImages.{multiple_cancel_pos, stabiliser_by_direction}
 use Rattle.penetration.proofs.RodActions.{shift_is, acts, acts_product, acts_same, drift_product, unit_positive}
 

@@ -15,12 +15,13 @@ use Rattle.symmetry.specs.Lists.{motion_at}
 use Rattle.symmetry.proofs.LatticeLaws.{listed_member, same_sym, same_trans}
 use Rattle.symmetry.proofs.MatrixLaws.{image-unit}
 use Rattle.motions.specs.Laws.MotionLaws.{same_vector-is}
+use Rattle.motions.specs.Laws.SignLaws.{sign_is_sign}
 use Rattle.motions.specs.Signs.{sign_value}
 use Rattle.motions.specs.declared.motion.Sign.{Sign}
 use Rattle.plane_lattice.proofs.ScanningFacts.{filter-has, has-filter}
 use Rattle.penetration.specs.RodFrames.{AreRodOperations, KeepsDirection, coefficient, sign_along, total_along}
 use Rattle.penetration.specs.RodOperations.{keeps_along, rod_ops, signed_coefficient}
-use Rattle.penetration.proofs.DirectionSigns.{keeps_by_sign, sign_is, sign_is_sign}
+use Rattle.penetration.proofs.DirectionSigns.{keeps_by_sign, sign_is}
 
 -- ---- the test of the direction
 

@@ -15,7 +15,7 @@ use Rattle.plane_lattice.specs.Bounds.{largest_entry, largest_scaled}
 use Rattle.plane_lattice.specs.Coordinates.{scaled, volume}
 use Rattle.plane_lattice.specs.Laws.QuotientLaws.{div_euclid_from, div_euclid_below}
 use Rattle.plane_lattice.proofs.Passed.{passed_volume, passed_x, passed_y, passed_z}
-use Rattle.plane_lattice.proofs.Sizes.{image_within}
+use Rattle.symmetry.proofs.Sizes.{image_within}
 use Rattle.penetration.specs.RodHomes.{AreStepsBack, HasWholeSteps}
 use Rattle.penetration.specs.RodSections.{drift}
 use Rattle.penetration.proofs.LineMembers.{drift_along, taken_back}

@@ -16,7 +16,7 @@ use Rattle.plane_lattice.specs.Bounds.{largest_entry, largest_level, largest_hom
 use Rattle.plane_lattice.specs.Coordinates.{volume, scaled, IsPlaneCombination}
 use Rattle.plane_lattice.specs.PlaneLattice.{whole_part, home_shift, home_motion}
 use Rattle.plane_lattice.specs.Laws.QuotientLaws.{div_euclid_from, div_euclid_below}
-use Rattle.plane_lattice.proofs.Sizes.{dot_within}
+use Rattle.symmetry.proofs.Sizes.{dot_within}
 
 -- ---- the coordinates of the translation at home, times the volume
 

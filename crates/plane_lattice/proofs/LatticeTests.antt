@@ -1,5 +1,5 @@
 -- A basis that spans the cell edges and the residues of a lattice spans the lattice.
-use Rattle.std.proofs.Common.{◌≡◌, ℕ, zero, suc, ◌<◌, ℤ, ◌*ℤ◌, List, [], length, map, get_or, inl, inr, refl, sym, subst, ◌∙◌, arith, lit<, lit≤, ◌^◌}
+use Rattle.std.proofs.Common.{◌≡◌, ℕ, zero, suc, ◌<◌, ◌*ℤ◌, List, [], length, map, get_or, inl, inr, refl, sym, subst, ◌∙◌, arith, lit<, lit≤, ◌^◌}
 use Rattle.std.specs.Prelude.{Contains, unsigned_abs}
 use Rattle.std.specs.List.{All}
 use Rattle.std.proofs.lemmas.Int.{ints}
@@ -14,7 +14,7 @@ use Rattle.symmetry.specs.Groups.{Listing, Generates, IsInLattice, zero_vector, 
 use Rattle.symmetry.specs.Frames.{Basis}
 use Rattle.symmetry.proofs.LatticeLaws.{lattice-made, lattice-minus, lattice-plus}
 use Rattle.symmetry.proofs.VectorLaws.{vector_path, minus-plus}
-use Rattle.motions.specs.Laws.MotionLaws.{IsVectorWithin-more}
+use Rattle.symmetry.proofs.Sizes.{IsVectorWithin-more}
 use Rattle.motions.specs.Views.{parts}
 use Rattle.closure.specs.Fineness.{IsTooFine}
 use Rattle.closure.specs.Residues.{residue, IsResidue, IsResidueEntry, IsWhole}

@@ -10,7 +10,8 @@ use Rattle.symmetry.specs.Vectors.{Vector, plus, minus, multiple, opposite, imag
 use Rattle.symmetry.specs.Motions.{Motion}
 use Rattle.symmetry.specs.Frames.{same_vector, sign_at, total_up, KeepsOrientation}
 use Rattle.symmetry.proofs.VectorLaws.{plus_assoc, plus-origin, origin-plus, multiple-one}
-use Rattle.motions.specs.Laws.MotionLaws.{same_vector-is, IsVectorWithin-more}
+use Rattle.symmetry.proofs.Sizes.{IsVectorWithin-more}
+use Rattle.motions.specs.Laws.MotionLaws.{same_vector-is}
 use Rattle.motions.specs.Views.{motion_of}
 use Rattle.motions.specs.declared.motion.Motion3.{Motion3}
 use Rattle.plane_lattice.specs.Scanning.{keeps_orientation, scanning_ops}

@@ -16,6 +16,9 @@ module _ {M S : Type 0} (f : M → S) (list : List M) where
   pub Contains-item : (i : ℕ) (x : M) → i < length list → x ≡ get_or list i x → Contains (map f list) (f x)
   Contains-item i x within is = (i, rw length-map within, get_or-map_item i x (f x) within is)
 
+  pub Contains-item_at : (i : ℕ) (d : M) → i < length list → Contains (map f list) (f (get_or list i d))
+  Contains-item_at i d within = Contains-item i (get_or list i d) within (get_or_default list i d (get_or list i d) within)
+
   pub All-item : (P : S → Type 0) (i : ℕ) (x : M) → All P (map f list) → i < length list → x ≡ get_or list i x → P (f x)
   All-item P i x all within is = subst P (get_or-map_item i x (f x) within is) (all i (f x) (rw length-map within))
 

@@ -1,7 +1,6 @@
 -- The first basis, of which two vectors are replaced twice, has two vectors in the plane and one above it.
 use Rattle.std.proofs.Common.{◌≡◌, zero, suc, ℤ, pos, negsuc, ◌≤ℤ◌, ◌<ℤ◌, ◌+ℤ◌, ◌-ℤ◌, ◌*ℤ◌, refl, sym, ap, subst, ◌∙◌, lit<, arith}
 use Rattle.std.proofs.lemmas.Int.{ints}
-use lib.IntN.{*ℤ_comm}
 use Rattle.integers.specs.Size.{IsWithin}
 use Rattle.integers.proofs.Coded.{again, again_is}
 use Rattle.fractions.specs.declared.part.TheConstants.{UNIT}
@@ -12,33 +11,26 @@ use Rattle.symmetry.specs.Planes.{IsCoprime}
 use Rattle.symmetry.specs.Sizes.{IsVectorWithin}
 use Rattle.symmetry.proofs.Coprime.{unit_column}
 use Rattle.symmetry.proofs.VectorLaws.{dot-plus, dot-multiple}
-use Rattle.closure.specs.Residues.{IsWhole}
+use Rattle.symmetry.proofs.Sizes.{IsVectorWithin-more}
+use Rattle.closure.specs.Laws.ResidueLaws.{whole-multiple_of_unit}
 use Rattle.closure.proofs.Spans.{lattice-whole}
 use Rattle.reduction.specs.Bounds.{largest_value, largest_first, largest_once, largest_twice}
 use Rattle.reduction.specs.LatticeBases.{IsLatticeBasis, IsAdapted, combined}
 use Rattle.reduction.specs.Bezout.{IsBezoutOf, IsSmallBezout}
 use Rattle.reduction.specs.declared.bezout.BezoutIdentity.{BezoutIdentity}
 use Rattle.reduction.proofs.BasisSteps.{first_two_replaced, last_two_replaced, flat_combined, raised_combined}
-use Rattle.reduction.proofs.CombinedPassed.{combined_within, vector_more}
+use Rattle.reduction.proofs.CombinedPassed.{combined_within}
 
 pub dot-combination : (r : Vector) (f : Basis) (c : Vector) → dot r (combination f c) ≡ c.x *ℤ dot r f.a +ℤ c.y *ℤ dot r f.b +ℤ c.z *ℤ dot r f.tau
 dot-combination r f c =
     dot-plus r (plus (multiple c.x f.a) (multiple c.y f.b)) (multiple c.z f.tau)
     ∙ (λ i. (dot-plus r (multiple c.x f.a) (multiple c.y f.b) ∙ (λ j. dot-multiple r c.x f.a j +ℤ dot-multiple r c.y f.b j)) i +ℤ dot-multiple r c.z f.tau i)
 
-whole_multiple : (u : Vector) → IsWhole (multiple UNIT u)
-unfolding multiple
-whole_multiple u = record {
-  x = record { times = u.x; is = *ℤ_comm UNIT u.x };
-  y = record { times = u.y; is = *ℤ_comm UNIT u.y };
-  z = record { times = u.z; is = *ℤ_comm UNIT u.z };
-}
-
 -- not every vector of the lattice lies in the plane
 some_above : (g : Listing) (r : Vector) (f : Basis) → IsCoprime r → IsLatticeBasis g f → dot r f.a ≡ pos 0 → dot r f.b ≡ pos 0 → ¬ (dot r f.tau ≡ pos 0)
 some_above g r f coprime basis a b none =
     let (u, one) = unit_column r coprime in
-    let (c, is) = basis.spans (multiple UNIT u) (lattice-whole g (multiple UNIT u) (whole_multiple u)) in
+    let (c, is) = basis.spans (multiple UNIT u) (lattice-whole g (multiple UNIT u) (whole-multiple_of_unit u)) in
     let e : UNIT *ℤ pos 1 ≡ c.x *ℤ pos 0 +ℤ c.y *ℤ pos 0 +ℤ c.z *ℤ pos 0 =
     sym (dot-multiple r UNIT u ∙ ap (λ z. UNIT *ℤ z) one) ∙ ap (dot r) (sym is) ∙ dot-combination r f c ∙ (λ i. c.x *ℤ a i +ℤ c.y *ℤ b i +ℤ c.z *ℤ none i) in
     absurd (omega (arith, ints, e))
@@ -92,7 +84,7 @@ pub twice_small : (x y : ℤ) (u v : Vector) → IsWithin largest_value x → Is
 twice_small x y u v = combined_within largest_value largest_once x y u v
 
 pub first_once : (v : Vector) → IsVectorWithin largest_first v → IsVectorWithin largest_once v
-first_once v = vector_more largest_first largest_once v (omega arith)
+first_once v = λ h. IsVectorWithin-more h (omega arith)
 
 pub once_twice : (v : Vector) → IsVectorWithin largest_once v → IsVectorWithin largest_twice v
-once_twice v = vector_more largest_once largest_twice v (omega arith)
+once_twice v = λ h. IsVectorWithin-more h (omega arith)

@@ -1,9 +1,9 @@
 -- Sums x u + y v, from the numbers that the code passes.
-use Rattle.std.proofs.Common.{◌≡◌, ◌≤◌, ◌*◌, ◌+◌, ℕ, ℤ, pos, ◌+ℤ◌, ◌-ℤ◌, ◌*ℤ◌, sym, subst, ◌∙◌, lit<, arith}
+use Rattle.std.proofs.Common.{◌≡◌, ◌*◌, ◌+◌, ℕ, ℤ, pos, ◌+ℤ◌, ◌-ℤ◌, ◌*ℤ◌, sym, subst, ◌∙◌, lit<, arith}
 use Rattle.std.proofs.lemmas.Int.{ints}
 use Rattle.integers.specs.Size.{IsWithin}
 use Rattle.integers.proofs.Coded.{again, again_is}
-use Rattle.integers.proofs.Ring.{IsWithin-add, IsWithin-mul, IsWithin-more}
+use Rattle.integers.proofs.Ring.{IsWithin-add, IsWithin-mul}
 use Rattle.symmetry.specs.Vectors.{Vector, plus, multiple}
 use Rattle.symmetry.specs.Sizes.{IsVectorWithin}
 use Rattle.symmetry.proofs.VectorLaws.{vector_path}
@@ -38,6 +38,3 @@ combined_within m n x y u v hx hy hu hv = record {
   y = IsWithin-add (IsWithin-mul hx hu.y) (IsWithin-mul hy hv.y);
   z = IsWithin-add (IsWithin-mul hx hu.z) (IsWithin-mul hy hv.z);
 }
-
-pub vector_more : (m n : ℕ) (v : Vector) → m ≤ n → IsVectorWithin m v → IsVectorWithin n v
-vector_more m n v l h = record { x = IsWithin-more h.x l; y = IsWithin-more h.y l; z = IsWithin-more h.z l }

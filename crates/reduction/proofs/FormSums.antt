@@ -10,7 +10,7 @@ use Rattle.symmetry.specs.Lists.{motion_at, AreScanning}
 use Rattle.symmetry.specs.Sizes.{IsMatrixWithin, IsVectorWithin}
 use Rattle.symmetry.proofs.VectorLaws.{vector_path, dot_comm, dot-origin, dot-plus, plus-dot}
 use Rattle.symmetry.proofs.MatrixLaws.{image-product, image-unit, row_times-columns, row_times-dot, row_times-unit}
-use Rattle.motions.specs.Laws.MotionLaws.{IsVectorWithin-more}
+use Rattle.symmetry.proofs.Sizes.{IsMatrixWithin-more}
 use Rattle.plane_lattice.specs.Scanning.{keeps_orientation, scanning_ops}
 use Rattle.plane_lattice.proofs.Scanning.{scanning-more}
 use Rattle.reduction.specs.Bounds.{largest_columns, largest_form}
@@ -104,14 +104,7 @@ sum_within n r q q' m h k e = subst (IsMatrixWithin (n + largest_columns)) (sym 
     by true =
         let s = square_within m.matrix k in
         record { first = plus-within h.first s.first; second = plus-within h.second s.second; third = plus-within h.third s.third }
-    by false = record {
-      first = IsVectorWithin-more h.first (omega arith);
-      second = IsVectorWithin-more h.second (omega arith);
-      third = IsVectorWithin-more h.third (omega arith);
-    }
-
-pub IsMatrixWithin-more : {m n : ℕ} {q : Matrix} → IsMatrixWithin m q → m ≤ n → IsMatrixWithin n q
-IsMatrixWithin-more h l = record { first = IsVectorWithin-more h.first l; second = IsVectorWithin-more h.second l; third = IsVectorWithin-more h.third l }
+    by false = IsMatrixWithin-more h (omega arith)
 
 -- ---- the sum over a group is a form
 

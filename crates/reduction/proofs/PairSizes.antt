@@ -1,11 +1,11 @@
 -- How short the two vectors of a pair are, and their sum and difference.
-use Rattle.std.proofs.Common.{ℕ, ◌*◌, ◌^◌, ◌≤◌, ℤ, pos, negsuc, ◌+ℤ◌, ◌*ℤ◌, ◌≤ℤ◌, ◌<ℤ◌, sym, subst, lit≤, arith}
+use Rattle.std.proofs.Common.{ℕ, ◌*◌, ◌≤◌, ℤ, pos, negsuc, ◌+ℤ◌, ◌*ℤ◌, ◌≤ℤ◌, ◌<ℤ◌, sym, subst, lit≤, arith}
 use Rattle.std.proofs.lemmas.Int.{ints}
 use Rattle.integers.specs.Size.{IsWithin}
 use Rattle.symmetry.specs.Vectors.{Vector, Matrix}
 use Rattle.symmetry.specs.Sizes.{IsVectorWithin}
 use Rattle.symmetry.specs.Frames.{Basis}
-use Rattle.plane_lattice.proofs.Sizes.{dot_within, image_within}
+use Rattle.symmetry.proofs.Sizes.{dot_within, image_within}
 use Rattle.reduction.specs.Bounds.{largest_begun, largest_short, largest_twice}
 use Rattle.reduction.specs.Forms.{by_form, IsForm, IsShort, IsUnshortened, Shortens}
 use Rattle.reduction.specs.LatticeBases.{combined}

@@ -4,7 +4,7 @@ use Rattle.std.specs.Prelude.{Contains}
 use Rattle.std.proofs.lemmas.Int.{ints}
 use Rattle.symmetry.specs.Vectors.{Vector, minus, multiple, opposite, origin, plus}
 use Rattle.symmetry.specs.Motions.{Motion, translation}
-use Rattle.symmetry.specs.Groups.{Generates, IsInLattice, Listing, added, edges, subtracted, zero_vector}
+use Rattle.symmetry.specs.Groups.{Generates, IsInLattice, Listing, added, subtracted, zero_vector}
 use Rattle.symmetry.proofs.VectorLaws.{minus-plus, minus-same, vector_path}
 use Rattle.symmetry.proofs.LatticeLaws.{lattice-made, lattice-plus}
 use Rattle.motions.specs.PlaneMatrices.{Pair}
@@ -13,6 +13,7 @@ use Rattle.closure.specs.Fineness.{IsTooFine}
 use Rattle.closure.specs.Residues.{IsWhole}
 use Rattle.closure.specs.Laws.ResidueLaws.{whole-minus, whole-opposite, whole-origin, whole-plus}
 use Rattle.closure.proofs.Spans.{lattice-whole}
+use Rattle.closure.proofs.Made.{edge-whole}
 use Rattle.sample.specs.SampleGroups.{centring, centrings}
 
 -- a whole vector, or for a centred type one that has the centring vector added
@@ -56,12 +57,6 @@ cell-opposite c v (inr (t, h)) =
 
 -- ---- the lattice
 
-edge_whole : (v : Vector) → Contains edges v → IsWhole v
-edge_whole v (zero, _, is) = subst IsWhole is (record { x = record { times = pos 1; is = refl }; y = record { times = pos 0; is = refl }; z = record { times = pos 0; is = refl } })
-edge_whole v (suc zero, _, is) = subst IsWhole is (record { x = record { times = pos 0; is = refl }; y = record { times = pos 1; is = refl }; z = record { times = pos 0; is = refl } })
-edge_whole v (suc (suc zero), _, is) = subst IsWhole is (record { x = record { times = pos 0; is = refl }; y = record { times = pos 0; is = refl }; z = record { times = pos 1; is = refl } })
-edge_whole v (suc (suc (suc k)), within, _) = absurd (omega arith)
-
 pub centring_alone : (c : Bool) (v : Vector) → Contains (centrings c) v → IsTrue c × (centring ≡ v)
 centring_alone true v (zero, _, is) = (refl, is)
 centring_alone true v (suc k, within, _) = absurd (omega arith)
@@ -84,7 +79,7 @@ module _ (c : Bool) (ops : List Motion) (alone : (v : Vector) → Contains ops (
   listed = with_centrings c ops
 
   pub generator_in_cell : (v : Vector) → Generates (with_centrings c ops) v → InCell c v
-  generator_in_cell v (inl edge) = inl (edge_whole v edge)
+  generator_in_cell v (inl edge) = inl (edge-whole v edge)
   generator_in_cell v (inr (inl is)) = let (t, e) = centring_alone c v is in subst (InCell c) e (centring_in_cell c t)
   generator_in_cell v (inr (inr is)) = inl (subst IsWhole (sym (alone v is)) whole-origin)
 

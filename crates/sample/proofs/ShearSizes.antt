@@ -10,7 +10,7 @@ use Rattle.symmetry.proofs.MatrixLaws.{image-origin}
 use Rattle.symmetry.proofs.VectorLaws.{origin-plus}
 use Rattle.symmetry.specs.Sizes.{IsMatrixWithin, IsSmall, IsVectorWithin}
 use Rattle.motions.specs.ListedSizes.{IsSmallWithin}
-use Rattle.motions.specs.Laws.MotionLaws.{IsVectorWithin-more}
+use Rattle.symmetry.proofs.Sizes.{IsMatrixWithin-more, IsVectorWithin-more}
 use Rattle.motions.specs.declared.motion.Sign.{Sign}
 use Rattle.motions.specs.declared.motion.Sign.TheVariants.{Plus, Minus}
 use Rattle.motions.specs.Signs.{sign_value}
@@ -77,9 +77,6 @@ module _ (j : ℤ) (within : IsWithin 2 j) where
     };
   }
 
-  matrix_more : {n k : ℕ} (m : Matrix) → n ≤ k → IsMatrixWithin n m → IsMatrixWithin k m
-  matrix_more m le h = record { first = IsVectorWithin-more h.first le; second = IsVectorWithin-more h.second le; third = IsVectorWithin-more h.third le }
-
   shift_there : (n : ℕ) (v : Vector) → IsVectorWithin n v → IsVectorWithin (n + 2 * n) (image (shear j) v)
   unfolding dot
   shift_there n v h = record { x = entry n v.x v.y v.z h.x h.z; y = alone n v.x v.y v.z h.y; z = last n v.x v.y v.z h.z }
@@ -88,7 +85,7 @@ module _ (j : ℤ) (within : IsWithin 2 j) where
     -- first back, then the operation
     pub stepped_small : IsSmall (followed_by (linear (shear (neg_ℤ j))) m)
     stepped_small = record {
-      matrix = matrix_more _ (lit≤ tt) (matrix_back m.matrix (matrix_more m.matrix (lit≤ tt) matrix));
+      matrix = IsMatrixWithin-more (matrix_back m.matrix (IsMatrixWithin-more matrix (lit≤ tt))) (lit≤ tt);
       translation = subst (IsVectorWithin (2 ^ 40)) (sym (ap (λ v. plus v m.translation) (image-origin m.matrix) ∙ origin-plus m.translation)) (IsVectorWithin-more shift (lit≤ tt));
     }
 
@@ -96,8 +93,8 @@ module _ (j : ℤ) (within : IsWithin 2 j) where
     sheared_small =
         let entries = matrix_back (product (shear j) m.matrix) (matrix_there m.matrix matrix) in
         record {
-          small = record { matrix = matrix_more _ (lit≤ tt) entries; translation = IsVectorWithin-more (shift_there (2 ^ 30) m.translation shift) (lit≤ tt) };
-          matrix = matrix_more _ (lit≤ tt) entries;
+          small = record { matrix = IsMatrixWithin-more entries (lit≤ tt); translation = IsVectorWithin-more (shift_there (2 ^ 30) m.translation shift) (lit≤ tt) };
+          matrix = IsMatrixWithin-more entries (lit≤ tt);
         }
 
 -- the block form of an operation of a layer type

@@ -1,9 +1,9 @@
 -- What is chosen operation by operation, with one operation more, and the list that comes of it.
 use Rattle.std.proofs.Common.{◌≡◌, ℕ, ◌+◌, ◌<◌, List, [], ◌∷◌, ◌++◌, length, take, map, get_or, Some, None, ◌↔◌, subst, sym, ap, ◌∙◌}
-use Rattle.std.specs.Prelude.{All, AllPairs, Contains}
-use Rattle.std.proofs.lemmas.List.{get_or_default, map-append, take_more}
+use Rattle.std.specs.Prelude.{All, AllPairs}
+use Rattle.std.proofs.lemmas.List.{map-append, take_more}
 use Rattle.std.proofs.lemmas.List.Elements.{All-contains, All-push, at_from_Contains}
-use Rattle.quotient.proofs.Items.{Contains-item}
+use Rattle.quotient.proofs.Items.{Contains-item_at}
 use Rattle.symmetry.specs.Vectors.{Vector}
 use Rattle.symmetry.specs.Motions.{Motion, identity}
 use Rattle.symmetry.specs.Groups.{Listing, IsMember, SameModulo}
@@ -16,9 +16,6 @@ use Rattle.scanning.specs.Members.{AreSameMotions, IsHomeMotion}
 use Rattle.scanning.proofs.SameMotions.{chosen_same}
 use Rattle.motions.specs.declared.motion.Motion3.{Motion3}
 use Rattle.motions.specs.Views.{motion_of}
-
-op_listed : (ops : List Motion3) (i : ℕ) (d : Motion3) → i < length ops → Contains (map motion_of ops) (motion_of (get_or ops i d))
-op_listed ops i d h = Contains-item motion_of ops i (get_or ops i d) h (get_or_default ops i d (get_or ops i d) h)
 
 module _ (Same : Motion → Motion → Type 0) (IsHome S : Motion → Type 0) where
   chosen_passed : (m : Motion) (ms out : List Motion) → AreChosen Same IsHome S ms out → IsChoice Same IsHome S m None → AreChosen Same IsHome S (ms ++ m ∷ []) out
@@ -77,7 +74,7 @@ module _ (g : Listing) (apart : AllPairs (λ m n. ¬ SameModulo g m n) g.ops) wh
 -- ---- the operations of the code
 
 pub op_has : (P : Motion → Type 0) (ops : List Motion3) (i : ℕ) (d : Motion3) → All P (map motion_of ops) → i < length ops → P (motion_of (get_or ops i d))
-op_has P ops i d all h = All-contains P (map motion_of ops) (motion_of (get_or ops i d)) all (op_listed ops i d h)
+op_has P ops i d all h = All-contains P (map motion_of ops) (motion_of (get_or ops i d)) all (Contains-item_at motion_of ops i d h)
 
 pub homes_more : (r : Vector) (f : Basis) (ms : List Motion3) (m : Motion3) (more : List Motion3) → more ≡ ms ++ m ∷ []
     → All (λ (n : Motion3). IsHomeMotion r f (motion_of n)) ms → IsHomeMotion r f (motion_of m) → All (λ (n : Motion3). IsHomeMotion r f (motion_of n)) more

@@ -13,7 +13,7 @@ use Rattle.symmetry.specs.Sizes.{IsMatrixWithin, IsVectorWithin}
 use Rattle.symmetry.proofs.LatticeLaws.{same_trans, same_sym}
 use Rattle.motions.specs.declared.miller.TheConstants.{INDEX}
 use Rattle.motions.specs.ListedSizes.{IsSmallWithin}
-use Rattle.motions.specs.Laws.MotionLaws.{IsVectorWithin-more}
+use Rattle.symmetry.proofs.Sizes.{IsVectorWithin-more}
 use Rattle.closure.specs.declared.group.TheConstants.{MAX_ENTRY}
 use Rattle.plane_lattice.specs.Bounds.{largest_entry}
 use Rattle.plane_lattice.specs.Coordinates.{IsPlaneCombination}

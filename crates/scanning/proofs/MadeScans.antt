@@ -19,7 +19,7 @@ use Rattle.symmetry.proofs.PlaneRows.{all_by_row, stabiliser_by_row}
 use Rattle.quotient.proofs.Zips.{zip_map}
 use Rattle.motions.specs.declared.motion.Motion3.{Motion3}
 use Rattle.motions.specs.ListedSizes.{IsSmallWithin}
-use Rattle.motions.specs.Laws.MotionLaws.{IsVectorWithin-more}
+use Rattle.symmetry.proofs.Sizes.{IsVectorWithin-more}
 use Rattle.motions.specs.Views.{motion_of, row_of}
 use Rattle.closure.specs.declared.group.TheConstants.{MAX_ENTRY}
 use Rattle.plane_lattice.specs.Bounds.{largest_entry}

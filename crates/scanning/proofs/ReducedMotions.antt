@@ -8,7 +8,7 @@ use Rattle.symmetry.specs.Vectors.{Vector}
 use Rattle.symmetry.specs.Motions.{Motion}
 use Rattle.symmetry.specs.Groups.{Listing, SameModulo}
 use Rattle.symmetry.specs.Sizes.{IsSmall, IsMatrixWithin, IsVectorWithin}
-use Rattle.motions.specs.Laws.MotionLaws.{IsVectorWithin-more}
+use Rattle.symmetry.proofs.Sizes.{IsVectorWithin-more}
 use Rattle.closure.specs.declared.lattice.Lattice.{Lattice}
 use Rattle.closure.specs.Lattices.{IsHome, IsLatticeOf}
 use Rattle.closure.specs.Residues.{residue}

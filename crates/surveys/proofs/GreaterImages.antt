@@ -5,13 +5,12 @@ use Rattle.symmetry.specs.Vectors.{Vector, opposite, row_times}
 use Rattle.symmetry.specs.Motions.{Motion}
 use Rattle.symmetry.specs.Planes.{IsCoprime}
 use Rattle.symmetry.specs.Groups.{IsGroup, Listing}
-use Rattle.symmetry.specs.Sizes.{IsVectorWithin}
 use Rattle.motions.specs.Views.{motion_of}
 use Rattle.motions.specs.declared.motion.Motion3.{Motion3}
-use Rattle.orbits.proofs.RowLists.{listed_motion}
 use Rattle.surveys.specs.Places.{HasGreaterImage, IsGreaterWithin}
 use Rattle.surveys.specs.Surveys.{IsGreater, IsRepresentative, IsUpToSign, IsWithinSurvey}
 use Rattle.surveys.proofs.Equivalence.{equivalent_coprime}
+use Rattle.quotient.proofs.Items.{Contains-item_at}
 
 module _ (g : Listing) (n : ℕ) (r : Vector) where
   pub representative_by_images : IsWithinSurvey n r → ((m : Motion) → Contains g.ops m → ¬ HasGreaterImage n r m) → IsRepresentative g n r
@@ -40,4 +39,4 @@ module _ (g : Listing) (n : ℕ) (r : Vector) where
 pub surpassed : (g : Listing) (ops : List Motion3) → map motion_of ops ≡ g.ops → IsGroup g → (i : ℕ) (d : Motion3) → i < length ops
     → (n : ℕ) (r : Vector) → HasGreaterImage n r (motion_of (get_or ops i d)) → ¬ IsRepresentative g n r
 surpassed g ops same group i d within n r greater is =
-    no_greater_image g n r group is (motion_of (get_or ops i d)) (subst (λ l. Contains l (motion_of (get_or ops i d))) same (listed_motion ops i d within)) greater
+    no_greater_image g n r group is (motion_of (get_or ops i d)) (subst (λ l. Contains l (motion_of (get_or ops i d))) same (Contains-item_at motion_of ops i d within)) greater

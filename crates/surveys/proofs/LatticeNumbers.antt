@@ -1,5 +1,5 @@
 -- The period as the greatest common divisor of the numbers (hkl).v of the lattice.
-use Rattle.std.proofs.Common.{◌≡◌, ℕ, ◌+◌, ◌<◌, ◌≤◌, ℤ, pos, negsuc, ◌+ℤ◌, ◌-ℤ◌, ◌*ℤ◌, ◌≤ℤ◌, ◌<ℤ◌, List, [], ◌∷◌, length, get_or, inl, inr, lit<, sym, ◌∙◌, ap, subst, arith, unsigned_abs, below_more, All, FitsSigned, map, w64}
+use Rattle.std.proofs.Common.{◌≡◌, ℕ, ◌+◌, ◌<◌, ◌≤◌, ℤ, pos, negsuc, ◌+ℤ◌, ◌-ℤ◌, ◌*ℤ◌, ◌≤ℤ◌, ◌<ℤ◌, List, [], ◌∷◌, length, get_or, sym, ◌∙◌, ap, subst, arith, unsigned_abs, below_more, All, FitsSigned, map, w64}
 use Rattle.std.specs.Prelude.{Contains}
 use Rattle.std.specs.Int.{IsGcd}
 use Rattle.std.proofs.lemmas.Int.{ints, by_lt_z, to_z-of_z}
@@ -26,7 +26,7 @@ use Rattle.closure.specs.declared.lattice.Lattice.{Lattice}
 use Rattle.closure.specs.Lattices.{IsLatticeOf, residues_of}
 use Rattle.closure.specs.Residues.{IsResidue, IsWhole, residue}
 use Rattle.integers.proofs.Remainders.{Divides-add, Divides-multiple, Divides-self}
-use Rattle.closure.specs.Laws.ResidueLaws.{residue-parts, whole-minus_residue}
+use Rattle.closure.specs.Laws.ResidueLaws.{residue-parts, whole-minus_residue, whole-multiple_of_unit}
 use Rattle.closure.proofs.Spans.{lattice-whole}
 use Rattle.surveys.proofs.ShiftLists.{period_again}
 
@@ -54,13 +54,6 @@ whole_periods g r d period t inside =
 
 -- ---- one vector after the other
 
-whole_multiple : (u : Vector) → IsWhole (multiple UNIT u)
-unfolding multiple
-whole_multiple u = record { x = times u.x; y = times u.y; z = times u.z }
-  where
-    times : (x : ℤ) → Divides (unsigned_abs UNIT) (UNIT *ℤ x)
-    times x = record { times = x; is = omega (arith, ints) }
-
 -- what divides UNIT divides the number of a whole vector
 whole_divided : (d : ℕ) → Divides d UNIT → (r v : Vector) → IsWhole v → Divides d (dot r v)
 unfolding dot
@@ -86,7 +79,7 @@ module _ (g : Listing) (r : Vector) (vs : List Vector) where
       record {
         from = omega (arith, ints);
         most = omega (arith, ints);
-        taken = (multiple UNIT u, lattice-whole g (multiple UNIT u) (whole_multiple u), dot-multiple r UNIT u ∙ ap (λ x. UNIT *ℤ x) one ∙ mul_one UNIT);
+        taken = (multiple UNIT u, lattice-whole g (multiple UNIT u) (whole-multiple_of_unit u), dot-multiple r UNIT u ∙ ap (λ x. UNIT *ℤ x) one ∙ mul_one UNIT);
         whole = Divides-self (unsigned_abs UNIT);
         each = λ k none. absurd (omega (arith, none));
       }

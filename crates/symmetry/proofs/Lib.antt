@@ -1,4 +1,5 @@
 pub mod VectorLaws
+pub mod Sizes
 pub mod MatrixLaws
 pub mod MotionLaws
 pub mod Coprime

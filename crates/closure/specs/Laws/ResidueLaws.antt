@@ -1,10 +1,11 @@
 -- Vectors of whole edges, and residues modulo these. Proofs: they stand here since an `impl` cites them.
-use Rattle.std.proofs.Common.{◌≡◌, ℕ, ◌<◌, ◌↔◌, false, IsTrue, arith, sym, ap, subst, ◌∙◌, lit<, ℤ, negsuc, ◌+ℤ◌, ◌-ℤ◌, ◌*ℤ◌, List, get_or}
+use Rattle.std.proofs.Common.{◌≡◌, ℕ, ◌<◌, ◌↔◌, false, IsTrue, arith, refl, sym, ap, subst, ◌∙◌, lit<, ℤ, negsuc, ◌+ℤ◌, ◌-ℤ◌, ◌*ℤ◌, List, get_or}
 use Rattle.std.specs.Prelude.{Contains, unsigned_abs}
 use Rattle.std.proofs.lemmas.Bool.{true≢false}
 use Rattle.std.proofs.lemmas.List.Folds.{list_any_at}
 use Rattle.std.proofs.lemmas.Map.Views.{Contains-from_any}
 use Rattle.std.proofs.lemmas.Int.{ints}
+use lib.IntN.{*ℤ_comm}
 use Rattle.integers.specs.Size.{Divides}
 use Rattle.fractions.specs.declared.part.TheConstants.{UNIT}
 use Rattle.symmetry.specs.Vectors.{Vector, Matrix, origin, plus, minus, multiple, opposite, dot, image}
@@ -43,6 +44,15 @@ pub whole-multiple : (c : ℤ) (v : Vector) → IsWhole v → IsWhole (multiple 
 unfolding multiple
 whole-multiple c v p = record { x = Divides-multiple edge c v.x p.x; y = Divides-multiple edge c v.y p.y; z = Divides-multiple edge c v.z p.z }
 
+-- UNIT times a vector is one of whole edges
+pub whole-multiple_of_unit : (v : Vector) → IsWhole (multiple UNIT v)
+unfolding multiple
+whole-multiple_of_unit v = record {
+  x = record { times = v.x; is = *ℤ_comm UNIT v.x };
+  y = record { times = v.y; is = *ℤ_comm UNIT v.y };
+  z = record { times = v.z; is = *ℤ_comm UNIT v.z };
+}
+
 pub whole-opposite : (v : Vector) → IsWhole v → IsWhole (opposite v)
 whole-opposite v = whole-multiple (negsuc 0) v
 
@@ -60,6 +70,10 @@ pub whole-image : (m : Matrix) (v : Vector) → IsWhole v → IsWhole (image m v
 whole-image m v p = record { x = whole-dot m.first v p; y = whole-dot m.second v p; z = whole-dot m.third v p }
 
 -- ---- residues
+
+pub residue-origin : residue origin ≡ origin
+unfolding residue
+residue-origin = refl
 
 -- vectors that differ by whole edges have one residue
 pub residue-same : (v w : Vector) → IsWhole (minus v w) → residue v ≡ residue w

@@ -1,17 +1,17 @@
 -- Proofs that motions meet the laws of `PartialEq`, `Eq` and `Motion`. They stand here since an `impl` cites them.
-use Rattle.std.proofs.Common.{◌≡◌, ◌↔◌, ℕ, ◌+◌, ◌*◌, ◌^◌, ◌≤◌, ◌&&◌, IsTrue, sym, ap, refl, lit≤}
+use Rattle.std.proofs.Common.{◌≡◌, ◌↔◌, ◌^◌, ◌≤◌, ◌&&◌, IsTrue, sym, ap, refl, lit≤}
 use Rattle.std.specs.Ordering.{int_eq}
 use Rattle.std.specs.Cmp.Derive.{both_true}
 use Rattle.std.specs.Cmp.{first_so, second_so, IsEquivalence, both_ways}
 use Rattle.std.proofs.lemmas.Bool.Decides.{Decides-int_eq}
-use Rattle.integers.specs.Size.{IsWithin}
-use Rattle.integers.proofs.Ring.{IsWithin-add, IsWithin-mul, IsWithin-more}
+use Rattle.integers.proofs.Ring.{IsWithin-add, IsWithin-more}
 use Rattle.quotient.specs.Kind.{IsMonoid}
-use Rattle.symmetry.specs.Vectors.{Vector, Matrix, plus, dot}
+use Rattle.symmetry.specs.Vectors.{Vector, Matrix, plus}
 use Rattle.symmetry.specs.Motions.{Motion, followed_by, identity}
 use Rattle.symmetry.specs.Frames.{same_vector}
 use Rattle.symmetry.specs.Sizes.{IsVectorWithin, IsSmall}
 use Rattle.symmetry.proofs.VectorLaws.{vector_path}
+use Rattle.symmetry.proofs.Sizes.{dot_within}
 use Rattle.symmetry.proofs.MatrixLaws.{matrix_path}
 use Rattle.symmetry.proofs.MotionLaws.{motion_path, followed_by-assoc, followed_by-identity, identity-followed_by}
 use Rattle.motions.specs.Equality.{same_matrix, same_motion}
@@ -79,15 +79,8 @@ followed_by_laws = record { assoc = followed_by-assoc; one_left = identity-follo
 
 -- ---- sizes
 
-pub IsVectorWithin-more : {m n : ℕ} {v : Vector} → IsVectorWithin m v → m ≤ n → IsVectorWithin n v
-IsVectorWithin-more h le = record { x = IsWithin-more h.x le; y = IsWithin-more h.y le; z = IsWithin-more h.z le }
-
 pub identity_within : IsVectorWithin 0 identity.translation
 identity_within = record { x = record { most = lit≤ tt }; y = record { most = lit≤ tt }; z = record { most = lit≤ tt } }
-
-pub dot_within : {m n : ℕ} {r v : Vector} → IsVectorWithin m r → IsVectorWithin n v → IsWithin (m * n + m * n + m * n) (dot r v)
-unfolding dot
-dot_within h k = IsWithin-add (IsWithin-add (IsWithin-mul h.x k.x) (IsWithin-mul h.y k.y)) (IsWithin-mul h.z k.z)
 
 -- the product of two small motions has translations of at most 2^52
 pub followed_by_within : (m n : Motion) → IsSmall m → IsSmall n → IsVectorWithin (2 ^ 52) (followed_by m n).translation

@@ -1,5 +1,6 @@
 -- The laws of signs. They stand here since an `impl` cites them.
-use Rattle.std.proofs.Common.{◌≡◌, ◌↔◌, IsTrue, refl, ◌*ℤ◌}
+use Rattle.std.proofs.Common.{◌≡◌, ◌↔◌, inl, inr, Option, Some, IsTrue, refl, sym, ◌∙◌, ◌*ℤ◌}
+use Rattle.symmetry.specs.HeightMotions.{IsSign}
 use Rattle.motions.specs.declared.motion.Sign.{Sign}
 use Rattle.motions.specs.declared.motion.Sign.TheVariants.{Plus, Minus}
 use Rattle.motions.specs.Signs.{same_sign, sign_product, sign_value}
@@ -33,6 +34,15 @@ sign_value-sign_product Plus Plus = refl
 sign_value-sign_product Plus Minus = refl
 sign_value-sign_product Minus Plus = refl
 sign_value-sign_product Minus Minus = refl
+
+-- the value of a sign is a sign
+pub sign_is_sign : (e : Sign) → IsSign (sign_value e)
+sign_is_sign Plus = inl refl
+sign_is_sign Minus = inr refl
+
+-- nothing has both signs
+pub not_both_signs : (o : Option Sign) → o ≡ Some Plus → o ≡ Some Minus → ⊥
+not_both_signs o p q = let e : Some Plus ≡ Some Minus = sym p ∙ q in cc e
 
 pub same_sign-is : (d e : Sign) → IsTrue (same_sign d e) ↔ (d ≡ e)
 same_sign-is Plus Plus = (λ t. refl, λ e. refl)

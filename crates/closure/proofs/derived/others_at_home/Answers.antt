@@ -3,7 +3,7 @@ use Rattle.std.proofs.lemmas.Bool.{true≢false}
 use Rattle.std.proofs.lemmas.List.Elements.{All-contains}
 use Rattle.motions.specs.declared.motion.Motion3.{Motion3}
 use Rattle.closure.specs.Operations.{HasSmallEntries}
-use Rattle.motions.specs.Laws.MotionLaws.{IsVectorWithin-more}
+use Rattle.symmetry.proofs.Sizes.{IsVectorWithin-more}
 use Rattle.motions.specs.Views.{motion_of}
 use Rattle.closure.specs.Derived.{AreOthersAtHome}
 use Rattle.closure.proofs.Taken.{item_contained}

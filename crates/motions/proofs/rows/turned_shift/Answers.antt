@@ -1,18 +1,15 @@
 -- The sign tells whether the row is turned, and the remainder is whole periods away.
-use Rattle.std.proofs.Common.{◌≡◌, Option, Some, ap, ◌∙◌, sym, FitsSigned, rules}
+use Rattle.std.proofs.Common.{Some, ap, ◌∙◌, FitsSigned, rules}
 use Rattle.std.specs.Int.{w64}
 use Rattle.std.proofs.lemmas.Int.{to_z-of_z}
 use Rattle.integers.proofs.Coded.{again}
-use Rattle.motions.specs.declared.motion.Sign.{Sign}
-use Rattle.motions.specs.declared.motion.Sign.TheVariants.{Plus, Minus}
+use Rattle.motions.specs.declared.motion.Sign.TheVariants.{Minus}
+use Rattle.motions.specs.Laws.SignLaws.{not_both_signs}
 use Rattle.integers.proofs.Remainders.{rem_between}
 use Rattle.motions.proofs.rows.turned_shift.Goals as goal
 
-not_both : (o : Option Sign) → o ≡ Some Plus → o ≡ Some Minus → ⊥
-not_both o p q = let e : Some Plus ≡ Some Minus = sym p ∙ q in cc e
-
 pub returns-in-Plus : goal.returns-in-Plus
-returns-in-Plus c = λ turns. not_both c.side.result (c.in_ok-side.was ∙ ap Some c.in-Plus.is) ((c.side.ensures.sign Minus).1 turns)
+returns-in-Plus c = λ turns. not_both_signs c.side.result (c.in_ok-side.was ∙ ap Some c.in-Plus.is) ((c.side.ensures.sign Minus).1 turns)
 
 pub returns-in-Minus : goal.returns-in-Minus
 returns-in-Minus c =

@@ -8,7 +8,7 @@ use Rattle.symmetry.specs.Sizes.{IsMatrixWithin, IsVectorWithin}
 use Rattle.symmetry.specs.Vectors.{Vector, minus}
 use Rattle.symmetry.proofs.MotionLaws.{motion_path}
 use Rattle.motions.specs.BasisView.{basis_of}
-use Rattle.motions.specs.Laws.MotionLaws.{IsVectorWithin-more}
+use Rattle.symmetry.proofs.Sizes.{IsVectorWithin-more}
 use Rattle.motions.specs.Views.{motion_of, parts, vector_of}
 use Rattle.plane_lattice.specs.Bounds.{largest_entry}
 use Rattle.penetration.specs.declared.frame.RodFrame.{RodFrame}

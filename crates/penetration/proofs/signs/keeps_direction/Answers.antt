@@ -2,8 +2,9 @@
 use Rattle.std.proofs.Common.{refl}
 use Rattle.motions.specs.Views.{motion_of}
 use Rattle.motions.specs.Signs.{sign_value}
+use Rattle.motions.specs.Laws.SignLaws.{sign_is_sign}
 use Rattle.penetration.specs.DirectionView.{direction_of}
-use Rattle.penetration.proofs.DirectionSigns.{keeps_by_sign, sign_is_sign}
+use Rattle.penetration.proofs.DirectionSigns.{keeps_by_sign}
 use Rattle.penetration.proofs.signs.keeps_direction.Goals as goal
 
 pub returns-in-Some : goal.returns-in-Some

@@ -8,7 +8,7 @@ use Rattle.symmetry.specs.Vectors.{dot}
 use Rattle.motions.specs.Views.{parts, row_of}
 use Rattle.motions.specs.declared.miller.TheConstants.{INDEX}
 use Rattle.plane_lattice.specs.Bounds.{largest_period, largest_scaled}
-use Rattle.plane_lattice.proofs.Sizes.{dot_within}
+use Rattle.symmetry.proofs.Sizes.{dot_within}
 use Rattle.plane_lattice.proofs.frame_tests.height_of.Goals as goal
 
 pub returns : goal.returns

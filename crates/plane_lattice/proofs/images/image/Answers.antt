@@ -1,6 +1,6 @@
 -- The image is at most 1500 times as large.
 use Rattle.std.proofs.Common.{lit≤}
-use Rattle.motions.specs.Laws.MotionLaws.{IsVectorWithin-more}
+use Rattle.symmetry.proofs.Sizes.{IsVectorWithin-more}
 use Rattle.plane_lattice.specs.Bounds.{largest_entry}
 use Rattle.plane_lattice.proofs.images.image.Goals as goal
 

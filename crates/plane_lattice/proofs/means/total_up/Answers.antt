@@ -9,7 +9,7 @@ use Rattle.plane_lattice.specs.Bounds.{largest_turned}
 use Rattle.plane_lattice.specs.Scanning.{scanning_ops}
 use Rattle.plane_lattice.proofs.Operations.{all_at, operation_at}
 use Rattle.plane_lattice.proofs.Scanning.{taken_more, total_more, total_within}
-use Rattle.plane_lattice.proofs.Sizes.{image_within}
+use Rattle.symmetry.proofs.Sizes.{image_within}
 use Rattle.plane_lattice.proofs.means.total_up.Goals as goal
 
 pub with_operation-total-requires-clause-motion : goal.with_operation-total-requires-clause-motion

@@ -9,7 +9,8 @@ use Rattle.plane_lattice.proofs.Operations.{all_at, operation_at}
 use Rattle.plane_lattice.proofs.Scanning.{taken_more}
 use Rattle.reduction.specs.Bounds.{largest_columns}
 use Rattle.reduction.specs.Forms.{form_matrix, IsSumOver}
-use Rattle.reduction.proofs.FormSums.{no_sum, nothing_within, sum_more, sum_within, IsMatrixWithin-more}
+use Rattle.symmetry.proofs.Sizes.{IsMatrixWithin-more}
+use Rattle.reduction.proofs.FormSums.{no_sum, nothing_within, sum_more, sum_within}
 use Rattle.reduction.proofs.form.form_over.Goals as goal
 
 pub loop-m-init : goal.loop-m-init

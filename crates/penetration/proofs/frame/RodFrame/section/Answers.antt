@@ -9,6 +9,7 @@ use Rattle.motions.specs.BasisView.{basis_of}
 use Rattle.motions.specs.PlaneViews.{pair_of}
 use Rattle.motions.specs.Signs.{sign_value}
 use Rattle.motions.specs.Views.{motion_of, parts}
+use Rattle.motions.specs.Laws.SignLaws.{sign_is_sign}
 use Rattle.closure.proofs.OwnLattice.{own_group}
 use Rattle.closure.specs.Groups.{group_listing}
 use Rattle.plane_lattice.specs.Coordinates.{IsCombination}
@@ -17,7 +18,7 @@ use Rattle.penetration.specs.RodFrameView.{basis_of_rod}
 use Rattle.penetration.specs.RodFrames.{IsAcross}
 use Rattle.penetration.specs.RodHomes.{IsAlongAxis}
 use Rattle.penetration.specs.RodSections.{drift}
-use Rattle.penetration.proofs.DirectionSigns.{keeps_by_sign, multiple_turned, sign_is_sign}
+use Rattle.penetration.proofs.DirectionSigns.{keeps_by_sign, multiple_turned}
 use Rattle.penetration.proofs.LineMembers.{in_by_drift, keeps_direction_of}
 use Rattle.penetration.proofs.MadeRodFrames.{drift_in_parts, made_rod_frame, made_rod_not_skewed, rod_turned_near, turned_a, turned_b}
 use Rattle.penetration.proofs.RodAcross.{image-level}

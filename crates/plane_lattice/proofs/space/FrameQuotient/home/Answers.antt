@@ -7,7 +7,7 @@ use Rattle.symmetry.specs.Sizes.{IsVectorWithin}
 use Rattle.symmetry.specs.Vectors.{Vector, dot, minus}
 use Rattle.symmetry.proofs.MotionLaws.{motion_path}
 use Rattle.motions.specs.BasisView.{basis_of}
-use Rattle.motions.specs.Laws.MotionLaws.{IsVectorWithin-more}
+use Rattle.symmetry.proofs.Sizes.{IsVectorWithin-more}
 use Rattle.motions.specs.Views.{motion_of, parts, row_of, vector_of}
 use Rattle.plane_lattice.specs.Bounds.{largest_home, largest_scaled}
 use Rattle.plane_lattice.specs.Coordinates.{volume, scaled, floors, IsPlaneCombination}
