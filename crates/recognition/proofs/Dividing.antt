@@ -1,7 +1,8 @@
 -- Congruences whose factor divides the number of the grid.
-use Rattle.std.proofs.Common.{◌≡◌, ◌↔◌, ℕ, suc, ◌+◌, ◌*◌, ◌/◌, ◌%◌, ◌<◌, ◌≤◌, ℤ, pos, negsuc, ◌+ℤ◌, ◌-ℤ◌, ◌*ℤ◌, ◌≤ℤ◌, ◌<ℤ◌, ◌⊎◌, inl, inr, [], ◌∷◌, refl, ◌∙◌, ap, arith}
+use Rattle.std.proofs.Common.{◌≡◌, ◌↔◌, ℕ, suc, ◌+◌, ◌*◌, ◌/◌, ◌%◌, ◌<◌, ◌≤◌, ℤ, pos, negsuc, ◌+ℤ◌, ◌-ℤ◌, ◌*ℤ◌, ◌≤ℤ◌, ◌<ℤ◌, inl, inr, [], ◌∷◌, refl, ◌∙◌, ap, arith}
 use Rattle.std.specs.Int.{int_rem_euclid}
 use Rattle.std.specs.Prelude.{unsigned_abs, MatchOption, Option, None, Some}
+use Rattle.std.proofs.lemmas.Bool.{cases_lt}
 use Rattle.std.proofs.lemmas.Int.{ints}
 use Rattle.std.proofs.Math.Nat.{mul-le-mul_left}
 use Rattle.integers.proofs.Order.{mul-le-mul_right, mul_left_cancel_pos}
@@ -70,10 +71,7 @@ module _ (s l rest : ℕ) (some : 1 ≤ s) (below : rest < grid) (divides : grid
   -- s q is the rest
   module _ (q : ℕ) (is : rest ≡ s * q) where
     short : q < l
-    short = elim (compare q l) [ inl less ↦ less | inr more ↦ absurd (omega (arith, mul-le-mul_left s more)) ]
-      where
-        compare : (j m : ℕ) → (j < m) ⊎ (m ≤ j)
-        compare j m = grind arith
+    short = elim (cases_lt q l) [ inl less ↦ less | inr more ↦ absurd (omega (arith, mul-le-mul_left s more)) ]
 
     rest_is : pos rest ≡ pos s *ℤ pos q
     rest_is = ap pos is ∙ product_of s q

@@ -1,6 +1,7 @@
 -- how a congruence narrows a class
 use Rattle.std.proofs.Common.{◌≡◌, ℕ, zero, suc, ◌+◌, ◌-◌, ◌*◌, ◌/◌, ◌%◌, ◌<◌, ◌≤◌, ℤ, pos, ◌+ℤ◌, ◌-ℤ◌, ◌*ℤ◌, ◌⊎◌, inl, inr, refl, sym, ◌∙◌, ap, subst, arith}
 use Rattle.std.specs.Prelude.{◌↔◌}
+use Rattle.std.proofs.lemmas.Bool.{cases_lt}
 use Rattle.std.proofs.lemmas.Int.{ints}
 use Rattle.std.proofs.Math.Nat.{mul-le-mul, mul-le-mul_right}
 use Rattle.motions.specs.Rationals.{IsMultiple}
@@ -90,10 +91,7 @@ not_zero zero s r h e = absurd (omega (arith, e))
 not_zero (suc m) s r h e = omega arith
 
 less : (j m s : ℕ) → j * s < grid → grid ≤ m * s → j < m
-less j m s h k = elim (compare j m) [ inl e ↦ e | inr e ↦ absurd (omega (arith, mul-le-mul_right s e)) ]
-  where
-    compare : (j m : ℕ) → (j < m) ⊎ (m ≤ j)
-    compare j m = grind arith
+less j m s h k = elim (cases_lt j m) [ inl e ↦ e | inr e ↦ absurd (omega (arith, mul-le-mul_right s e)) ]
 
 -- each period below grid that is a multiple of the step is a multiple of the next step
 by_next : (step : ℕ) (a : ℤ) (r : ℕ) (n : IsNextStep step a r) (j : ℕ) → j * step < grid → IsPeriod a (j * step) → (q : ℕ) × (j * step ≡ q * r)
@@ -119,10 +117,7 @@ by_next step a r n j small p =
 
 -- the index of a member is not below that of the first solution
 from_first : (y step : ℕ) (c a : ℤ) (w : ℕ) (f : IsFirstSolution y step c a w) (k : ℕ) → Solves c a (y + k * step) → f.index ≤ k
-from_first y step c a w f k h = elim (compare k f.index) [ inl less ↦ absurd (f.first k less h) | inr e ↦ e ]
-  where
-    compare : (j m : ℕ) → (j < m) ⊎ (m ≤ j)
-    compare j m = grind arith
+from_first y step c a w f k h = elim (cases_lt k f.index) [ inl less ↦ absurd (f.first k less h) | inr e ↦ e ]
 
 apart : (y k i s : ℕ) → i ≤ k → y + k * s ≡ (y + i * s) + (k - i) * s
 apart y k i s h =
@@ -161,15 +156,12 @@ narrowed y step c a w r f n v = (narrow_forth y step c a w r v f n, λ h. narrow
 
 -- ---- what the loops find
 
-less_or_not : (j m : ℕ) → (j < m) ⊎ (m ≤ j)
-less_or_not j m = grind arith
-
 -- past the grid no member is left
 pub none_left : (y step i : ℕ) (c a : ℤ) → ((j : ℕ) → j < i → ¬ (Solves c a (y + j * step))) → grid ≤ y + i * step
     → (v : ℕ) → InClass y step v → ¬ (Solves c a v)
 none_left y step i c a before past v (small, (k, e)) h =
     let S : ℕ → Type 0 = λ z. Solves c a z in
-    elim (less_or_not k i) [
+    elim (cases_lt k i) [
       | inl less ↦ before k less (subst S e h)
       | inr le ↦ absurd (omega (arith, e, mul-le-mul_right step le))
     ]
@@ -203,4 +195,4 @@ full_end step i h k = omega (arith, mul-le-mul k h)
 
 -- of the positive indices below i, and of i, is of those below i + 1
 pub positive_more : (P : ℕ → Type 0) (i : ℕ) → ((j : ℕ) → 1 ≤ j → j < i → P j) → P i → (j : ℕ) → 1 ≤ j → j < i + 1 → P j
-positive_more P i before here j h k = elim (less_or_not j i) [ inl less ↦ before j h less | inr le ↦ let e : i ≡ j = omega arith in subst P e here ]
+positive_more P i before here j h k = elim (cases_lt j i) [ inl less ↦ before j h less | inr le ↦ let e : i ≡ j = omega arith in subst P e here ]
