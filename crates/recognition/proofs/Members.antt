@@ -1,6 +1,7 @@
 -- Lines and conditions as congruences, and the members of a class.
 use Rattle.std.proofs.Common.{◌≡◌, ◌↔◌, ℕ, ◌+◌, ◌-◌, ◌*◌, ◌/◌, ◌%◌, ◌<◌, ◌≤◌, IsTrue, nat_eq, ℤ, pos, ◌+ℤ◌, ◌*ℤ◌, sym, ap, subst, ◌∙◌, arith}
 use Rattle.std.specs.Prelude.{MatchOption, Option, None, Some}
+use Rattle.std.proofs.lemmas.Bool.Decides.{Decides-eqb}
 use Rattle.std.proofs.lemmas.Int.{ints}
 use Rattle.std.proofs.Math.Nat.{mul-mod_left}
 use native.Mathlib.Nat.{div-add-mod'}
@@ -13,16 +14,10 @@ use Rattle.recognition.specs.Classes.{InClass, IsOnLine, Meets, Solves}
 
 -- ---- members
 
-tested : (r : ℕ) → IsTrue (nat_eq r 0) → r ≡ 0
-tested r h = grind arith
-
-test : (r : ℕ) → r ≡ 0 → IsTrue (nat_eq r 0)
-test r h = grind arith
-
 pub member : (y step x : ℕ) → 1 ≤ step → x < grid → y ≤ x → IsTrue (nat_eq ((x - y) % step) 0) ↔ InClass y step x
 member y step x one small le = (
-  λ t. let e = tested ((x - y) % step) t in (small, ((x - y) / step, split e)),
-  λ (s, (k, e)). test ((x - y) % step) (ap (λ n. n % step) (rest k e) ∙ mul-mod_left k step),
+  λ t. let e = (Decides-eqb ((x - y) % step) 0).0 t in (small, ((x - y) / step, split e)),
+  λ (s, (k, e)). (Decides-eqb ((x - y) % step) 0).1 (ap (λ n. n % step) (rest k e) ∙ mul-mod_left k step),
 )
   where
     split : (x - y) % step ≡ 0 → x ≡ y + (x - y) / step * step
