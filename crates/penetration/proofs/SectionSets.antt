@@ -14,8 +14,9 @@ use Rattle.motions.specs.declared.rod.RodMotion.{RodMotion}
 use Rattle.motions.specs.PlaneMatrices.{Matrix2}
 use Rattle.motions.specs.Signs.{sign_value}
 use Rattle.motions.specs.RodMotions.{RodOperation, rod_of}
+use Rattle.quotient.proofs.ListLaws.{Contains-from_map, Contains-map}
 use Rattle.recognition.specs.RationalRods.{RationalRod, IsRationalRod, IsListedRod, multiple2, part_of_axis}
-use Rattle.recognition.proofs.RodTypeLemma.{contains_rod, from_list, motion_of_rod, to_list}
+use Rattle.recognition.proofs.RodTypeLemma.{from_list, to_list}
 use Rattle.penetration.specs.Lines.{SamePoint}
 use Rattle.penetration.specs.RodFrames.{IsRodFrame, AreRodOperations, IsAcross, levelled}
 use Rattle.penetration.specs.RodSections.{AreSections, InRodSection, ListsAlong, counted, drift, point_on_axis}
@@ -89,7 +90,7 @@ module _ (g : Listing) (u : Vector) (f : Basis) (rods : List Motion) (group : Is
         let (one, acts_one) = acts g u f rods group coprime frame are_rods at h.motion h.in_stabiliser in
         let (matrix, along, shift) = acts_once g u f rods group coprime frame are_rods at h.motion one op rational acts_one h.acts in
         let (like, in_ops, same) = listed_op g u f rods group coprime frame are_rods at ms (map rod_of section) lists sections h.motion one h.in_stabiliser acts_one in
-        let (r, listed, is) = motion_of_rod section like in_ops in
+        let (r, listed, is) = Contains-from_map rod_of section like in_ops in
         record {
           motion = r;
           listed = listed;
@@ -105,7 +106,7 @@ module _ (g : Listing) (u : Vector) (f : Basis) (rods : List Motion) (group : Is
     from_listed : (op : RationalRod) → IsListedRod section op → InRodSection g u f rods (counted at) op
     from_listed op h =
         let like = rod_of h.motion in
-        let (m, in_it, acts_m) = motion_of_op g u f rods group coprime frame are_rods at ms (map rod_of section) lists sections like (contains_rod section h.motion h.listed) in
+        let (m, in_it, acts_m) = motion_of_op g u f rods group coprime frame are_rods at ms (map rod_of section) lists sections like (Contains-map rod_of section h.motion h.listed) in
         let (k, e) = h.translation in
         let n = further f m k in
         let drifts = further_drift m like.translation k ((shift_is f at m like.translation).0 acts_m.translation) in

@@ -1,44 +1,14 @@
--- The order of matrices, and the first matrix of a table.
-use Rattle.std.proofs.Common.{◌≡◌, ℕ, ◌<◌, inl, inr, ℤ, Bool, List, length, map, slice_index_or, sym, ◌∙◌, ap, subst, arith}
-use Rattle.std.proofs.lemmas.Int.{ints}
+-- The first matrix of a table.
+use Rattle.std.proofs.Common.{◌≡◌, ℕ, ◌<◌, ◌⊎◌, inl, inr, ℤ, Bool, List, length, map, slice_index_or, sym, ◌∙◌, ap, subst, arith}
 use Rattle.std.proofs.lemmas.List.{get_or_default, get_or-map, length-map}
 use Rattle.integers.proofs.Order.{compare_nat}
 use Rattle.quotient.proofs.ListLaws.{All-from_map, Contains-from_map}
 use Rattle.motions.specs.PlaneMatrices.{Matrix2}
 use Rattle.motions.specs.PlaneViews.{matrix2_of}
-use Rattle.recognition.specs.Order.{IsBoundedMatrix, IsGreater, IsMatrixBefore}
+use Rattle.recognition.specs.Order.{IsBoundedMatrix, IsMatrixBefore}
 use Rattle.recognition.specs.Search.{HasNoMatrix, IsFirstMatrix, IsLeastOrigin, IsMatrixTable, IsNowhere}
 use Rattle.recognition.specs.Listed.{TakesLattice}
-
--- ---- the order
-
-not_greater : (p : Matrix2) → ¬ IsGreater p p
-not_greater p (inl a) = absurd (omega (arith, ints))
-not_greater p (inr (_, inl b)) = absurd (omega (arith, ints))
-not_greater p (inr (_, inr (_, inl c))) = absurd (omega (arith, ints))
-not_greater p (inr (_, inr (_, inr (_, d)))) = absurd (omega (arith, ints))
-
-pub not_before : (p : Matrix2) → ¬ IsMatrixBefore p p
-not_before p (inl h) = absurd (omega arith)
-not_before p (inr (_, g)) = not_greater p g
-
-not_both_greater : (p q : Matrix2) → IsGreater p q → IsGreater q p → ⊥
-not_both_greater p q (inl a) (inl b) = absurd (omega (arith, ints))
-not_both_greater p q (inl a) (inr (e, _)) = absurd (omega (arith, ints))
-not_both_greater p q (inr (e, _)) (inl b) = absurd (omega (arith, ints))
-not_both_greater p q (inr (e, inl a)) (inr (f, inl b)) = absurd (omega (arith, ints))
-not_both_greater p q (inr (e, inl a)) (inr (f, inr (g, _))) = absurd (omega (arith, ints))
-not_both_greater p q (inr (e, inr (g, _))) (inr (f, inl b)) = absurd (omega (arith, ints))
-not_both_greater p q (inr (e, inr (g, inl a))) (inr (f, inr (h, inl b))) = absurd (omega (arith, ints))
-not_both_greater p q (inr (e, inr (g, inl a))) (inr (f, inr (h, inr (k, _)))) = absurd (omega (arith, ints))
-not_both_greater p q (inr (e, inr (g, inr (k, _)))) (inr (f, inr (h, inl b))) = absurd (omega (arith, ints))
-not_both_greater p q (inr (e, inr (g, inr (k, a)))) (inr (f, inr (h, inr (l, b)))) = absurd (omega (arith, ints))
-
-pub not_both_before : (p q : Matrix2) → IsMatrixBefore p q → IsMatrixBefore q p → ⊥
-not_both_before p q (inl h) (inl k) = absurd (omega arith)
-not_both_before p q (inl h) (inr (e, _)) = absurd (omega (arith, e))
-not_both_before p q (inr (e, _)) (inl h) = absurd (omega (arith, e))
-not_both_before p q (inr (e, g)) (inr (f, h)) = not_both_greater p q g h
+use Rattle.recognition.proofs.MatrixOrders.{not_before, not_both_before}
 
 -- ---- a table as rows of the code
 

@@ -3,6 +3,7 @@ use Rattle.std.proofs.Common.{◌≡◌, ℕ, zero, suc, ◌+◌, ℤ, pos, negs
 use Rattle.std.proofs.lemmas.Int.{ints}
 use lib.IntN.{*ℤ_comm}
 use Rattle.motions.specs.PlaneMatrices.{Matrix2, product2}
+use Rattle.motions.specs.Laws.PlaneMatrixLaws.{matrix2_path, pair_path}
 use Rattle.motions.specs.Rationals.{RationalPair, IsRationalPair, IsMultiple, IsWhole, SameRationals}
 use Rattle.recognition.specs.Changes.{rational_image}
 use Rattle.recognition.specs.Listed.{IsUnit, IsInLattice, TakesLattice, KeepsCentring, half}
@@ -10,9 +11,6 @@ use Rattle.integers.proofs.Spread.{spread, numerals_out}
 use Rattle.integers.proofs.Ring.{mul_assoc, mul_zero, one_mul, mul_one}
 use Rattle.integers.proofs.Order.{mul_left_cancel_pos}
 use Rattle.recognition.proofs.Whole.{unit_factor}
-
-pub matrix_path : (m n : Matrix2) → m.first.x ≡ n.first.x → m.first.y ≡ n.first.y → m.second.x ≡ n.second.x → m.second.y ≡ n.second.y → m ≡ n
-matrix_path m n a b c d = λ i. record { first = record { x = a i; y = b i }; second = record { x = c i; y = d i } }
 
 -- ---- two equations with the determinant 1 or -1
 
@@ -314,7 +312,7 @@ pub same_matrix : (c : Bool) (p m n : Matrix2) → TakesLattice c p → product2
 same_matrix c p m n h e =
     let first = same_rows c p h m.first.x m.first.y n.first.x n.first.y (λ i. (e i).first.x) (λ i. (e i).first.y) in
     let second = same_rows c p h m.second.x m.second.y n.second.x n.second.y (λ i. (e i).second.x) (λ i. (e i).second.y) in
-    matrix_path m n first.0 first.1 second.0 second.1
+    matrix2_path (pair_path first.0 first.1) (pair_path second.0 second.1)
 
 -- a whole row with a given product with a matrix of determinant 1 or -1
 record Row (a m b n k l : ℤ) : Type 0 where
@@ -364,14 +362,14 @@ moved_matrix true p n h k =
     let q = row h.a p.first.y h.b p.second.y (h.b *ℤ s -ℤ p.second.y *ℤ z) (product2 p n).second.y h.unit in
     let m : Matrix2 = record { first = record { x = r.x; y = r.y }; second = record { x = q.x; y = q.y } } in (
       m,
-      matrix_path (product2 m p) (product2 p n)
-          (centred_row p.first.x p.first.y p.second.x p.second.y h.a h.b p.first.x p.first.y h.a n.first.x n.first.y n.second.x n.second.y z r.x r.y h.first h.second h.first hn r.first r.second)
-          r.second
-          (centred_row p.first.x p.first.y p.second.x p.second.y h.a h.b p.second.x p.second.y h.b n.first.x n.first.y n.second.x n.second.y z q.x q.y h.first h.second h.second hn q.first q.second)
-          q.second,
+      matrix2_path
+          (pair_path (centred_row p.first.x p.first.y p.second.x p.second.y h.a h.b p.first.x p.first.y h.a n.first.x n.first.y n.second.x n.second.y z r.x r.y h.first h.second h.first hn r.first r.second)
+          r.second)
+          (pair_path (centred_row p.first.x p.first.y p.second.x p.second.y h.a h.b p.second.x p.second.y h.b n.first.x n.first.y n.second.x n.second.y z q.x q.y h.first h.second h.second hn q.first q.second)
+          q.second),
     )
 moved_matrix false p n h k =
     let r = row p.first.x p.first.y p.second.x p.second.y (product2 p n).first.x (product2 p n).first.y h in
     let q = row p.first.x p.first.y p.second.x p.second.y (product2 p n).second.x (product2 p n).second.y h in
     let m : Matrix2 = record { first = record { x = r.x; y = r.y }; second = record { x = q.x; y = q.y } } in
-    (m, matrix_path (product2 m p) (product2 p n) r.first r.second q.first q.second)
+    (m, matrix2_path (pair_path r.first r.second) (pair_path q.first q.second))

@@ -1,10 +1,10 @@
 -- Lines and conditions as congruences, and the members of a class.
 use Rattle.std.proofs.Common.{◌≡◌, ◌↔◌, ℕ, ◌+◌, ◌-◌, ◌*◌, ◌/◌, ◌%◌, ◌<◌, ◌≤◌, IsTrue, nat_eq, ℤ, pos, ◌+ℤ◌, ◌*ℤ◌, sym, ap, subst, ◌∙◌, arith}
 use Rattle.std.specs.Prelude.{MatchOption, Option, None, Some}
+use Rattle.std.proofs.lemmas.Bool.Decides.{Decides-eqb}
 use Rattle.std.proofs.lemmas.Int.{ints}
 use Rattle.std.proofs.Math.Nat.{mul-mod_left}
 use native.Mathlib.Nat.{div-add-mod'}
-use Rattle.std.proofs.lemmas.Bool.{eqb-true, eq-eqb}
 use Rattle.recognition.specs.Grid.{grid}
 use Rattle.recognition.specs.declared.classes.Class.{Class}
 use Rattle.recognition.specs.declared.line.Condition.{Condition}
@@ -16,8 +16,8 @@ use Rattle.recognition.specs.Classes.{InClass, IsOnLine, Meets, Solves}
 
 pub member : (y step x : ℕ) → 1 ≤ step → x < grid → y ≤ x → IsTrue (nat_eq ((x - y) % step) 0) ↔ InClass y step x
 member y step x one small le = (
-  λ t. let e = eqb-true ((x - y) % step) 0 t in (small, ((x - y) / step, split e)),
-  λ (s, (k, e)). eq-eqb ((x - y) % step) 0 (ap (λ n. n % step) (rest k e) ∙ mul-mod_left k step),
+  λ t. let e = (Decides-eqb ((x - y) % step) 0).0 t in (small, ((x - y) / step, split e)),
+  λ (s, (k, e)). (Decides-eqb ((x - y) % step) 0).1 (ap (λ n. n % step) (rest k e) ∙ mul-mod_left k step),
 )
   where
     split : (x - y) % step ≡ 0 → x ≡ y + (x - y) / step * step

@@ -2,6 +2,7 @@
 use lib.IntN.{pos-*ℤ-pos}
 use Rattle.std.proofs.Common.{◌≡◌, ℕ, zero, suc, ◌+◌, ◌-◌, ◌*◌, ◌/◌, ◌%◌, ◌<◌, ◌≤◌, ℤ, pos, ◌+ℤ◌, ◌-ℤ◌, ◌*ℤ◌, ◌⊎◌, inl, inr, refl, sym, ◌∙◌, ap, subst, arith}
 use Rattle.std.specs.Prelude.{◌↔◌}
+use Rattle.std.proofs.lemmas.Bool.{cases_lt}
 use Rattle.std.proofs.lemmas.Int.{ints}
 use Rattle.std.proofs.Math.Nat.{mul-le-mul, mul-le-mul_right}
 use Rattle.std.proofs.lemmas.Bool.{cases_lt}
@@ -154,15 +155,12 @@ narrowed y step c a w r f n v = (narrow_forth y step c a w r v f n, λ h. narrow
 
 -- ---- what the loops find
 
-less_or_not : (j m : ℕ) → (j < m) ⊎ (m ≤ j)
-less_or_not j m = grind arith
-
 -- past the grid no member is left
 pub none_left : (y step i : ℕ) (c a : ℤ) → ((j : ℕ) → j < i → ¬ (Solves c a (y + j * step))) → grid ≤ y + i * step
     → (v : ℕ) → InClass y step v → ¬ (Solves c a v)
 none_left y step i c a before past v (small, (k, e)) h =
     let S : ℕ → Type 0 = λ z. Solves c a z in
-    elim (less_or_not k i) [
+    elim (cases_lt k i) [
       | inl less ↦ before k less (subst S e h)
       | inr le ↦ absurd (omega (arith, e, mul-le-mul_right step le))
     ]
@@ -196,4 +194,4 @@ full_end step i h k = omega (arith, mul-le-mul k h)
 
 -- of the positive indices below i, and of i, is of those below i + 1
 pub positive_more : (P : ℕ → Type 0) (i : ℕ) → ((j : ℕ) → 1 ≤ j → j < i → P j) → P i → (j : ℕ) → 1 ≤ j → j < i + 1 → P j
-positive_more P i before here j h k = elim (less_or_not j i) [ inl less ↦ before j h less | inr le ↦ let e : i ≡ j = omega arith in subst P e here ]
+positive_more P i before here j h k = elim (cases_lt j i) [ inl less ↦ before j h less | inr le ↦ let e : i ≡ j = omega arith in subst P e here ]

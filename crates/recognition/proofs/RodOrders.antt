@@ -3,7 +3,6 @@ use Rattle.std.proofs.Common.{◌≡◌, ℕ, ◌+◌, ◌*◌, ◌/◌, ◌%◌
 use Rattle.std.specs.Prelude.{unsigned_abs}
 use Rattle.std.proofs.lemmas.Int.{ints}
 use Rattle.integers.specs.Size.{IsWithin}
-use Rattle.integers.proofs.Order.{compare_nat, compare_int}
 use Rattle.motions.specs.PlaneMatrices.{Matrix2}
 use Rattle.motions.specs.Laws.PlaneMatrixLaws.{pair_path, matrix2_path}
 use Rattle.motions.specs.PlaneSizes.{IsMatrix2Within}
@@ -11,6 +10,8 @@ use Rattle.recognition.specs.Order.{size_of, IsGreater, IsMatrixBefore}
 use Rattle.recognition.specs.RodOrder.{Change, IsBounded, IsBefore, IsFirst}
 use Rattle.recognition.specs.RodOrigins.{IsNotIn}
 use Rattle.recognition.specs.RodSearch.{matrix_at, IsFirstPlace, IsOfNoPlace, IsFirstMatrix, IsOfNoMatrix}
+use Rattle.integers.proofs.Order.{compare_nat}
+use Rattle.recognition.proofs.MatrixOrders.{before_or_same}
 
 -- how far an entry is below 2
 abbrev digit : ℤ → ℕ
@@ -19,9 +20,6 @@ digit z = unsigned_abs (pos 2 -ℤ z)
 -- the place of a matrix in the list of all bounded matrices
 abbrev index_of : Matrix2 → ℕ
 index_of q = 125 * digit q.first.x + 25 * digit q.first.y + 5 * digit q.second.x + digit q.second.y
-
-matrix_path : (p q : Matrix2) → p.first.x ≡ q.first.x → p.first.y ≡ q.first.y → p.second.x ≡ q.second.x → p.second.y ≡ q.second.y → p ≡ q
-matrix_path p q a b c d = matrix2_path (pair_path a b) (pair_path c d)
 
 digit_within : (z : ℤ) → unsigned_abs z ≤ 2 → digit z ≤ 4
 digit_within z h = omega (arith, ints)
@@ -43,8 +41,9 @@ index_within q h =
 at_index : (q : Matrix2) → IsMatrix2Within 2 q → matrix_at (index_of q) ≡ q
 at_index q h =
     let e = digits (digit q.first.x) (digit q.first.y) (digit q.second.x) (digit q.second.y) (digit_within q.first.x h.first.x.most) (digit_within q.first.y h.first.y.most) (digit_within q.second.x h.second.x.most) (digit_within q.second.y h.second.y.most) in
-    matrix_path (matrix_at (index_of q)) q (ap (λ n. pos 2 -ℤ pos n) e.0 ∙ entry_by_digit q.first.x h.first.x.most) (ap (λ n. pos 2 -ℤ pos n) e.1 ∙ entry_by_digit q.first.y h.first.y.most)
-    (ap (λ n. pos 2 -ℤ pos n) e.2 ∙ entry_by_digit q.second.x h.second.x.most) (ap (λ n. pos 2 -ℤ pos n) e.3 ∙ entry_by_digit q.second.y h.second.y.most)
+    matrix2_path
+    (pair_path (ap (λ n. pos 2 -ℤ pos n) e.0 ∙ entry_by_digit q.first.x h.first.x.most) (ap (λ n. pos 2 -ℤ pos n) e.1 ∙ entry_by_digit q.first.y h.first.y.most))
+    (pair_path (ap (λ n. pos 2 -ℤ pos n) e.2 ∙ entry_by_digit q.second.x h.second.x.most) (ap (λ n. pos 2 -ℤ pos n) e.3 ∙ entry_by_digit q.second.y h.second.y.most))
 
 entry_within : (n : ℕ) → n ≤ 4 → IsWithin 2 (pos 2 -ℤ pos n)
 entry_within n h = record { most = omega (arith, ints) }
@@ -128,50 +127,6 @@ module _ (C : Matrix2 → ℕ → Type 0) where
   pub no_matrix : ((s : ℕ) → s < 9 → IsOfNoPlace C s) → IsOfNoMatrix C
   no_matrix none q h = at_place (size_of q) (none (size_of q) (size_within q h)) q h refl
 
--- ---- the order is total
-
--- of two matrices one stands before the other, or they are one
-by_entries : (p q : Matrix2) → IsGreater p q ⊎ ((p ≡ q) ⊎ IsGreater q p)
-by_entries p q =
-    elim (compare_int q.first.x p.first.x) [
-      | inl a ↦ inl (inl a)
-      | inr r ↦ elim r [
-        | inr a ↦ inr (inr (inl a))
-        | inl a ↦ elim (compare_int q.first.y p.first.y) [
-          | inl b ↦ inl (inr (a, inl b))
-          | inr r ↦ elim r [
-            | inr b ↦ inr (inr (inr (sym a, inl b)))
-            | inl b ↦ elim (compare_int q.second.x p.second.x) [
-              | inl c ↦ inl (inr (a, inr (b, inl c)))
-              | inr r ↦ elim r [
-                | inr c ↦ inr (inr (inr (sym a, inr (sym b, inl c))))
-                | inl c ↦ elim (compare_int q.second.y p.second.y) [
-                  | inl d ↦ inl (inr (a, inr (b, inr (c, d))))
-                  | inr r ↦ elim r [
-                    | inr d ↦ inr (inr (inr (sym a, inr (sym b, inr (sym c, d)))))
-                    | inl d ↦ inr (inl (matrix_path p q (sym a) (sym b) (sym c) (sym d)))
-                  ]
-                ]
-              ]
-            ]
-          ]
-        ]
-      ]
-    ]
-
-pub compare_matrices : (p q : Matrix2) → IsMatrixBefore p q ⊎ ((p ≡ q) ⊎ IsMatrixBefore q p)
-compare_matrices p q =
-    elim (compare_nat (size_of p) (size_of q)) [
-      | inl s ↦ inl (inl s)
-      | inr r ↦ elim r [
-        | inr s ↦ inr (inr (inl s))
-        | inl s ↦ elim (by_entries p q) [
-          | inl g ↦ inl (inr (s, g))
-          | inr r ↦ elim r [ inl e ↦ inr (inl e) | inr g ↦ inr (inr (inr (sym s, g))) ]
-        ]
-      ]
-    ]
-
 change_path : (c d : Change) → c.number ≡ d.number → c.matrix ≡ d.matrix → c.z ≡ d.z → c ≡ d
 change_path c d k p z = λ i. record { number = k i; matrix = p i; z = z i }
 
@@ -191,35 +146,19 @@ module _ (n : ℕ) (Has : Change → Type 0) where
     first = before;
   }
     where
-      by_point : (d : Change) → IsBounded n d → Has d → d.number ≡ k → d.matrix ≡ p → (d ≡ change k p z) ⊎ IsBefore (change k p z) d
-      by_point d b h ek ep =
-          let e : d ≡ record { number = k; matrix = p; z = d.z } = change_path d (record { number = k; matrix = p; z = d.z }) ek ep refl in
+      least : (d : Change) → Has d → d.number ≡ k → d.matrix ≡ p → (d ≡ change k p z) ⊎ (z < d.z)
+      least d h ek ep =
           elim (compare_nat z d.z) [
-            | inl s ↦ inr (inr (sym ek, inr (sym ep, s)))
+            | inl s ↦ inr s
             | inr r ↦ elim r [
               | inl s ↦ inl (change_path d (change k p z) ek ep (sym s))
-              | inr s ↦ absurd (f.point.least d.z s (subst Has e h))
-            ]
-          ]
-
-      by_matrix : (d : Change) → IsBounded n d → Has d → d.number ≡ k → (d ≡ change k p z) ⊎ IsBefore (change k p z) d
-      by_matrix d b h ek =
-          elim (compare_matrices p d.matrix) [
-            | inl s ↦ inr (inr (sym ek, inl s))
-            | inr r ↦ elim r [
-              | inl s ↦ by_point d b h ek (sym s)
-              | inr s ↦
-                  let e : d ≡ record { number = k; matrix = d.matrix; z = d.z } = change_path d (record { number = k; matrix = d.matrix; z = d.z }) ek refl refl in
-                  absurd (f.first d.matrix b.matrix s d.z b.z (subst Has e h))
+              | inr s ↦ absurd (f.point.least d.z s (subst Has (change_path d (change k p d.z) ek ep refl) h))
             ]
           ]
 
       before : (d : Change) → IsBounded n d → Has d → (d ≡ change k p z) ⊎ IsBefore (change k p z) d
       before d b h =
-          elim (compare_nat k d.number) [
-            | inl s ↦ inr (inl s)
-            | inr r ↦ elim r [
-              | inl s ↦ by_matrix d b h (sym s)
-              | inr s ↦ absurd (none d.number b.from s d.matrix b.matrix d.z b.z h)
-            ]
-          ]
+          before_or_same k d.number p d.matrix
+          (λ less. none d.number b.from less d.matrix b.matrix d.z b.z h)
+          (λ ek less. f.first d.matrix b.matrix less d.z b.z (subst Has (change_path d (change k d.matrix d.z) ek refl refl) h))
+          (least d h)

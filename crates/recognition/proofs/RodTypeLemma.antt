@@ -1,10 +1,10 @@
 -- The operations of a rod type are what the table of types lists, but for whole multiples of the axis.
-use Rattle.std.proofs.Common.{◌≡◌, ℕ, ◌<◌, ℤ, pos, ◌+ℤ◌, ◌-ℤ◌, ◌*ℤ◌, refl, sym, ◌∙◌, ap, subst, List, length, map, slice_index_or, [], ◌∷◌}
-use Rattle.std.specs.Prelude.{All, Contains}
-use Rattle.std.proofs.lemmas.List.{get_or-map, get_or_default, length-map}
+use Rattle.std.proofs.Common.{◌≡◌, ℕ, ℤ, pos, ◌+ℤ◌, ◌-ℤ◌, ◌*ℤ◌, refl, sym, ◌∙◌, ap, List, [], ◌∷◌}
+use Rattle.std.specs.Prelude.{All}
 use Rattle.fractions.specs.declared.part.TheConstants.{UNIT}
 use Rattle.integers.proofs.Solver.{Expr.{var, num, ◌⊕◌, ◌⊝◌, ◌⊗◌}, linear, given}
 use Rattle.quotient.specs.Kind.{Kind, IsSame}
+use Rattle.quotient.proofs.ListLaws.{All-from_map, Contains-from_map, Contains-map}
 use Rattle.motions.specs.declared.rod.RodMotion.{RodMotion}
 use Rattle.motions.specs.PlaneMatrices.{Matrix2}
 use Rattle.motions.specs.RodMotions.{IsRodSmall, RodOperation, rod_of}
@@ -17,9 +17,6 @@ use Rattle.recognition.specs.RodChanges.{CarriesOnto, Carries, grid_part}
 use Rattle.recognition.specs.RodSearch.{IsFirstMatrix, IsOfNoMatrix}
 use Rattle.recognition.specs.RodTests.{IsSmallRod}
 use Rattle.recognition.specs.RodTypes.{HasChangeOnto, IsOfRodType}
-
-abbrev some_motion : RodMotion
-some_motion = rod_line.translation_by (pos 0)
 
 abbrev K : Kind
 K = modulo_lattice rod_line
@@ -39,17 +36,6 @@ moved_same n k = record {
   is = sym (rod_line_laws.after n (k *ℤ UNIT));
 }
 
--- a motion of the list is an operation of its meanings, and the other way round
-pub contains_rod : (ops : List RodMotion) (n : RodMotion) → Contains ops n → Contains (map rod_of ops) (rod_of n)
-contains_rod ops n (k, within, is) =
-    (k, subst (λ l. k < l) (sym (length-map ops rod_of)) within, get_or-map rod_of ops k n (rod_of n) within ∙ ap rod_of is)
-
-pub motion_of_rod : (ops : List RodMotion) (o : RodOperation) → Contains (map rod_of ops) o → (n : RodMotion) × Contains ops n × (rod_of n ≡ o)
-motion_of_rod ops o (k, within, is) =
-    let below : k < length ops = subst (λ l. k < l) (length-map ops rod_of) within in
-    let n = slice_index_or ops k some_motion in
-    (n, (k, below, get_or_default ops k n some_motion below), sym (get_or-map rod_of ops k some_motion o below) ∙ is)
-
 pub to_list : (c s t d k : ℤ) → t *ℤ c ≡ (s +ℤ k *ℤ c) *ℤ d → t *ℤ c -ℤ s *ℤ d ≡ k *ℤ (d *ℤ c)
 to_list c s t d k e =
     linear (c ∷ s ∷ t ∷ d ∷ k ∷ []) (var 2 ⊗ var 0 ⊝ var 1 ⊗ var 3) (var 4 ⊗ (var 3 ⊗ var 0))
@@ -67,7 +53,7 @@ module _ (n : ℕ) (t : RodType) (is : IsRodType n t) where
   to_listed : (op : RationalRod) → IsOfRodType n op → IsListedRod ops op
   to_listed op h =
       let listed = is.closure.covers h.operation h.product in
-      let (m, in_ops, e) = motion_of_rod ops listed.of listed.listed in
+      let (m, in_ops, e) = Contains-from_map rod_of ops listed.of listed.listed in
       let (k, same) = same_rod h.operation listed.of listed.same in
       let o : h.operation ≡ record (rod_of m) { translation = (rod_of m).translation +ℤ k *ℤ UNIT } = same ∙ ap (λ (o : RodOperation). record o { translation = o.translation +ℤ k *ℤ UNIT }) (sym e) in
       record {
@@ -85,7 +71,7 @@ module _ (n : ℕ) (t : RodType) (is : IsRodType n t) where
       record {
         operation = record m { translation = m.translation +ℤ k *ℤ UNIT };
         product = is.closure.within (record m { translation = m.translation +ℤ k *ℤ UNIT })
-            (record { of = m; listed = contains_rod ops h.motion h.listed; same = moved_same m k });
+            (record { of = m; listed = Contains-map rod_of ops h.motion h.listed; same = moved_same m k });
         matrix = h.matrix;
         along = h.along;
         translation = from_list UNIT m.translation op.translation.num op.translation.den k e;
@@ -112,8 +98,7 @@ module _ (n : ℕ) (t : RodType) (is : IsRodType n t) where
 
   -- the listed operations of a type are small
   pub small_ops : All IsSmallRod ops
-  small_ops k d within =
-      subst IsRodSmall (get_or-map rod_of ops k d (rod_of d) within) (is.small k (rod_of d) (subst (λ l. k < l) (sym (length-map ops rod_of)) within))
+  small_ops = All-from_map rod_of IsRodSmall ops is.small
 
   module _ (section : List RodMotion) where
     pub of_no_matrix : IsOfNoMatrix (Carries section ops) → IsOfNoMatrix (HasChangeOnto section n)

@@ -12,7 +12,8 @@ use Rattle.recognition.specs.Search.{IsMatrixTable}
 use Rattle.recognition.specs.Listed.{Agrees, TakesLattice}
 use Rattle.recognition.proofs.AgreementLemma.{agrees_is}
 use Rattle.recognition.proofs.ByTests.{carries_is}
-use Rattle.recognition.proofs.FirstMatrix.{before_at, bounded_at, not_before, not_both_before}
+use Rattle.recognition.proofs.FirstMatrix.{before_at, bounded_at}
+use Rattle.recognition.proofs.MatrixOrders.{not_before, not_both_before}
 use Rattle.recognition.proofs.StepsOfPairs.{within_more}
 
 -- the matrix of a change takes the lattice of its type

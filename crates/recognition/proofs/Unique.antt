@@ -6,12 +6,13 @@ use Rattle.std.proofs.lemmas.List.{get_or_default}
 use Rattle.motions.specs.declared.layer.LayerMotion.{LayerMotion}
 use Rattle.layer_types.specs.declared.layer_type.LayerType.{LayerType}
 use Rattle.motions.specs.PlaneMatrices.{Matrix2, determinant2, product2}
+use Rattle.motions.specs.Laws.PlaneMatrixLaws.{matrix2_path, pair_path}
 use Rattle.recognition.specs.Listed.{Agrees, TakesLattice, IsLike, IsPaired, Fits, AreDistinct}
 use Rattle.integers.proofs.Spread.{spread}
 use Rattle.integers.proofs.Ring.{mul_assoc, same_of_sub}
 use Rattle.integers.proofs.Order.{mul_left_cancel_pos}
 use Rattle.recognition.proofs.Determinants.{half_determinant}
-use Rattle.recognition.proofs.Lattices.{matrix_path, by_unit}
+use Rattle.recognition.proofs.Lattices.{by_unit}
 
 zero_by_lattice : (c : Bool) (p : Matrix2) → TakesLattice c p → (x : ℤ) → determinant2 p *ℤ x ≡ pos 0 → x ≡ pos 0
 zero_by_lattice true p h x e =
@@ -42,7 +43,7 @@ pub same_right : (c : Bool) (p m n : Matrix2) → TakesLattice c p → product2 
 same_right c p m n h e =
     let first = same_columns c p h m.first.x m.second.x n.first.x n.second.x (λ i. (e i).first.x) (λ i. (e i).second.x) in
     let second = same_columns c p h m.first.y m.second.y n.first.y n.second.y (λ i. (e i).first.y) (λ i. (e i).second.y) in
-    matrix_path m n first.0 second.0 first.1 second.1
+    matrix2_path (pair_path first.0 second.0) (pair_path first.1 second.1)
 
 -- two motions of the type that are like one of the section are one
 pub same_like : (c : Bool) (p : Matrix2) → TakesLattice c p → (ops : List LayerMotion) → AreDistinct ops → (m : LayerMotion) (i j : ℕ) (d e : LayerMotion)

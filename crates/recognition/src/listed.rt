@@ -15,7 +15,7 @@ use crate::found::GRID;
 use motions::LayerMotion;
 
 /// A row times the column of x and y.
-fn row_by_column(row: &[i64; 2], x: i64, y: i64) -> i64
+pub(crate) fn row_by_column(row: &[i64; 2], x: i64, y: i64) -> i64
     requires row { IsPairWithin 500 (pair_of row.now) }
     requires x { IsWithin (2 ^ 40) x }
     requires y { IsWithin (2 ^ 40) y }

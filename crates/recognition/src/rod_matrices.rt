@@ -6,13 +6,15 @@ ghost use Rattle.motions.specs.PlaneSizes.{IsMatrix2Within, IsPairWithin};
 ghost use Rattle.motions.specs.PlaneViews.{matrix2_of, pair_of};
 ghost use Rattle.recognition.specs.RodChanges.{hand};
 
+use crate::listed::row_by_column;
+
 /// The first entry of a row times a matrix.
 fn first_entry(row: &[i64; 2], matrix: &[[i64; 2]; 2]) -> i64
     requires row { IsPairWithin 500 (pair_of row.now) }
     requires matrix { IsMatrix2Within 500 (matrix2_of matrix.now) }
     ensures { result ≡ (row_times2 (pair_of row.now) (matrix2_of matrix.now)).x }
 {
-    row[0] * matrix[0][0] + row[1] * matrix[1][0]
+    row_by_column(row, matrix[0][0], matrix[1][0])
 }
 
 /// The second entry of a row times a matrix.
@@ -21,7 +23,7 @@ fn second_entry(row: &[i64; 2], matrix: &[[i64; 2]; 2]) -> i64
     requires matrix { IsMatrix2Within 500 (matrix2_of matrix.now) }
     ensures { result ≡ (row_times2 (pair_of row.now) (matrix2_of matrix.now)).y }
 {
-    row[0] * matrix[0][1] + row[1] * matrix[1][1]
+    row_by_column(row, matrix[0][1], matrix[1][1])
 }
 
 /// A matrix times a matrix.
