@@ -1,15 +1,12 @@
 -- A motion is listed where its home is among those of the list.
-use Rattle.std.proofs.Common.{◌≡◌, ◌↔◌, Bool, true, false, not, IsTrue, refl, List, [], ◌∷◌, ◌++◌, map, Any, ap, subst, sym, ◌∙◌}
+use Rattle.std.proofs.Common.{◌≡◌, ◌↔◌, Bool, IsTrue, refl, List, [], ◌∷◌, ◌++◌, map, All, Any, ap, subst, sym, ◌∙◌}
 use Rattle.std.specs.List.{list_any}
 use Rattle.std.proofs.lemmas.List.{map-append}
+use Rattle.std.proofs.lemmas.List.Elements.{All-head, All-tail}
 use Rattle.std.proofs.lemmas.List.Folds.{Any-from_list_any, list_any-from_Any}
 use Rattle.quotient.specs.Kind.{IsSame, Kind}
 use Rattle.quotient.specs.Lists.{AreHomes, IsListed}
 use Rattle.quotient.proofs.Items.{Any-from_listed, Any-from_map, Any-map, listed_from_Any}
-
-pub true_from_not : (b : Bool) → false ≡ not b → IsTrue b
-true_from_not true e = refl
-true_from_not false e = cc
 
 module _ {M S : Type 0} (f : M → S) (home : M → M) where
   pub AreHomes-none : (list homes : List M) → list ≡ [] → homes ≡ [] → AreHomes f home list homes
@@ -17,6 +14,11 @@ module _ {M S : Type 0} (f : M → S) (home : M → M) where
 
   pub AreHomes-same : (list homes now homes_now : List M) → now ≡ list → homes_now ≡ homes → AreHomes f home list homes → AreHomes f home now homes_now
   AreHomes-same list homes now homes_now is homes_are are = ap (map f) homes_are ∙ are ∙ sym (ap (map (λ m. f (home m))) is)
+
+  -- each motion is its own home
+  pub own_homes : (list : List M) → All (λ m. f m ≡ f (home m)) list → AreHomes f home list list
+  own_homes [] all = refl
+  own_homes (x ∷ xs) all = λ i. All-head (λ m. f m ≡ f (home m)) x xs all i ∷ own_homes xs (All-tail (λ m. f m ≡ f (home m)) x xs all) i
 
   -- one more motion and its home
   pub AreHomes-push : (list homes : List M) (x h : M) → AreHomes f home list homes → f h ≡ f (home x) → AreHomes f home (list ++ x ∷ []) (homes ++ h ∷ [])

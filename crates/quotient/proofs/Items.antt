@@ -22,6 +22,10 @@ module _ {M S : Type 0} (f : M → S) (list : List M) where
   pub All-item : (P : S → Type 0) (i : ℕ) (x : M) → All P (map f list) → i < length list → x ≡ get_or list i x → P (f x)
   All-item P i x all within is = subst P (get_or-map_item i x (f x) within is) (all i (f x) (rw length-map within))
 
+  -- what holds of all that the items stand for
+  pub All-from_map : (P : S → Type 0) → All P (map f list) → All (λ x. P (f x)) list
+  All-from_map P all k d within = subst P (get_or-map f list k d (f d) within) (all k (f d) (rw length-map within))
+
   -- one more item has the property
   pub more_items : (P : S → Type 0) (d : S) (i : ℕ) (x : M) → i < length list → x ≡ get_or list i x
       → ((k : ℕ) → k < i → P (get_or (map f list) k d)) → P (f x) → (k : ℕ) → k < i + 1 → P (get_or (map f list) k d)

@@ -11,6 +11,7 @@ pub mod Parts
 pub mod Positions
 pub mod Products
 pub mod Sameness
+pub mod Searches
 pub mod TableLemma
 pub mod ListLaws
 pub mod Zips

@@ -1,5 +1,5 @@
 -- Sameness is an equivalence, and how code tells it.
-use Rattle.std.proofs.Common.{◌≡◌, ◌↔◌, Bool, true, false, IsTrue, ap, refl, sym, ◌∙◌}
+use Rattle.std.proofs.Common.{◌≡◌, ◌↔◌, ap, refl, sym, ◌∙◌}
 use Rattle.quotient.specs.Kind.{AreShiftsGroup, IsEquivalence, IsMonoid, IsSame, Keeps, Kind, kind_of}
 
 module _ (K : Kind) (monoid : IsMonoid K.then K.one) (shifts : AreShiftsGroup K) where
@@ -56,14 +56,6 @@ module _ (K : Kind) (monoid : IsMonoid K.then K.one) (shifts : AreShiftsGroup K)
             ∙ ap (λ x. K.then x s) back.is
             ∙ monoid.assoc m back.shift s,
       )
-
--- by equality of homes
-module _ {S Same : Type 0} {home_m home_n a b : S} {t : Bool} (homes : Same ↔ (home_m ≡ home_n)) (test : IsTrue t ↔ (a ≡ b)) (a_is : a ≡ home_n) (b_is : b ≡ home_m) where
-  pub same_by_homes : true ≡ t → Same
-  same_by_homes e = homes.1 (sym b_is ∙ sym (test.0 (sym e)) ∙ a_is)
-
-  pub apart_by_homes : false ≡ t → ¬ Same
-  apart_by_homes e s = let equal = test.1 (a_is ∙ sym (homes.0 s) ∙ sym b_is) in cc
 
 -- the same as the identity is what a shift is
 pub shift_is_same : {M S : Type 0} (meaning : M → S) {product : S → S → S} {one : S} (IsShift : M → Type 0) → IsMonoid product one

@@ -57,13 +57,11 @@ fn known_homes<'a, Q: Quotient>(q: &Q, list: &'a [Q::M]) -> Option<&'a [Q::M]>
     requires { All (Q.M.MovesWithin (unsigned_abs Q.REACH)) (map Q.M.meaning list.now) }
     ensures { IfSome result (λ known. AreHomes Q.M.meaning (Q.home_of q.now) list.now known.now) }
 {
-    for m in list {
-        let home = q.home(m);
-        if home != *m {
-            return None;
-        }
+    if list.iter().all(|m| q.home(m) == *m) {
+        Some(list)
+    } else {
+        None
     }
-    Some(list)
 }
 
 // The first thing that is wrong with the list, whose homes may be known.
@@ -100,12 +98,7 @@ fn first_moving_shifts<Q: Quotient>(q: &Q, list: &[Q::M]) -> Option<usize>
         (AllKeep K (map Q.M.meaning list.now))
         (IsFirstWithout K (Keeps K) (map Q.M.meaning list.now)) }
 {
-    for (i, m) in list.iter().enumerate() {
-        if !q.keeps(m) {
-            return Some(i + 1);
-        }
-    }
-    None
+    list.iter().position(|m| !q.keeps(m)).map(|i| i + 1)
 }
 
 // The first pair of positions, row by row, whose product is not listed.
@@ -151,12 +144,9 @@ fn first_open_after<Q: Quotient>(
         (λ n. IsListed K (map Q.M.meaning list.now) (Q.M.product (Q.M.meaning m.now) n))
         (map Q.M.meaning list.now)) }
 {
-    for (j, n) in list.iter().enumerate() {
-        if !has_product(q, list, homes, m, n) {
-            return Some(j + 1);
-        }
-    }
-    None
+    list.iter()
+        .position(|n| !has_product(q, list, homes, m, n))
+        .map(|j| j + 1)
 }
 
 // Whether m and then n are the same as a motion of the list.
@@ -193,12 +183,9 @@ fn first_without_inverse<Q: Quotient>(q: &Q, list: &[Q::M]) -> Option<usize>
         (AllHaveInverse K (map Q.M.meaning list.now))
         (IsFirstWithout K (HasInverse K (map Q.M.meaning list.now)) (map Q.M.meaning list.now)) }
 {
-    for (i, m) in list.iter().enumerate() {
-        if !has_inverse(q, list, m) {
-            return Some(i + 1);
-        }
-    }
-    None
+    list.iter()
+        .position(|m| !has_inverse(q, list, m))
+        .map(|i| i + 1)
 }
 
 // Whether some motion of the list is an inverse of m.
@@ -210,12 +197,7 @@ fn has_inverse<Q: Quotient>(q: &Q, list: &[Q::M], m: &Q::M) -> bool
         ↔ HasInverse (modulo Q.M.Motion.own (Q.IsShift q.now)) (map Q.M.meaning list.now)
         (Q.M.meaning m.now) }
 {
-    for n in list {
-        if are_inverse(q, m, n) {
-            return true;
-        }
-    }
-    false
+    list.iter().any(|n| are_inverse(q, m, n))
 }
 
 // Whether m and then n, and n and then m, are the same as the identity: whether both are shifts.

@@ -22,12 +22,7 @@ pub fn find<Q: Quotient>(q: &Q, list: &[Q::M], m: &Q::M) -> Option<usize>
         (Q.M.meaning m.now)) }
 {
     let home = q.home(m);
-    for (i, listed) in list.iter().enumerate() {
-        if q.home(listed) == home {
-            return Some(i);
-        }
-    }
-    None
+    list.iter().position(|listed| q.home(listed) == home)
 }
 
 /// The motions of the list that are the same as no earlier one, unchanged and in their order.

@@ -1,34 +1,24 @@
-use Rattle.std.proofs.Common.{map, refl}
+use Rattle.std.proofs.Common.{map, rules, tests}
+use Rattle.std.proofs.iter.Serving.{serving}
+use Rattle.std.proofs.lemmas.Iterator.{IsFirst-from_position, YieldsList-from_slice}
 use Rattle.quotient.specs.Modulo.{modulo}
 use Rattle.quotient.specs.Lists.{IsListed}
-use Rattle.quotient.proofs.Items.{All-item, all_items, more_items}
-use Rattle.quotient.proofs.Positions.{first_item}
+use Rattle.quotient.proofs.Items.{All-from_map}
+use Rattle.quotient.proofs.Positions.{first_without}
 use Rattle.quotient.proofs.check.first_open_after.Goals as goal
 
-pub has_product-requires-clause-second : goal.has_product-requires-clause-second
-has_product-requires-clause-second g c =
+pub position-requires-clause-callable : goal.position-requires-clause-callable
+position-requires-clause-callable g c =
     let M = g.Q.M.Motion in
-    All-item M.meaning c.args.list.now M.IsSmall c.loop-j.j c.index-list-j.result c.requires.small c.loop-j-test.true c.index-list-j.is
-
-pub returns-then-not-has_product : goal.returns-then-not-has_product
-returns-then-not-has_product g c =
-    let M = g.Q.M.Motion in
-    let K = modulo M (g.Q.Quotient.IsShift c.args.q.now) in
-    let l = map M.meaning c.args.list.now in
-    first_item K M.meaning c.args.list.now (λ n. IsListed K l (M.product (M.meaning c.args.m.now) n)) c.loop-j.j c.index-list-j.result c.loop-j-test.true c.index-list-j.is c.loop-j.invariant
-    (λ h. let t = c.if-not-has_product.ensures.1 h in cc)
-
-pub loop-j-preserved : goal.loop-j-preserved
-loop-j-preserved g c =
-    let M = g.Q.M.Motion in
-    let K = modulo M (g.Q.Quotient.IsShift c.args.q.now) in
-    let l = map M.meaning c.args.list.now in
-    more_items M.meaning c.args.list.now (λ n. IsListed K l (M.product (M.meaning c.args.m.now) n)) M.one c.loop-j.j c.index-list-j.result c.loop-j-test.true c.index-list-j.is c.loop-j.invariant
-    (c.if-not-has_product.ensures.0 refl)
+    let small = All-from_map M.meaning c.args.list.now M.IsSmall c.requires.small in
+    grind serving
 
 pub returns : goal.returns
 returns g c =
     let M = g.Q.M.Motion in
     let K = modulo M (g.Q.Quotient.IsShift c.args.q.now) in
-    let l = map M.meaning c.args.list.now in
-    all_items M.meaning c.args.list.now (λ n. IsListed K l (M.product (M.meaning c.args.m.now) n)) M.one c.loop-j.j c.loop-j-test.false c.loop-j.invariant
+    let list = c.args.list.now in
+    let P = λ (n : M.Meaning). IsListed K (map M.meaning list) (M.product (M.meaning c.args.m.now) n) in
+    first_without K M.meaning P list c.position.result
+    (IsFirst-from_position _ _ c.position.result (λ n. ¬ P (M.meaning n)) (λ n. P (M.meaning n)) c.position.ensures.ran (YieldsList-from_slice list cc) (λ x q k. search (rules, tests)) (λ x q k. search (rules, tests)))
+    c.map.result (search rules)

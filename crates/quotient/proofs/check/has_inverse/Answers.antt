@@ -1,23 +1,26 @@
+use Rattle.std.proofs.Common.{rules, tests}
+use Rattle.std.proofs.iter.Serving.{serving}
+use Rattle.std.proofs.lemmas.Iterator.{cases_from_any, YieldsList-from_slice}
 use Rattle.quotient.specs.Modulo.{modulo}
 use Rattle.quotient.specs.Groups.{AreInverse}
-use Rattle.quotient.proofs.Items.{All-item, all_items, more_items}
+use Rattle.quotient.proofs.Items.{All-from_map, Any-from_map, Any-map}
+use Rattle.quotient.proofs.Searches.{some_is}
 use Rattle.quotient.proofs.check.has_inverse.Goals as goal
 
-pub are_inverse-requires-clause-second : goal.are_inverse-requires-clause-second
-are_inverse-requires-clause-second g c =
+pub any-requires-clause-callable : goal.any-requires-clause-callable
+any-requires-clause-callable g c =
     let M = g.Q.M.Motion in
-    All-item M.meaning c.args.list.now M.IsSmall c.loop-n.n-index c.n-item.result c.requires.small c.loop-n-test.true c.n-item.is
-
-pub loop-n-preserved : goal.loop-n-preserved
-loop-n-preserved g c =
-    let M = g.Q.M.Motion in
-    let K = modulo M (g.Q.Quotient.IsShift c.args.q.now) in
-    more_items M.meaning c.args.list.now (λ n. ¬ AreInverse K (M.meaning c.args.m.now) n) M.one c.loop-n.n-index c.n-item.result c.loop-n-test.true c.n-item.is c.loop-n.invariant
-    (λ h. let t = c.if-are_inverse.ensures.1 h in cc)
+    let small = All-from_map M.meaning c.args.list.now M.IsSmall c.requires.small in
+    grind serving
 
 pub returns : goal.returns
 returns g c =
     let M = g.Q.M.Motion in
     let K = modulo M (g.Q.Quotient.IsShift c.args.q.now) in
-    let none = all_items M.meaning c.args.list.now (λ n. ¬ AreInverse K (M.meaning c.args.m.now) n) M.one c.loop-n.n-index c.loop-n-test.false c.loop-n.invariant in
-    (λ e. cc, λ h. absurd (none h.inverse h.listed h.undoes))
+    let P = AreInverse K (M.meaning c.args.m.now) in
+    let list = c.args.list.now in
+    let found = some_is (λ n. P (M.meaning n)) list c.any.result
+    (cases_from_any _ _ _ (λ n. P (M.meaning n)) (λ n. ¬ P (M.meaning n)) c.any.ensures.ran (YieldsList-from_slice list cc) (λ x q k. search (rules, tests)) (λ x q k. search (rules, tests))) in (
+      λ t. let (k, n, within, is, undoes) = Any-map M.meaning list P (found.0 t) in record { inverse = n; listed = (k, within, is); undoes = undoes },
+      λ h. let (k, within, is) = h.listed in found.1 (Any-from_map M.meaning list P c.args.m.now (k, h.inverse, within, is, h.undoes)),
+    )

@@ -1,34 +1,25 @@
-use Rattle.std.proofs.Common.{refl}
-use Rattle.quotient.specs.Kind.{IsSame}
+use Rattle.std.proofs.Common.{rules, tests}
+use Rattle.std.proofs.iter.Serving.{serving}
+use Rattle.std.proofs.lemmas.Iterator.{IsFirst-from_position, YieldsList-from_slice}
 use Rattle.quotient.specs.Modulo.{modulo}
-use Rattle.quotient.proofs.Items.{All-item, Contains-item, all_items, more_items}
-use Rattle.quotient.proofs.Sameness.{apart_by_homes, same_by_homes}
+use Rattle.quotient.specs.Kind.{IsSame}
+use Rattle.quotient.proofs.Items.{All-from_map}
+use Rattle.quotient.proofs.Positions.{first_same}
 use Rattle.quotient.proofs.lists.find.Goals as goal
 
-pub home-requires : goal.home-requires
-home-requires g c =
+pub position-requires-clause-callable : goal.position-requires-clause-callable
+position-requires-clause-callable g c =
     let M = g.Q.M.Motion in
-    All-item M.meaning c.args.list.now (M.MovesWithin _) c.loop-i.i c.index-list-i.result c.requires.list c.loop-i-test.true c.index-list-i.is
+    let reaches = All-from_map M.meaning c.args.list.now (M.MovesWithin _) c.requires.list in
+    grind serving
 
-pub loop-i-preserved : goal.loop-i-preserved
-loop-i-preserved g c =
+pub returns : goal.returns
+returns g c =
     let M = g.Q.M.Motion in
     let K = modulo M (g.Q.Quotient.IsShift c.args.q.now) in
-    let homes = g.met.Q.Quotient.homes c.args.q.now c.args.m.now c.index-list-i.result in
-    let apart = apart_by_homes homes (g.met.Q.M.Motion.equal c.home.result c.home-home.result) c.home.ensures c.home-home.ensures c.if-eq.ensures in
-    more_items M.meaning c.args.list.now (λ n. ¬ IsSame K (M.meaning c.args.m.now) n) M.one c.loop-i.i c.index-list-i.result c.loop-i-test.true c.index-list-i.is c.loop-i.invariant apart
-
-pub returns-then-eq-clause-found : goal.returns-then-eq-clause-found
-returns-then-eq-clause-found g c =
-    let M = g.Q.M.Motion in
-    let homes = g.met.Q.Quotient.homes c.args.q.now c.args.m.now c.index-list-i.result in
-    let listed = Contains-item M.meaning c.args.list.now c.loop-i.i c.index-list-i.result c.loop-i-test.true c.index-list-i.is in
-    let same = same_by_homes homes (g.met.Q.M.Motion.equal c.home.result c.home-home.result) c.home.ensures c.home-home.ensures c.if-eq.ensures in
-    (λ _. record { of = M.meaning c.index-list-i.result; listed = listed; same = same }, λ _. refl)
-
-pub returns-clause-found : goal.returns-clause-found
-returns-clause-found g c =
-    let M = g.Q.M.Motion in
-    let K = modulo M (g.Q.Quotient.IsShift c.args.q.now) in
-    let none = all_items M.meaning c.args.list.now (λ n. ¬ IsSame K (M.meaning c.args.m.now) n) M.one c.loop-i.i c.loop-i-test.false c.loop-i.invariant in
-    (λ e. cc, λ h. absurd (none h.of h.listed h.same))
+    let list = c.args.list.now in
+    let homes = g.met.Q.Quotient.homes c.args.q.now c.args.m.now in
+    let P = IsSame K (M.meaning c.args.m.now) in
+    let told = first_same K M.meaning (M.meaning c.args.m.now) c.position.result list
+    (IsFirst-from_position _ _ c.position.result (λ n. P (M.meaning n)) (λ n. ¬ P (M.meaning n)) c.position.ensures.ran (YieldsList-from_slice list cc) (λ x q k. (homes x.now).1 (search (rules, tests, g.met.Q.M.Motion.equal))) (λ x q k. (search rules, λ s. let e = (homes x.now).0 s in search (rules, tests, g.met.Q.M.Motion.equal)))) in
+    record { found = told.0; first = told.1 }
