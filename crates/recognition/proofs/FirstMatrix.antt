@@ -1,5 +1,5 @@
 -- The first matrix of a table.
-use Rattle.std.proofs.Common.{◌≡◌, ℕ, ◌<◌, ◌⊎◌, inl, inr, ℤ, Bool, List, length, map, slice_index_or, sym, ◌∙◌, ap, subst, arith}
+use Rattle.std.proofs.Common.{◌≡◌, ℕ, ◌<◌, inl, inr, ℤ, Bool, List, length, map, slice_index_or, sym, ◌∙◌, ap, subst, arith}
 use Rattle.std.proofs.lemmas.List.{get_or_default, get_or-map, length-map}
 use Rattle.integers.proofs.Order.{compare_nat}
 use Rattle.quotient.proofs.ListLaws.{All-from_map, Contains-from_map}

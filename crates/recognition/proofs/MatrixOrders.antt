@@ -1,5 +1,5 @@
 -- The order of matrices: it is total, and of two matrices at most one stands before the other.
-use Rattle.std.proofs.Common.{◌≡◌, ◌⊎◌, inl, inr, sym, arith}
+use Rattle.std.proofs.Common.{◌≡◌, ℕ, ◌<◌, ◌⊎◌, inl, inr, sym, arith}
 use Rattle.std.proofs.lemmas.Int.{ints}
 use Rattle.integers.proofs.Order.{compare_int, compare_nat}
 use Rattle.motions.specs.PlaneMatrices.{Matrix2}
