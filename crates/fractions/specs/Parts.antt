@@ -1,6 +1,6 @@
--- Parts of a cell edge modulo whole edges.
+-- Parts of a cell edge, and half parts, modulo whole edges.
 use Rattle.std.specs.Prelude.{◌≡◌, ℤ, pos, ◌+ℤ◌, ◌*ℤ◌, ◌≤ℤ◌, ◌<ℤ◌}
-use Rattle.std.specs.Int.{int_rem_euclid}
+use Rattle.std.specs.Int.{int_div, int_rem_euclid}
 use Rattle.fractions.specs.declared.part.TheConstants.{UNIT}
 
 -- what is left of a number of parts without the whole edges in it
@@ -13,3 +13,15 @@ pub record IsReduced (parts rest : ℤ) : Type 0 where
   pub below : rest <ℤ UNIT
   pub edges : ℤ
   pub is : parts ≡ rest +ℤ edges *ℤ UNIT
+
+-- half a cell edge, in parts
+abbrev pub half_an_edge : ℤ
+half_an_edge = int_div UNIT (pos 2)
+
+-- a cell edge, in half parts
+abbrev pub edge : ℤ
+edge = pos 2 *ℤ UNIT
+
+-- what is left of a number of half parts without the whole edges in it
+abbrev pub rest_of_edge : ℤ → ℤ
+rest_of_edge n = int_rem_euclid n edge

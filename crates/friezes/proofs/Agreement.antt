@@ -2,7 +2,7 @@
 use Rattle.std.proofs.Common.{◌≡◌, ℤ, pos, ◌+ℤ◌, ◌-ℤ◌, ◌*ℤ◌, subst, arith}
 use Rattle.std.specs.Prelude.{⊤, Option, Some, None}
 use Rattle.std.proofs.lemmas.Int.{ints}
-use Rattle.friezes.specs.Lines.{edge}
+use Rattle.fractions.specs.Parts.{edge}
 
 -- nothing has the property, or exactly one number and those whole edges away
 abbrev pub Shows : (ℤ → Type 0) → Option ℤ → Type 0

@@ -3,6 +3,7 @@ use Rattle.std.proofs.Common.{◌≡◌, ℕ, ℤ, pos, ◌+ℤ◌, ◌-ℤ◌, 
 use Rattle.std.proofs.lemmas.Int.{ints}
 use Rattle.fractions.specs.declared.part.TheConstants.{UNIT}
 use Rattle.fractions.specs.Fraction.{SameFraction, IsWhole, fraction_minus}
+use Rattle.fractions.specs.Parts.{edge}
 use Rattle.quotient.specs.Closure.{IsFactor, IsProduct}
 use Rattle.motions.specs.declared.motion.Sign.{Sign}
 use Rattle.motions.specs.declared.motion.Sign.TheVariants.{Plus, Minus}
@@ -14,7 +15,6 @@ use Rattle.line_types.specs.FriezeRows.{frieze_row}
 use Rattle.line_types.specs.Laws.FriezeLaws.{frieze_line_laws}
 use Rattle.friezes.specs.declared.line_op.LineOp.{LineOp}
 use Rattle.friezes.specs.declared.found_frieze.TheConstants.{GRID}
-use Rattle.friezes.specs.Lines.{edge}
 use Rattle.friezes.specs.RationalLines.{RationalLine, IsRationalLine, IsListedLine, half_parts}
 use Rattle.friezes.specs.Changes.{CarriesOnto, IsCarried, grid_part, origin_moved}
 use Rattle.friezes.specs.Types.{IsOfFriezeType}

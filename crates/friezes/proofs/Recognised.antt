@@ -4,15 +4,15 @@ use Rattle.std.specs.Prelude.{⊤, All, MatchOption, Option, Some, None, cond, u
 use Rattle.std.specs.Ordering.{int_eq}
 use Rattle.std.proofs.lemmas.Int.{ints}
 use Rattle.fractions.specs.declared.part.TheConstants.{UNIT}
+use Rattle.fractions.specs.Parts.{edge, rest_of_edge}
 use Rattle.motions.specs.declared.motion.Sign.{Sign}
 use Rattle.motions.specs.declared.motion.Sign.TheVariants.{Plus, Minus}
 use Rattle.friezes.specs.declared.line_op.LineOp.{LineOp}
 use Rattle.friezes.specs.declared.found_frieze.TheConstants.{GRID}
-use Rattle.friezes.specs.Lines.{edge}
 use Rattle.friezes.specs.Laws.ShiftLaws.{divided, one_rest}
 use Rattle.friezes.specs.Order.{Change, IsBounded, IsFirst}
 use Rattle.friezes.specs.Sections.{IsSection}
-use Rattle.friezes.specs.Told.{StandsAt, mirror_or_glide, number_of, origin_of, rest_of_edge}
+use Rattle.friezes.specs.Told.{StandsAt, mirror_or_glide, number_of, origin_of}
 use Rattle.friezes.specs.Types.{HasChange}
 use Rattle.friezes.proofs.Agreement.{Agree, Shows, agree, itself, moves}
 use Rattle.friezes.proofs.Bridge.{InList, carries_moves, moved, moves_carries}

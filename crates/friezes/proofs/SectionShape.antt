@@ -4,13 +4,14 @@ use Rattle.std.specs.Prelude.{All, Contains, MatchOption, Option, Some, None}
 use Rattle.std.proofs.lemmas.Int.{ints}
 use Rattle.std.proofs.lemmas.List.{get_or-map, get_or_default, length-map}
 use Rattle.std.proofs.lemmas.List.Elements.{All-contains}
+use Rattle.fractions.specs.Parts.{edge}
 use Rattle.motions.specs.declared.motion.Sign.{Sign}
 use Rattle.motions.specs.declared.motion.Sign.TheVariants.{Plus, Minus}
 use Rattle.motions.specs.Signs.{sign_product, sign_value}
 use Rattle.motions.specs.Laws.SignLaws.{sign_product-same}
 use Rattle.motions.specs.FriezeMotions.{FriezeOperation, frieze_followed_by, frieze_identity}
 use Rattle.friezes.specs.declared.line_op.LineOp.{LineOp}
-use Rattle.friezes.specs.Lines.{edge, line_of}
+use Rattle.friezes.specs.Lines.{line_of}
 use Rattle.friezes.specs.Laws.ShiftLaws.{same_to}
 use Rattle.friezes.specs.Sections.{IsSection, IsTurnOrShift}
 use Rattle.friezes.specs.Told.{StandsAt}

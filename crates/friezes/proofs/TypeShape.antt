@@ -1,6 +1,6 @@
 -- The motions of each frieze type: at each pair of signs none, or one but for whole edges.
 use Rattle.std.proofs.Common.{◌≡◌, ℕ, zero, suc, ◌-◌, ◌≤◌, ℤ, pos, ◌+ℤ◌, ◌*ℤ◌, refl, sym, ◌∙◌, ap, subst, arith, List, [], ◌∷◌, slice_index_or, Bool, true, false, IsTrue}
-use Rattle.std.specs.Prelude.{Option, Some, None, Contains, int_div, ◌&&◌, cond}
+use Rattle.std.specs.Prelude.{Option, Some, None, Contains, ◌&&◌, cond}
 use Rattle.std.specs.List.{list_all}
 use Rattle.std.specs.Ordering.{int_eq}
 use Rattle.std.specs.Cmp.{first_so, second_so}
@@ -9,6 +9,7 @@ use Rattle.std.proofs.lemmas.Bool.Decides.{Decides-int_eq}
 use Rattle.std.proofs.lemmas.List.Elements.{All-contains}
 use Rattle.std.proofs.lemmas.List.Sums.{AllPass-from_list_all}
 use Rattle.fractions.specs.declared.part.TheConstants.{UNIT}
+use Rattle.fractions.specs.Parts.{edge, half_an_edge}
 use Rattle.quotient.specs.Kind.{IsSame, Kind}
 use Rattle.motions.specs.declared.motion.Sign.{Sign}
 use Rattle.motions.specs.declared.motion.Sign.TheVariants.{Plus, Minus}
@@ -21,7 +22,6 @@ use Rattle.line_types.specs.FriezeRows.{frieze_row}
 use Rattle.line_types.specs.Types.{IsLineType, LineType}
 use Rattle.line_types.specs.Laws.FriezeLaws.{frieze_line_laws}
 use Rattle.line_types.proofs.LineTests as line_tests
-use Rattle.friezes.specs.Lines.{edge}
 use Rattle.friezes.proofs.Agreement.{Shows}
 use Rattle.friezes.proofs.Bridge.{InType}
 
@@ -30,9 +30,6 @@ use Rattle.friezes.proofs.Bridge.{InType}
 abbrev op : Sign → Sign → ℤ → FriezeOperation
 op f e t = record { along = f; across = e; translation = t }
 
-abbrev half : ℤ
-half = int_div UNIT (pos 2)
-
 -- in the order of the numbers, from 1
 abbrev frieze_ops : List (List FriezeOperation)
 frieze_ops =
@@ -40,9 +37,9 @@ frieze_ops =
     (frieze_identity ∷ op Minus Minus (pos 0) ∷ []) ∷
     (frieze_identity ∷ op Minus Plus (pos 0) ∷ []) ∷
     (frieze_identity ∷ op Plus Minus (pos 0) ∷ []) ∷
-    (frieze_identity ∷ op Plus Minus half ∷ []) ∷
+    (frieze_identity ∷ op Plus Minus half_an_edge ∷ []) ∷
     (frieze_identity ∷ op Plus Minus (pos 0) ∷ op Minus Plus (pos 0) ∷ op Minus Minus (pos 0) ∷ []) ∷
-    (frieze_identity ∷ op Plus Minus half ∷ op Minus Plus half ∷ op Minus Minus (pos 0) ∷ []) ∷
+    (frieze_identity ∷ op Plus Minus half_an_edge ∷ op Minus Plus half_an_edge ∷ op Minus Minus (pos 0) ∷ []) ∷
     []
 
 abbrev pub ops : ℕ → List FriezeOperation
@@ -78,7 +75,7 @@ is_type = seven Is (by_tests 1 refl) (by_tests 2 refl) (by_tests 3 refl) (by_tes
 abbrev has_signs : Sign → Sign → FriezeOperation → Bool
 has_signs f e o = same_sign o.along f && same_sign o.across e
 
--- its translation in half parts
+-- its translation in half_an_edge parts
 abbrev pub of_signs : Sign → Sign → List FriezeOperation → Option ℤ
 of_signs f e [] = None
 of_signs f e (o ∷ os) = cond (has_signs f e o) (Some (pos 2 *ℤ o.translation)) (of_signs f e os)

@@ -1,7 +1,6 @@
 -- What motions do along a line, and the lattice along it.
-use Rattle.std.specs.Prelude.{◌≡◌, ℤ, pos, ◌*ℤ◌}
-use Rattle.std.specs.Int.{int_rem_euclid}
-use Rattle.fractions.specs.declared.part.TheConstants.{UNIT}
+use Rattle.std.specs.Prelude.{◌≡◌, ℤ, ◌*ℤ◌}
+use Rattle.fractions.specs.Parts.{edge, rest_of_edge}
 use Rattle.quotient.specs.Kind.{Kind, kind_of}
 use Rattle.motions.specs.FriezeMotions.{FriezeOperation, frieze_followed_by, frieze_identity, frieze_translation}
 use Rattle.friezes.specs.declared.line_op.LineOp.{LineOp}
@@ -9,10 +8,6 @@ use Rattle.friezes.specs.declared.line_op.LineOp.{LineOp}
 -- the operation that a LineOp is, with its translation in half parts
 abbrev pub line_of : LineOp → FriezeOperation
 line_of m = record { along = m.f; across = m.e; translation = m.t }
-
--- the cell edge along the line, in half parts
-abbrev pub edge : ℤ
-edge = pos 2 *ℤ UNIT
 
 -- the translation by a whole number of cell edges
 pub record IsLineShift (m : LineOp) : Type 0 where
@@ -25,4 +20,4 @@ line_kind = kind_of line_of frieze_followed_by frieze_identity IsLineShift
 
 -- the motion with its translation from 0 to below the cell edge
 abbrev pub line_home : LineOp → LineOp
-line_home m = record m { t = int_rem_euclid m.t edge }
+line_home m = record m { t = rest_of_edge m.t }

@@ -1,9 +1,9 @@
 -- Motions along a line with rational translations, and the sets that lists of them stand for.
 use Rattle.std.specs.Prelude.{◌≡◌, ℤ, List, Contains}
 use Rattle.fractions.specs.Fraction.{Fraction, IsFraction, IsWhole, fraction_minus}
+use Rattle.fractions.specs.Parts.{edge}
 use Rattle.motions.specs.declared.motion.Sign.{Sign}
 use Rattle.friezes.specs.declared.line_op.LineOp.{LineOp}
-use Rattle.friezes.specs.Lines.{edge}
 
 -- (f, e, t): the sign f along the line, the sign e across it, and a rational part t of the cell edge along it
 pub record RationalLine : Type 0 where

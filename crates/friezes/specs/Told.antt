@@ -1,10 +1,9 @@
 -- What tells the frieze type and the origin: the translations of the motions of each pair of signs.
 use Rattle.std.specs.Prelude.{◌≡◌, ℕ, ℤ, pos, Option, Some, None, cond, unsigned_abs, List, Contains}
 use Rattle.std.specs.Ordering.{int_eq}
-use Rattle.std.specs.Int.{int_rem_euclid}
+use Rattle.fractions.specs.Parts.{edge, rest_of_edge}
 use Rattle.motions.specs.declared.motion.Sign.{Sign}
 use Rattle.friezes.specs.declared.line_op.LineOp.{LineOp}
-use Rattle.friezes.specs.Lines.{edge}
 
 -- a motion of the list with these signs, and its translation
 pub record StandsAt (list : List LineOp) (f e : Sign) (t : ℤ) : Type 0 where
@@ -13,10 +12,6 @@ pub record StandsAt (list : List LineOp) (f e : Sign) (t : ℤ) : Type 0 where
   pub along : motion.f ≡ f
   pub across : motion.e ≡ e
   pub translation : motion.t ≡ t
-
--- without the whole cell edges in it
-abbrev pub rest_of_edge : ℤ → ℤ
-rest_of_edge t = int_rem_euclid t edge
 
 -- the one number for a mirror, a glide by nothing, and the other for a glide by half an edge
 abbrev pub mirror_or_glide : ℕ → ℕ → ℤ → ℕ

@@ -1,7 +1,8 @@
 // The lattice along a line as the shifts that motions along it are taken modulo.
 ghost use Rattle.std.specs.Prelude.{◌≡◌, ◌^◌, ◌≤ℤ◌, ◌<ℤ◌, pos};
+ghost use Rattle.fractions.specs.Parts.{edge};
 ghost use Rattle.friezes.specs.Laws.ShiftLaws.{by_meaning_lem, home_is_same_lem, homes_lem, shifts_lem};
-ghost use Rattle.friezes.specs.Lines.{IsLineShift, edge, line_home, line_of};
+ghost use Rattle.friezes.specs.Lines.{IsLineShift, line_home, line_of};
 
 use crate::line_op::{EDGE, LineOp};
 use quotient::{Motion, Quotient};

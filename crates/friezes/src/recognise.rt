@@ -1,8 +1,9 @@
 // The frieze type of a section along a line.
 ghost use Rattle.std.specs.Prelude.{◌≡◌, All, MatchOption};
+ghost use Rattle.fractions.specs.Parts.{rest_of_edge};
 ghost use Rattle.friezes.specs.Order.{IsFirst};
 ghost use Rattle.friezes.specs.Sections.{IsSection};
-ghost use Rattle.friezes.specs.Told.{StandsAt, mirror_or_glide, number_of, origin_of, rest_of_edge};
+ghost use Rattle.friezes.specs.Told.{StandsAt, mirror_or_glide, number_of, origin_of};
 ghost use Rattle.friezes.specs.Types.{HasChange, change_of};
 
 use crate::found_frieze::FoundFrieze;

@@ -19,6 +19,7 @@ use lib.Signed.{le_z_yes, lt_z_yes}
 use mathlib.Core.Bool.{beq}
 use Rattle.integers.specs.Size.{IsWithin}
 use Rattle.integers.proofs.Ring.{IsWithin-more}
+use Rattle.fractions.specs.Parts.{edge}
 use Rattle.quotient.specs.Kind.{Keeps}
 use Rattle.quotient.specs.Check.{meets}
 use Rattle.quotient.specs.Order.{in_order}
@@ -29,7 +30,7 @@ use Rattle.motions.specs.PlaneSizes.{IsMatrix2Within, IsPairWithin}
 use Rattle.motions.specs.Layers.{HasHalfPart, IsOdd, IsPlanarSmall, PlanarMotion, planar_of}
 use Rattle.motions.specs.Laws.LayerLaws.{planar_followed_by_laws}
 use Rattle.layer_types.specs.declared.layer_type.LayerType.{LayerType}
-use Rattle.layer_types.specs.Lattices.{IsReduced, edge, keeps_lattice, layer_kind}
+use Rattle.layer_types.specs.Lattices.{IsReduced, keeps_lattice, layer_kind}
 use Rattle.layer_types.specs.Laws.ShiftLaws.{keeps_is, shifts_lem}
 use Rattle.layer_types.specs.Rows.{Row, layer_row}
 use Rattle.layer_types.specs.LayerTypes.{HaveOneBlock, IsLayerType, layer_form}

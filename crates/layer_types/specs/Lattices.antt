@@ -1,17 +1,13 @@
 -- The lattice of a layer type, the motions modulo it, and the motion at home.
 use Rattle.std.specs.Prelude.{◌≡◌, ℤ, pos, ◌+ℤ◌, ◌-ℤ◌, ◌*ℤ◌, ◌≤ℤ◌, ◌<ℤ◌, ◌⊎◌, IsTrue, Bool, cond, ◌&&◌, ◌||◌, not, int_lt, List, [], ◌∷◌}
 use Rattle.std.specs.Ordering.{int_eq}
-use Rattle.std.specs.Int.{int_rem_euclid}
 use Rattle.fractions.specs.declared.part.TheConstants.{UNIT}
+use Rattle.fractions.specs.Parts.{edge, rest_of_edge}
 use Rattle.quotient.specs.Kind.{Kind, kind_of}
 use Rattle.motions.specs.declared.motion.Sign.TheVariants.{Plus}
 use Rattle.motions.specs.declared.layer.LayerMotion.{LayerMotion}
 use Rattle.motions.specs.PlaneMatrices.{Matrix2, Pair, image2, minus2, unit2}
 use Rattle.motions.specs.Layers.{planar_followed_by, planar_identity, planar_of}
-
--- a cell edge, in half parts
-abbrev pub edge : ℤ
-edge = pos 2 *ℤ UNIT
 
 -- half a cell edge, in half parts
 abbrev pub half_edge : ℤ
@@ -60,10 +56,6 @@ pub record IsHome (centred : Bool) (v h : Pair) : Type 0 where
   pub first : (u : Pair) → IsReduced u → InLattice centred (minus2 u v) → IsLexAtMost h u
 
 -- ---- what the code computes
-
--- without the whole edges in it
-abbrev pub rest_of_edge : ℤ → ℤ
-rest_of_edge n = int_rem_euclid n edge
 
 -- whether no centring takes half an edge off the first entry of a vector
 abbrev pub is_near : Bool → ℤ → Bool

@@ -7,7 +7,7 @@ use Rattle.integers.specs.Size.{Divides}
 use Rattle.integers.proofs.Division.{floor}
 use Rattle.integers.proofs.Solver.{Expr.{var, num, ◌⊕◌, ◌⊝◌, ◌⊗◌}, linear, given, ring}
 use Rattle.symmetry.specs.Vectors.{Vector, plus, multiple, dot, cross}
-use Rattle.symmetry.specs.Groups.{Listing, IsInLattice}
+use Rattle.symmetry.specs.Groups.{Listing, IsInLattice, third_edge}
 use Rattle.symmetry.specs.Planes.{IsCoprime}
 use Rattle.symmetry.specs.Frames.{Basis, combination, IsFrame}
 use Rattle.symmetry.specs.HeightMotions.{IsSign}
@@ -15,7 +15,6 @@ use Rattle.symmetry.proofs.LatticeLaws.{lattice-made, lattice-minus, lattice-mul
 use Rattle.symmetry.proofs.VectorLaws.{vector_path}
 use Rattle.symmetry.proofs.Signs.{sign-square}
 use Rattle.plane_lattice.proofs.FrameTestFacts.{tests_make_frame}
-use Rattle.line_frames.specs.LineFrames.{third_edge}
 use Rattle.line_frames.specs.Searches.{along_lines, IsFirstAbove, IsRepeat}
 use Rattle.line_frames.proofs.Along.{dot-along_lines}
 use Rattle.line_frames.proofs.Forward.{a_inside, multiple_of_a}

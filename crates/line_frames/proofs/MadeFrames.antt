@@ -11,7 +11,7 @@ use Rattle.integers.proofs.Coded.{again, code_is}
 use Rattle.integers.proofs.Ring.{IsWithin-mul}
 use Rattle.integers.proofs.Solver.{Expr.{var, num, ◌⊝◌, ◌⊗◌}}
 use Rattle.symmetry.specs.Vectors.{Vector, dot, multiple, opposite}
-use Rattle.symmetry.specs.Groups.{Listing, IsGroup, SameModulo}
+use Rattle.symmetry.specs.Groups.{Listing, IsGroup, SameModulo, third_edge}
 use Rattle.symmetry.specs.Sizes.{IsVectorWithin}
 use Rattle.symmetry.specs.Frames.{Basis, IsFrame, IsPeriod, mean_of}
 use Rattle.symmetry.specs.Listings.{AreAlike}
@@ -25,7 +25,6 @@ use Rattle.plane_lattice.specs.Bounds.{largest_entry}
 use Rattle.plane_lattice.specs.Coordinates.{vectors}
 use Rattle.plane_lattice.specs.Scanning.{scanning_ops, IsPointOf}
 use Rattle.plane_lattice.proofs.ScanningFacts.{scanning_ops_are, some_scanning}
-use Rattle.line_frames.specs.LineFrames.{third_edge}
 use Rattle.line_frames.specs.Lines.{first_two, IsLineFrame}
 use Rattle.plane_groups.specs.PlaneGroups.{IsFlatGroup}
 use Rattle.line_frames.specs.Searches.{along_lines, IsFirstAbove, IsForwardAlong, IsMeanUp, IsRepeat, IsSense}

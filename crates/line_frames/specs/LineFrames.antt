@@ -1,21 +1,16 @@
 -- What line_frame gives.
 use Rattle.std.specs.Prelude.{◌≡◌, ◌⊎◌, pos, List}
-use Rattle.fractions.specs.declared.part.TheConstants.{UNIT}
 use Rattle.symmetry.specs.Frames.{IsFrame, IsPeriod, mean_of}
-use Rattle.symmetry.specs.Groups.{Listing}
+use Rattle.symmetry.specs.Groups.{Listing, third_edge}
 use Rattle.symmetry.specs.Lists.{AreScanning}
 use Rattle.symmetry.specs.Motions.{Motion}
-use Rattle.symmetry.specs.Vectors.{Vector, opposite}
+use Rattle.symmetry.specs.Vectors.{opposite}
 use Rattle.motions.specs.Views.{parts, row_of}
 use Rattle.motions.specs.declared.miller.Miller.{Miller}
 use Rattle.plane_lattice.specs.FrameView.{basis_of_frame}
 use Rattle.plane_lattice.specs.Scanning.{IsPointOf}
 use Rattle.plane_lattice.specs.declared.frame.Frame.{Frame}
 use Rattle.line_frames.specs.Lines.{IsLineFrame, first_two}
-
--- the edge of the cell along the third axis
-abbrev pub third_edge : Vector
-third_edge = record { x = pos 0; y = pos 0; z = UNIT }
 
 -- the frame of what is listed and the planes (h k 0), skewed or not, in which a and tau are those of the lines (h k) and b
 -- is the third edge or its opposite; with the period and the vector c', the mean over the scanning operations

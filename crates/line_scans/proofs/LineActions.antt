@@ -5,6 +5,7 @@ use Rattle.fractions.specs.declared.part.TheConstants.{UNIT}
 use Rattle.fractions.specs.Fraction.{SameFraction}
 use Rattle.integers.proofs.Order.{mul_left_cancel_pos}
 use Rattle.integers.proofs.Solver.{Expr, Expr.{var, num, neg, ◌⊕◌, ◌⊝◌, ◌⊗◌}, ring, linear, given}
+use Rattle.fractions.specs.Parts.{edge}
 use Rattle.motions.specs.PlaneMatrices.{Matrix2, Pair, image2, minus2, origin2, plus2, product2}
 use Rattle.motions.specs.Signs.{sign_product, sign_value}
 use Rattle.motions.specs.declared.motion.Sign.{Sign}
@@ -12,7 +13,6 @@ use Rattle.motions.specs.declared.motion.Sign.TheVariants.{Plus, Minus}
 use Rattle.motions.specs.FriezeMotions.{FriezeOperation, frieze_followed_by, frieze_identity}
 use Rattle.motions.specs.Laws.PlaneMatrixLaws.{pair_path, image2-product, image2-unit}
 use Rattle.plane_motions.specs.PlaneMotions.{PlaneMotion, plane_followed_by, plane_identity}
-use Rattle.friezes.specs.Lines.{edge}
 use Rattle.friezes.specs.RationalLines.{RationalLine, half_parts}
 use Rattle.line_frames.specs.Lines.{times2}
 use Rattle.line_scans.specs.Lines.{PlanePoint, moved2}

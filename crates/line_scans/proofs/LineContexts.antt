@@ -9,7 +9,7 @@ use Rattle.integers.proofs.Solver.{Expr.{var, num, neg, ◌⊕◌, ◌⊗◌}, l
 use Rattle.symmetry.specs.Vectors.{Vector, dot, image, multiple, opposite, plus, row_times}
 use Rattle.symmetry.specs.Motions.{Motion, identity}
 use Rattle.symmetry.specs.Planes.{IsCoprime}
-use Rattle.symmetry.specs.Groups.{Listing, IsGroup, IsMember, SameModulo}
+use Rattle.symmetry.specs.Groups.{Listing, IsGroup, IsMember, SameModulo, third_edge}
 use Rattle.symmetry.specs.Frames.{Basis, DiffersInPlane, IsAtHome, IsFrame, total_up}
 use Rattle.symmetry.specs.Lists.{AreScanning, IsFirstPlace, IsListOf, ListsInPlane, motion_at}
 use Rattle.symmetry.specs.Lists as lists
@@ -28,7 +28,6 @@ use Rattle.motions.specs.Laws.PlaneMatrixLaws.{pair_path}
 use Rattle.motions.specs.Laws.SignLaws.{sign_is_sign}
 use Rattle.plane_lattice.proofs.SectionLaws.{above_mean}
 use Rattle.plane_motions.specs.PlaneMotions.{IsFlat, PlaneMotion, plane_block}
-use Rattle.line_frames.specs.LineFrames.{third_edge}
 use Rattle.line_frames.specs.Lines.{IsAlong, IsInPlaneLattice, first_two, in_space, times2}
 use Rattle.line_scans.specs.Lines.{FixesEveryLine, IsPlaneMember, IsSameInPlane, PlanePoint}
 use Rattle.line_scans.specs.LineLists.{ComesBefore, DiffersAlong, ExactlyOne, IsAtLineHome, IsLineList, plane_at}

@@ -6,6 +6,7 @@ use Rattle.std.proofs.lemmas.List.{get_or_default}
 use Rattle.integers.proofs.Order.{mul_left_cancel_pos}
 use Rattle.integers.proofs.Ring.{mul_zero, zero_add, zero_mul}
 use Rattle.integers.proofs.Solver.{Expr.{var, num, neg, ◌⊕◌, ◌⊝◌, ◌⊗◌}, linear, ring, given}
+use Rattle.fractions.specs.Parts.{edge}
 use Rattle.quotient.specs.Kind.{IsSame}
 use Rattle.quotient.specs.Lists.{IsListed}
 use Rattle.quotient.specs.Groups as groups
@@ -17,7 +18,7 @@ use Rattle.motions.specs.Laws.FriezeLaws.{frieze_path}
 use Rattle.motions.specs.Laws.PlaneMatrixLaws.{pair_path}
 use Rattle.plane_motions.specs.PlaneMotions.{PlaneMotion, plane_followed_by, plane_identity}
 use Rattle.friezes.specs.declared.line_op.LineOp.{LineOp}
-use Rattle.friezes.specs.Lines.{edge, line_kind, line_of}
+use Rattle.friezes.specs.Lines.{line_kind, line_of}
 use Rattle.friezes.specs.RationalLines.{IsListedLine, IsRationalLine, RationalLine}
 use Rattle.friezes.specs.Sections.{IsSection}
 use Rattle.friezes.specs.Laws.ShiftLaws.{ByEdges, keeps, same_from}

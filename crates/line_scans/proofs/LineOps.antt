@@ -6,6 +6,7 @@ use Rattle.fractions.specs.Fraction.{SameFraction}
 use Rattle.integers.proofs.Order.{mul_left_cancel_pos}
 use Rattle.integers.proofs.Solver.{Expr, Expr.{var, num, ◌⊕◌, ◌⊝◌, ◌⊗◌}, linear, ring, given}
 use Rattle.integers.proofs.Ring.{mul_zero}
+use Rattle.fractions.specs.Parts.{edge}
 use Rattle.symmetry.specs.Vectors.{Vector, dot, image, minus, multiple, plus}
 use Rattle.symmetry.specs.Planes.{Height, IsCoprime, IsHeight}
 use Rattle.symmetry.specs.Groups.{Listing, IsGroup, IsInLattice}
@@ -19,7 +20,7 @@ use Rattle.motions.specs.Laws.PlaneMatrixLaws.{pair_path}
 use Rattle.plane_lattice.specs.Sections.{drift, height_in_steps}
 use Rattle.plane_motions.specs.PlaneMotions.{PlaneMotion, plane_block}
 use Rattle.friezes.specs.declared.line_op.LineOp.{LineOp}
-use Rattle.friezes.specs.Lines.{edge, line_of}
+use Rattle.friezes.specs.Lines.{line_of}
 use Rattle.line_frames.specs.Lines.{IsAlong, IsInPlaneLattice, first_two, in_space, times2}
 use Rattle.line_scans.specs.Lines.{InLineStabiliser, IsPlaneMember, PlanePoint}
 use Rattle.line_scans.specs.LineOps.{HasLineOp, IsLineOp}

@@ -6,7 +6,7 @@ use Rattle.fractions.specs.declared.part.TheConstants.{UNIT}
 use Rattle.symmetry.specs.Vectors.{Vector, Matrix, dot, image, minus, multiple, plus}
 use Rattle.symmetry.specs.Motions.{Motion, Point, moved}
 use Rattle.symmetry.specs.Planes.{Height, IsOn, KeepsPlane}
-use Rattle.symmetry.specs.Groups.{Listing, FixesEveryPlane, InStabiliser, IsInLattice, IsMember, SameModulo}
+use Rattle.symmetry.specs.Groups.{Listing, FixesEveryPlane, InStabiliser, IsInLattice, IsMember, SameModulo, third_edge}
 use Rattle.symmetry.specs.Listings.{AreAlike}
 use Rattle.symmetry.specs.Frames.{IsSpecial}
 use Rattle.symmetry.proofs.LatticeLaws.{lattice-made, lattice-minus, lattice-plus, same_refl, lattice-multiple}
@@ -20,7 +20,7 @@ use Rattle.line_scans.specs.Lines.{FixesEveryLine, InLineStabiliser, IsOnLine, I
 
 -- ---- points
 
--- a point of space without its third entry, and one of the plane in space
+-- a point of space without its third_edge entry, and one of the plane in space
 abbrev pub below : Point → PlanePoint
 below p = record { at = first_two p.at; over = p.over }
 
@@ -38,7 +38,7 @@ on_plane r s p =
 
 -- ---- flat matrices
 
--- the third row and column are those of the unit matrix
+-- the third_edge row and column are those of the unit matrix
 pub record IsFlatMatrix (w : Matrix) : Type 0 where
   pub row_x : w.third.x ≡ pos 0
   pub row_y : w.third.y ≡ pos 0
@@ -46,7 +46,7 @@ pub record IsFlatMatrix (w : Matrix) : Type 0 where
   pub column_x : w.first.z ≡ pos 0
   pub column_y : w.second.z ≡ pos 0
 
--- a motion of space without its third row, column and entry
+-- a motion of space without its third_edge row, column and entry
 abbrev pub pair_motion : Motion → PlaneMotion
 pair_motion m = record {
   matrix = record { first = first_two m.matrix.first; second = first_two m.matrix.second };
@@ -103,31 +103,27 @@ pub record IsFlatModulo (g : Listing) : Type 0 where
   pub shifts : (m : Motion) → IsMember g m → (k : ℤ) × (m.translation.z ≡ k *ℤ UNIT)
   pub heights : (t : Vector) → IsInLattice g t → (k : ℤ) × (t.z ≡ k *ℤ UNIT)
 
--- the edge of the cell along the third axis
-abbrev third : Vector
-third = record { x = pos 0; y = pos 0; z = UNIT }
-
-third_in : (g : Listing) (k : ℤ) → IsInLattice g (multiple k third)
-third_in g k = lattice-multiple g k third (lattice-made g third (inl (2, lit< tt, refl)))
+third_in : (g : Listing) (k : ℤ) → IsInLattice g (multiple k third_edge)
+third_in g k = lattice-multiple g k third_edge (lattice-made g third_edge (inl (2, lit< tt, refl)))
 
 pub flat_minus : (v w : Pair) → minus (in_space v) (in_space w) ≡ in_space (minus2 v w)
 unfolding plus multiple
 flat_minus v w = vector_path (omega (arith, ints)) (omega (arith, ints)) refl
 
--- a vector with a whole third entry is in L exactly where it is so without that entry
+-- a vector with a whole third_edge entry is in L exactly where it is so without that entry
 module _ (g : Listing) (t : Vector) (k : ℤ) (whole : t.z ≡ k *ℤ UNIT) where
-  without_third : minus t (multiple k third) ≡ in_space (first_two t)
+  without_third : minus t (multiple k third_edge) ≡ in_space (first_two t)
   unfolding plus multiple
   without_third = vector_path (omega (arith, ints)) (omega (arith, ints)) (omega (arith, ints))
 
-  with_third : plus (in_space (first_two t)) (multiple k third) ≡ t
+  with_third : plus (in_space (first_two t)) (multiple k third_edge) ≡ t
   unfolding plus multiple
   with_third = vector_path (omega (arith, ints)) (omega (arith, ints)) (omega (arith, ints))
 
   pub lattice_by_plane : IsInLattice g t ↔ IsInPlaneLattice g (first_two t)
   lattice_by_plane = (
-    λ is. subst (IsInLattice g) without_third (lattice-minus g t (multiple k third) is (third_in g k)),
-    λ is. subst (IsInLattice g) with_third (lattice-plus g (in_space (first_two t)) (multiple k third) is (third_in g k)),
+    λ is. subst (IsInLattice g) without_third (lattice-minus g t (multiple k third_edge) is (third_in g k)),
+    λ is. subst (IsInLattice g) with_third (lattice-plus g (in_space (first_two t)) (multiple k third_edge) is (third_in g k)),
   )
 
 minus_below : (v w : Vector) → first_two (minus v w) ≡ minus2 (first_two v) (first_two w)
@@ -161,7 +157,7 @@ module _ (g : Listing) (flat : IsFlatModulo g) where
   listed_member : (m : Motion) → Contains g.ops m → IsMember g m
   listed_member m listed = record { of = m; listed = listed; same = same_refl g m }
 
-  -- the members of the plane are those of space without their third row, column and entry
+  -- the members of the plane are those of space without their third_edge row, column and entry
   pub pair_member : (m : Motion) → IsMember g m → IsPlaneMember g (pair_motion m)
   pair_member m member =
       let (k, whole) = flat.shifts m member in

@@ -4,7 +4,7 @@ use Rattle.fractions.specs.declared.part.TheConstants.{UNIT}
 use Rattle.fractions.specs.Fraction.{Fraction, SameFraction}
 use Rattle.integers.proofs.Solver.{Expr.{var, num, neg, ◌⊕◌, ◌⊗◌}, linear, given}
 use Rattle.symmetry.specs.Vectors.{Vector, Matrix, plus, multiple, image}
-use Rattle.symmetry.specs.Motions.{Motion, moved}
+use Rattle.symmetry.specs.Motions.{Motion, moved, SamePoint}
 use Rattle.symmetry.specs.Planes.{IsCoprime}
 use Rattle.symmetry.specs.Groups.{Listing, IsInLattice, IsMember, IsGroup}
 use Rattle.symmetry.specs.Frames.{Basis}
@@ -17,7 +17,6 @@ use Rattle.motions.specs.RodMotions.{RodOperation, rod_of}
 use Rattle.quotient.proofs.ListLaws.{Contains-from_map, Contains-map}
 use Rattle.recognition.specs.RationalRods.{RationalRod, IsRationalRod, IsListedRod, multiple2, part_of_axis}
 use Rattle.recognition.proofs.RodTypeLemma.{from_list, to_list}
-use Rattle.penetration.specs.Lines.{SamePoint}
 use Rattle.penetration.specs.RodFrames.{IsRodFrame, AreRodOperations, IsAcross, levelled}
 use Rattle.penetration.specs.RodSections.{AreSections, InRodSection, ListsAlong, counted, drift, point_on_axis}
 use Rattle.penetration.proofs.RodActions.{shift_is, acts, acts_once}

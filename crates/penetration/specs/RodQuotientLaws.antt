@@ -10,9 +10,8 @@ use Rattle.symmetry.proofs.VectorLaws.{vector_path, dot-plus, dot-multiple, mult
 use Rattle.symmetry.proofs.MatrixLaws.{image-multiple}
 use Rattle.symmetry.proofs.MotionLaws.{motion_path}
 use Rattle.motions.specs.declared.motion.Motion3.{Motion3}
-use Rattle.motions.specs.Views.{motion_of, parts}
+use Rattle.motions.specs.Views.{motion_of, parts, array_of}
 use Rattle.plane_lattice.specs.Coordinates.{volume}
-use Rattle.plane_lattice.specs.PlaneLattice.{of_vector}
 use Rattle.plane_lattice.specs.Laws.QuotientLaws.{cancelled, div_euclid-multiple, exchanged, followed_by-translation, translation-followed_by}
 use Rattle.penetration.specs.RodHomes.{IsAlongAxis, IsAxisShift, rod_home_of, rod_home_shift, whole_turns}
 
@@ -26,7 +25,7 @@ axis_shift f s = (m : Motion3) × IsAxisShift f (motion_of m) × (motion_of m �
 abbrev translation3 : Vector → Motion3
 translation3 v = record {
   w = (pos 1 ∷ pos 0 ∷ pos 0 ∷ []) ∷ (pos 0 ∷ pos 1 ∷ pos 0 ∷ []) ∷ (pos 0 ∷ pos 0 ∷ pos 1 ∷ []) ∷ [];
-  t = of_vector v;
+  t = array_of v;
 }
 
 -- the translation by a whole multiple of the axis is a shift

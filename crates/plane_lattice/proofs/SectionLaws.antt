@@ -8,7 +8,7 @@ use Rattle.integers.proofs.Order.{mul_left_cancel_pos, one-le-mul}
 use Rattle.integers.proofs.Ring.{mul_assoc, one_mul, zero_mul}
 use Rattle.integers.proofs.Solver.{Expr.{var, num, ◌⊗◌}, linear, ring, given}
 use Rattle.symmetry.specs.Vectors.{Vector, dot, image, multiple}
-use Rattle.symmetry.specs.Motions.{IsPoint, Motion, Point, identity, moved}
+use Rattle.symmetry.specs.Motions.{IsPoint, Motion, Point, identity, moved, SamePoint}
 use Rattle.symmetry.specs.Planes.{Height, IsCoprime, IsHeight, IsOn, KeepsPlane}
 use Rattle.symmetry.specs.Groups.{FixesEveryPlane, InStabiliser, IsGroup, Listing}
 use Rattle.symmetry.specs.Frames.{Basis, IsFrame, KeepsOrientation, mean_of, sign_at, total_up}
@@ -23,7 +23,7 @@ use Rattle.motions.specs.Layers.{planar_of}
 use Rattle.motions.specs.declared.layer.LayerMotion.{LayerMotion}
 use Rattle.motions.specs.Rationals.{DifferByWhole, InSection, RationalMotion, SameRationals, rational_of}
 use Rattle.plane_lattice.specs.Sections.{AreSeenAs, InGeneralSection, InSectionAt, IsSeenAs, IsSeenFrom, height_in_steps, in_cell, point_at}
-use Rattle.plane_lattice.proofs.SeenPoints.{IsSamePoint, seen_along, seen_same_point}
+use Rattle.plane_lattice.proofs.SeenPoints.{seen_along, seen_same_point}
 use Rattle.plane_lattice.proofs.SectionSets.{matrix_once, section_by_list, section_once, shift_once, side_once}
 
 -- ---- the mean
@@ -113,7 +113,7 @@ point_entry p q p' q' d v same =
     linear (p ∷ q ∷ p' ∷ q' ∷ d ∷ v ∷ []) (var 3 ⊗ var 4 ⊗ var 5 ⊗ (var 0 ⊗ num UNIT)) (var 1 ⊗ var 4 ⊗ var 5 ⊗ (var 2 ⊗ num UNIT))
     (given (var 4 ⊗ var 5 ⊗ num UNIT) (var 0 ⊗ var 3) (var 2 ⊗ var 1) ∷ []) tt (same, tt)
 
-pub same_point_at : (d : ℤ) (s s' : Height) (v : Point) → SameFraction s s' → IsSamePoint (point_at d s v) (point_at d s' v)
+pub same_point_at : (d : ℤ) (s s' : Height) (v : Point) → SameFraction s s' → SamePoint (point_at d s v) (point_at d s' v)
 same_point_at d s s' v same =
     multiple-multiple (s'.den *ℤ d *ℤ v.over) (s.num *ℤ UNIT) v.at
     ∙ ap (λ x. multiple x v.at) (point_entry s.num s.den s'.num s'.den d v.over same)
@@ -140,14 +140,14 @@ module _ (g : Listing) (r : Vector) (f : Basis) (frame : IsFrame g r f) (c : Poi
 -- ---- sections by lists
 
 -- all motions that leave c' as it is are seen from the origin as from any point along c'
-zero_along : (d : ℤ) (tau : Vector) (c : Point) → IsSamePoint (point_at d (height_in_steps d (pos 0)) (in_cell tau)) (record { at = multiple (pos 0) c.at; over = pos 1 })
+zero_along : (d : ℤ) (tau : Vector) (c : Point) → SamePoint (point_at d (height_in_steps d (pos 0)) (in_cell tau)) (record { at = multiple (pos 0) c.at; over = pos 1 })
 unfolding multiple
 zero_along d tau c = vector_path (zero_entry tau.x c.at.x) (zero_entry tau.y c.at.y) (zero_entry tau.z c.at.z)
   where
     zero_entry : (x y : ℤ) → pos 1 *ℤ (pos 0 *ℤ d *ℤ UNIT *ℤ x) ≡ pos 2 *ℤ UNIT *ℤ UNIT *ℤ d *ℤ UNIT *ℤ (pos 0 *ℤ y)
     zero_entry x y = ring (d ∷ x ∷ y ∷ []) (num (pos 1) ⊗ (num (pos 0) ⊗ var 0 ⊗ num UNIT ⊗ var 1)) (num (pos 2 *ℤ UNIT *ℤ UNIT) ⊗ var 0 ⊗ num UNIT ⊗ (num (pos 0) ⊗ var 2)) tt
 
-along_zero : (d : ℤ) (tau : Vector) (c : Point) → IsSamePoint (record { at = multiple (pos 0) c.at; over = pos 1 }) (point_at d (height_in_steps d (pos 0)) (in_cell tau))
+along_zero : (d : ℤ) (tau : Vector) (c : Point) → SamePoint (record { at = multiple (pos 0) c.at; over = pos 1 }) (point_at d (height_in_steps d (pos 0)) (in_cell tau))
 along_zero d tau c = sym (zero_along d tau c)
 
 module _ (g : Listing) (r : Vector) (f : Basis) (ms : List Motion) (group : IsGroup g) (coprime : IsCoprime r) (frame : IsFrame g r f)

@@ -7,6 +7,7 @@ use Rattle.std.proofs.lemmas.List.{get_or_default}
 use Rattle.fractions.specs.declared.part.TheConstants.{UNIT}
 use Rattle.integers.proofs.Order.{mul_left_cancel_pos, one-le-mul}
 use Rattle.integers.proofs.Solver.{Expr, Expr.{var, num, neg, ◌⊕◌, ◌⊝◌, ◌⊗◌}, ring, linear, given}
+use Rattle.fractions.specs.Parts.{edge}
 use Rattle.symmetry.specs.Vectors.{Vector, Matrix, plus, minus, multiple, cross, dot, image}
 use Rattle.symmetry.specs.Motions.{Motion, Point, moved}
 use Rattle.symmetry.specs.Groups.{Listing}
@@ -99,10 +100,6 @@ whole_back : (q e x x' l : ℤ) → x *ℤ e -ℤ x' *ℤ q ≡ q *ℤ e *ℤ l 
 whole_back q e x x' l is =
     linear (q ∷ e ∷ x ∷ x' ∷ l ∷ []) (var 1 ⊗ var 2) (var 0 ⊗ var 3 ⊕ var 0 ⊗ var 1 ⊗ var 4)
     (given (num (pos 1)) (var 2 ⊗ var 1 ⊝ var 3 ⊗ var 0) (var 0 ⊗ var 1 ⊗ var 4) ∷ []) tt (is, tt)
-
--- the coordinates in a half-part edge
-abbrev edge : ℤ
-edge = pos 2 *ℤ UNIT
 
 module _ (f : Basis) (q : ℤ) (p p' : Pair) (l : Vector) where
   abbrev sum : Vector

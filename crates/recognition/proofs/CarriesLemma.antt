@@ -3,9 +3,9 @@ use Rattle.std.proofs.Common.{◌≡◌, ℕ, ℤ, pos, ◌+ℤ◌, ◌-ℤ◌, 
 use Rattle.std.specs.Prelude.{Any, Contains}
 use Rattle.std.proofs.lemmas.Int.{ints}
 use Rattle.std.proofs.lemmas.List.Elements.{All-contains, All-contains_itself}
+use Rattle.fractions.specs.Parts.{edge}
 use Rattle.motions.specs.declared.layer.LayerMotion.{LayerMotion}
 use Rattle.layer_types.specs.declared.layer_type.LayerType.{LayerType}
-use Rattle.fractions.specs.declared.part.TheConstants.{UNIT}
 use Rattle.motions.specs.PlaneMatrices.{Matrix2, product2}
 use Rattle.motions.specs.Rationals.{RationalPair, IsRationalPair, RationalMotion, rational_minus, in_edges, IsMultiple, IsWhole, InSection, IsListed}
 use Rattle.recognition.specs.Changes.{rational_image, moved_by}
@@ -21,11 +21,7 @@ use Rattle.recognition.proofs.Lattices.{lattice_whole, lattice_every, lattice_ba
 abbrev pub rational_of : LayerMotion → RationalMotion
 rational_of m = record { matrix = matrix2_of m.a; side = m.e; translation = in_edges (pair_of m.t) }
 
--- how many parts a vector of a motion has
-abbrev pub cell : ℤ
-cell = pos 2 *ℤ UNIT
-
-pub cell_positive : pos 1 ≤ℤ cell
+pub cell_positive : pos 1 ≤ℤ edge
 cell_positive = omega (arith, ints)
 
 -- a pair differs from itself by a whole vector
@@ -60,31 +56,31 @@ module _ (p : Matrix2) (x y : ℕ) (m n : LayerMotion) (shift like : RationalPai
   carried_shift : IsWhole (rational_minus shift (in_edges (pair_of m.t))) → IsClose p x y m n → Beside → Rest
   carried_shift a b c = record {
     x =
-        whole.forth (pos 6) cell shift.over like.over (in_edges (pair_of m.t)).x shift.x (rational_image p like).x (rational_image p (in_edges (pair_of n.t))).x (moved_by (matrix2_of m.a) o).x cell_positive
-        a.x b.first (image_row p.first.x p.first.y cell like.over like.x like.y (in_edges (pair_of n.t)).x (in_edges (pair_of n.t)).y c.x);
+        whole.forth (pos 6) edge shift.over like.over (in_edges (pair_of m.t)).x shift.x (rational_image p like).x (rational_image p (in_edges (pair_of n.t))).x (moved_by (matrix2_of m.a) o).x cell_positive
+        a.x b.first (image_row p.first.x p.first.y edge like.over like.x like.y (in_edges (pair_of n.t)).x (in_edges (pair_of n.t)).y c.x);
     y =
-        whole.forth (pos 6) cell shift.over like.over (in_edges (pair_of m.t)).y shift.y (rational_image p like).y (rational_image p (in_edges (pair_of n.t))).y (moved_by (matrix2_of m.a) o).y cell_positive
-        a.y b.second (image_row p.second.x p.second.y cell like.over like.x like.y (in_edges (pair_of n.t)).x (in_edges (pair_of n.t)).y c.y);
+        whole.forth (pos 6) edge shift.over like.over (in_edges (pair_of m.t)).y shift.y (rational_image p like).y (rational_image p (in_edges (pair_of n.t))).y (moved_by (matrix2_of m.a) o).y cell_positive
+        a.y b.second (image_row p.second.x p.second.y edge like.over like.x like.y (in_edges (pair_of n.t)).x (in_edges (pair_of n.t)).y c.y);
   }
 
   close : IsRationalPair shift → IsRationalPair like → IsWhole (rational_minus shift (in_edges (pair_of m.t))) → Beside → Rest → IsClose p x y m n
   close hs hl a c d = record {
     first =
-        whole.back (pos 6) cell shift.over like.over (in_edges (pair_of m.t)).x shift.x (rational_image p like).x (rational_image p (in_edges (pair_of n.t))).x (moved_by (matrix2_of m.a) o).x cell_positive
-        hs hl a.x (image_row p.first.x p.first.y cell like.over like.x like.y (in_edges (pair_of n.t)).x (in_edges (pair_of n.t)).y c.x) d.x;
+        whole.back (pos 6) edge shift.over like.over (in_edges (pair_of m.t)).x shift.x (rational_image p like).x (rational_image p (in_edges (pair_of n.t))).x (moved_by (matrix2_of m.a) o).x cell_positive
+        hs hl a.x (image_row p.first.x p.first.y edge like.over like.x like.y (in_edges (pair_of n.t)).x (in_edges (pair_of n.t)).y c.x) d.x;
     second =
-        whole.back (pos 6) cell shift.over like.over (in_edges (pair_of m.t)).y shift.y (rational_image p like).y (rational_image p (in_edges (pair_of n.t))).y (moved_by (matrix2_of m.a) o).y cell_positive
-        hs hl a.y (image_row p.second.x p.second.y cell like.over like.x like.y (in_edges (pair_of n.t)).x (in_edges (pair_of n.t)).y c.y) d.y;
+        whole.back (pos 6) edge shift.over like.over (in_edges (pair_of m.t)).y shift.y (rational_image p like).y (rational_image p (in_edges (pair_of n.t))).y (moved_by (matrix2_of m.a) o).y cell_positive
+        hs hl a.y (image_row p.second.x p.second.y edge like.over like.x like.y (in_edges (pair_of n.t)).x (in_edges (pair_of n.t)).y c.y) d.y;
   }
 
   listed_shift : IsRationalPair like → IsClose p x y m n → Beside → Rest → IsWhole (rational_minus shift (in_edges (pair_of m.t)))
   listed_shift hl b c d = record {
     x =
-        whole.first (pos 6) cell shift.over like.over (in_edges (pair_of m.t)).x shift.x (rational_image p like).x (rational_image p (in_edges (pair_of n.t))).x (moved_by (matrix2_of m.a) o).x cell_positive
-        (omega (arith, ints)) hl b.first (image_row p.first.x p.first.y cell like.over like.x like.y (in_edges (pair_of n.t)).x (in_edges (pair_of n.t)).y c.x) d.x;
+        whole.first (pos 6) edge shift.over like.over (in_edges (pair_of m.t)).x shift.x (rational_image p like).x (rational_image p (in_edges (pair_of n.t))).x (moved_by (matrix2_of m.a) o).x cell_positive
+        (omega (arith, ints)) hl b.first (image_row p.first.x p.first.y edge like.over like.x like.y (in_edges (pair_of n.t)).x (in_edges (pair_of n.t)).y c.x) d.x;
     y =
-        whole.first (pos 6) cell shift.over like.over (in_edges (pair_of m.t)).y shift.y (rational_image p like).y (rational_image p (in_edges (pair_of n.t))).y (moved_by (matrix2_of m.a) o).y cell_positive
-        (omega (arith, ints)) hl b.second (image_row p.second.x p.second.y cell like.over like.x like.y (in_edges (pair_of n.t)).x (in_edges (pair_of n.t)).y c.y) d.y;
+        whole.first (pos 6) edge shift.over like.over (in_edges (pair_of m.t)).y shift.y (rational_image p like).y (rational_image p (in_edges (pair_of n.t))).y (moved_by (matrix2_of m.a) o).y cell_positive
+        (omega (arith, ints)) hl b.second (image_row p.second.x p.second.y edge like.over like.x like.y (in_edges (pair_of n.t)).x (in_edges (pair_of n.t)).y c.y) d.y;
   }
 
 -- the translation that an operation of the type has in the section
@@ -92,14 +88,14 @@ abbrev carried : Matrix2 → Matrix2 → RationalPair → LayerMotion → Ration
 carried a p o n = record {
   x = pos 6 *ℤ (rational_image p (in_edges (pair_of n.t))).x +ℤ (moved_by a o).x;
   y = pos 6 *ℤ (rational_image p (in_edges (pair_of n.t))).y +ℤ (moved_by a o).y;
-  over = pos 6 *ℤ cell;
+  over = pos 6 *ℤ edge;
 }
 
 carried_is : (a p : Matrix2) (x y : ℕ) (n : LayerMotion)
     → IsWhole (rational_minus (rational_minus (carried a p (origin_at x y) n) (rational_image p (in_edges (pair_of n.t)))) (moved_by a (origin_at x y)))
 carried_is a p x y n = record {
-  x = (pos 0, nothing (pos 6) cell (rational_image p (in_edges (pair_of n.t))).x (moved_by a (origin_at x y)).x);
-  y = (pos 0, nothing (pos 6) cell (rational_image p (in_edges (pair_of n.t))).y (moved_by a (origin_at x y)).y);
+  x = (pos 0, nothing (pos 6) edge (rational_image p (in_edges (pair_of n.t))).x (moved_by a (origin_at x y)).x);
+  y = (pos 0, nothing (pos 6) edge (rational_image p (in_edges (pair_of n.t))).y (moved_by a (origin_at x y)).y);
 }
   where
     nothing : (g c q w : ℤ) → ((g *ℤ q +ℤ w) *ℤ c -ℤ q *ℤ (g *ℤ c)) *ℤ (g *ℤ c) -ℤ w *ℤ ((g *ℤ c) *ℤ c) ≡ (((g *ℤ c) *ℤ c) *ℤ (g *ℤ c)) *ℤ pos 0

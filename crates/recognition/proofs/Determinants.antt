@@ -2,20 +2,21 @@
 use Rattle.std.proofs.Common.{◌≡◌, ℕ, ◌*◌, ℤ, pos, negsuc, ◌+ℤ◌, ◌-ℤ◌, ◌*ℤ◌, inl, inr, sym, ◌∙◌, ap, arith}
 use Rattle.std.specs.Prelude.{◌↔◌, unsigned_abs}
 use Rattle.std.proofs.lemmas.Int.{ints, unsigned_abs-mul}
+use Rattle.symmetry.specs.HeightMotions.{IsSign}
 use Rattle.motions.specs.PlaneMatrices.{Matrix2, determinant2}
 use Rattle.motions.specs.Rationals.{IsMultiple}
-use Rattle.recognition.specs.Listed.{IsUnit, TakesCentred}
+use Rattle.recognition.specs.Listed.{TakesCentred}
 use Rattle.integers.proofs.Spread.{spread, numerals_out}
 
-unit_from_size : (d : ℤ) → unsigned_abs d ≡ 1 → IsUnit d
+unit_from_size : (d : ℤ) → unsigned_abs d ≡ 1 → IsSign d
 unit_from_size (pos n) e = inl (ap pos e)
 unit_from_size (negsuc n) e = inr (ap negsuc (omega (arith, e)))
 
-size_of_unit : (d : ℤ) → IsUnit d → unsigned_abs d ≡ 1
+size_of_unit : (d : ℤ) → IsSign d → unsigned_abs d ≡ 1
 size_of_unit d (inl e) = ap unsigned_abs e
 size_of_unit d (inr e) = ap unsigned_abs e
 
-pub unit_is : (d : ℤ) → (unsigned_abs d ≡ 1) ↔ IsUnit d
+pub unit_is : (d : ℤ) → (unsigned_abs d ≡ 1) ↔ IsSign d
 unit_is d = (unit_from_size d, size_of_unit d)
 
 -- a matrix whose rows have even sums has an even determinant2

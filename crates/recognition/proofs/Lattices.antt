@@ -2,11 +2,12 @@
 use Rattle.std.proofs.Common.{◌≡◌, ℕ, zero, suc, ◌+◌, ℤ, pos, negsuc, ◌+ℤ◌, ◌-ℤ◌, ◌*ℤ◌, ◌≤ℤ◌, ◌⊎◌, inl, inr, refl, sym, ◌∙◌, ap, arith, Bool, true, false, IsTrue}
 use Rattle.std.proofs.lemmas.Int.{ints}
 use lib.IntN.{*ℤ_comm}
+use Rattle.symmetry.specs.HeightMotions.{IsSign}
 use Rattle.motions.specs.PlaneMatrices.{Matrix2, product2}
 use Rattle.motions.specs.Laws.PlaneMatrixLaws.{matrix2_path, pair_path}
 use Rattle.motions.specs.Rationals.{RationalPair, IsRationalPair, IsMultiple, IsWhole, SameRationals}
 use Rattle.recognition.specs.Changes.{rational_image}
-use Rattle.recognition.specs.Listed.{IsUnit, IsInLattice, TakesLattice, KeepsCentring, half}
+use Rattle.recognition.specs.Listed.{IsInLattice, TakesLattice, KeepsCentring, half}
 use Rattle.integers.proofs.Spread.{spread, numerals_out}
 use Rattle.integers.proofs.Ring.{mul_assoc, mul_zero, one_mul, mul_one}
 use Rattle.integers.proofs.Order.{mul_left_cancel_pos}
@@ -14,11 +15,11 @@ use Rattle.recognition.proofs.Whole.{unit_factor}
 
 -- ---- two equations with the determinant 1 or -1
 
-unit_square : (s : ℤ) → IsUnit s → s *ℤ s ≡ pos 1
+unit_square : (s : ℤ) → IsSign s → s *ℤ s ≡ pos 1
 unit_square s (inl e) = ap (λ z. z *ℤ z) e
 unit_square s (inr e) = ap (λ z. z *ℤ z) e
 
-unit_twice : (s k : ℤ) → IsUnit s → s *ℤ (s *ℤ k) ≡ k
+unit_twice : (s k : ℤ) → IsSign s → s *ℤ (s *ℤ k) ≡ k
 unit_twice s k h = sym (mul_assoc s s k) ∙ ap (λ z. z *ℤ k) (unit_square s h) ∙ one_mul k
 
 -- Cramer's rule: what the equations a x + m y = k and b x + n y = l have as x and y
@@ -28,13 +29,13 @@ solved_x a m b n k l = (a *ℤ n -ℤ m *ℤ b) *ℤ (n *ℤ k -ℤ m *ℤ l)
 abbrev solved_y : ℤ → ℤ → ℤ → ℤ → ℤ → ℤ → ℤ
 solved_y a m b n k l = (a *ℤ n -ℤ m *ℤ b) *ℤ (a *ℤ l -ℤ b *ℤ k)
 
-cramer_first : (a m b n k l : ℤ) → IsUnit (a *ℤ n -ℤ m *ℤ b) → a *ℤ solved_x a m b n k l +ℤ m *ℤ solved_y a m b n k l ≡ k
+cramer_first : (a m b n k l : ℤ) → IsSign (a *ℤ n -ℤ m *ℤ b) → a *ℤ solved_x a m b n k l +ℤ m *ℤ solved_y a m b n k l ≡ k
 cramer_first a m b n k l h = grouped a m b n k l (a *ℤ n -ℤ m *ℤ b) ∙ unit_twice (a *ℤ n -ℤ m *ℤ b) k h
   where
     grouped : (a m b n k l s : ℤ) → a *ℤ (s *ℤ (n *ℤ k -ℤ m *ℤ l)) +ℤ m *ℤ (s *ℤ (a *ℤ l -ℤ b *ℤ k)) ≡ s *ℤ ((a *ℤ n -ℤ m *ℤ b) *ℤ k)
     grouped a m b n k l s = simp spread (omega (arith, ints))
 
-cramer_second : (a m b n k l : ℤ) → IsUnit (a *ℤ n -ℤ m *ℤ b) → b *ℤ solved_x a m b n k l +ℤ n *ℤ solved_y a m b n k l ≡ l
+cramer_second : (a m b n k l : ℤ) → IsSign (a *ℤ n -ℤ m *ℤ b) → b *ℤ solved_x a m b n k l +ℤ n *ℤ solved_y a m b n k l ≡ l
 cramer_second a m b n k l h = grouped a m b n k l (a *ℤ n -ℤ m *ℤ b) ∙ unit_twice (a *ℤ n -ℤ m *ℤ b) l h
   where
     grouped : (a m b n k l s : ℤ) → b *ℤ (s *ℤ (n *ℤ k -ℤ m *ℤ l)) +ℤ n *ℤ (s *ℤ (a *ℤ l -ℤ b *ℤ k)) ≡ s *ℤ ((a *ℤ n -ℤ m *ℤ b) *ℤ l)
@@ -42,7 +43,7 @@ cramer_second a m b n k l h = grouped a m b n k l (a *ℤ n -ℤ m *ℤ b) ∙ u
 
 -- whole columns that go to (1, 0) and to (0, 1) make the determinant 1 or -1
 unit_of : (a m b n x y u v : ℤ) → a *ℤ x +ℤ m *ℤ y ≡ pos 1 → b *ℤ x +ℤ n *ℤ y ≡ pos 0 → a *ℤ u +ℤ m *ℤ v ≡ pos 0 → b *ℤ u +ℤ n *ℤ v ≡ pos 1
-    → IsUnit (a *ℤ n -ℤ m *ℤ b)
+    → IsSign (a *ℤ n -ℤ m *ℤ b)
 unit_of a m b n x y u v e f g h =
     unit_factor (a *ℤ n -ℤ m *ℤ b) (x *ℤ v -ℤ u *ℤ y) (product a m b n x y u v ∙ (λ i. e i *ℤ h i -ℤ g i *ℤ f i))
   where
@@ -266,11 +267,11 @@ lattice_back false p whole every =
 
 -- ---- matrices beside one that takes the lattice onto the whole vectors
 
-pub by_unit : (s x : ℤ) → IsUnit s → s *ℤ x ≡ pos 0 → x ≡ pos 0
+pub by_unit : (s x : ℤ) → IsSign s → s *ℤ x ≡ pos 0 → x ≡ pos 0
 by_unit s x h e = sym (unit_twice s x h) ∙ ap (λ z. s *ℤ z) e ∙ mul_zero s
 
 -- a row that such a matrix takes to 0 is 0
-no_row : (a m b n x y : ℤ) → IsUnit (a *ℤ n -ℤ m *ℤ b) → x *ℤ a +ℤ y *ℤ b ≡ pos 0 → x *ℤ m +ℤ y *ℤ n ≡ pos 0 → (x ≡ pos 0) × (y ≡ pos 0)
+no_row : (a m b n x y : ℤ) → IsSign (a *ℤ n -ℤ m *ℤ b) → x *ℤ a +ℤ y *ℤ b ≡ pos 0 → x *ℤ m +ℤ y *ℤ n ≡ pos 0 → (x ≡ pos 0) × (y ≡ pos 0)
 no_row a m b n x y h e f = (
   by_unit (a *ℤ n -ℤ m *ℤ b) x h (one a m b n x y ∙ (λ i. e i *ℤ n -ℤ f i *ℤ b) ∙ none n b),
   by_unit (a *ℤ n -ℤ m *ℤ b) y h (two a m b n x y ∙ (λ i. f i *ℤ a -ℤ e i *ℤ m) ∙ none a m),
@@ -321,7 +322,7 @@ record Row (a m b n k l : ℤ) : Type 0 where
   first : x *ℤ a +ℤ y *ℤ b ≡ k
   second : x *ℤ m +ℤ y *ℤ n ≡ l
 
-row : (a m b n k l : ℤ) → IsUnit (a *ℤ n -ℤ m *ℤ b) → Row a m b n k l
+row : (a m b n k l : ℤ) → IsSign (a *ℤ n -ℤ m *ℤ b) → Row a m b n k l
 row a m b n k l h =
     let u = turned a m b n h in
     record {
@@ -334,7 +335,7 @@ row a m b n k l h =
     swapped : (x y a b : ℤ) → x *ℤ a +ℤ y *ℤ b ≡ a *ℤ x +ℤ b *ℤ y
     swapped x y a b = simp spread
 
-    turned : (a m b n : ℤ) → IsUnit (a *ℤ n -ℤ m *ℤ b) → IsUnit (a *ℤ n -ℤ b *ℤ m)
+    turned : (a m b n : ℤ) → IsSign (a *ℤ n -ℤ m *ℤ b) → IsSign (a *ℤ n -ℤ b *ℤ m)
     turned a m b n (inl e) = inl (ap (λ z. a *ℤ n -ℤ z) (*ℤ_comm b m) ∙ e)
     turned a m b n (inr e) = inr (ap (λ z. a *ℤ n -ℤ z) (*ℤ_comm b m) ∙ e)
 

@@ -4,10 +4,10 @@ use Rattle.std.proofs.lemmas.Int.{ints}
 use Rattle.integers.proofs.Order.{mul_left_cancel_pos}
 use Rattle.integers.proofs.Ring.{mul_left_cancel, mul_assoc, one_mul}
 use Rattle.integers.proofs.Solver.{Expr.{var, num, ◌⊕◌, ◌⊝◌, ◌⊗◌}, ring}
+use Rattle.integers.specs.Size.{sign_number}
 use Rattle.motions.specs.PlaneMatrices.{Matrix2, product2, determinant2, adjugate2}
 use Rattle.motions.specs.Laws.PlaneMatrixLaws.{pair_path, matrix2_path}
 use Rattle.recognition.specs.RationalRods.{multiple2}
-use Rattle.recognition.specs.RodChanges.{sign_number}
 
 pub multiple2-one : (m : Matrix2) → multiple2 (pos 1) m ≡ m
 multiple2-one m = matrix2_path (pair_path (one_mul m.first.x) (one_mul m.first.y)) (pair_path (one_mul m.second.x) (one_mul m.second.y))

@@ -4,13 +4,13 @@ use Rattle.std.proofs.lemmas.Int.{ints}
 use Rattle.std.proofs.lemmas.List.{get_or_default}
 use Rattle.integers.proofs.Solver.{Expr.{var, num, ◌⊕◌, ◌⊝◌, ◌⊗◌}, given, linear}
 use Rattle.integers.proofs.Order.{mul_left_cancel_pos}
+use Rattle.fractions.specs.Parts.{edge}
 use Rattle.quotient.proofs.ListLaws.{item_at}
 use Rattle.motions.specs.declared.layer.LayerMotion.{LayerMotion}
 use Rattle.motions.specs.PlaneMatrices.{Matrix2, dot2}
 use Rattle.motions.specs.PlaneViews.{matrix2_of, pair_of}
 use Rattle.motions.specs.Rationals.{DifferByWhole}
 use Rattle.layer_types.specs.declared.layer_type.LayerType.{LayerType}
-use Rattle.layer_types.specs.Lattices.{edge}
 use Rattle.recognition.specs.Grid.{grid}
 use Rattle.recognition.specs.Listed.{Fits, IsPaired, IsReady}
 use Rattle.recognition.proofs.Lattices.{same_matrix}

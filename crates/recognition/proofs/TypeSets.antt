@@ -3,6 +3,7 @@ use Rattle.std.proofs.Common.{◌≡◌, ◌↔◌, ℕ, Bool, ℤ, pos, ◌+ℤ
 use Rattle.std.proofs.lemmas.Int.{ints}
 use Rattle.integers.proofs.Solver.{Expr.{var, num, ◌⊕◌, ◌⊝◌, ◌⊗◌}, given, linear}
 use Rattle.integers.proofs.Order.{mul_left_cancel_pos}
+use Rattle.fractions.specs.Parts.{edge}
 use Rattle.quotient.specs.Closure.{IsClosure, IsProduct}
 use Rattle.quotient.proofs.ListLaws.{Contains-map, Contains-from_map}
 use Rattle.motions.specs.declared.layer.LayerMotion.{LayerMotion}
@@ -11,7 +12,7 @@ use Rattle.motions.specs.Laws.PlaneMatrixLaws.{plus2-minus_first}
 use Rattle.motions.specs.PlaneViews.{matrix2_of, pair_of}
 use Rattle.motions.specs.Layers.{PlanarMotion, planar_of}
 use Rattle.layer_types.specs.declared.layer_type.LayerType.{LayerType}
-use Rattle.layer_types.specs.Lattices.{InLattice, edge, half_edge, layer_kind}
+use Rattle.layer_types.specs.Lattices.{InLattice, half_edge, layer_kind}
 use Rattle.layer_types.specs.LayerTypes.{IsLayerType}
 use Rattle.layer_types.specs.Rows.{layer_row}
 use Rattle.layer_types.specs.Laws.ShiftLaws.{same_is}

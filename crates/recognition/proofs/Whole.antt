@@ -2,8 +2,8 @@
 use Rattle.std.proofs.Common.{◌≡◌, ℕ, zero, suc, ◌*◌, ℤ, pos, negsuc, ◌+ℤ◌, ◌-ℤ◌, ◌*ℤ◌, ◌≤ℤ◌, inl, inr, refl, sym, ◌∙◌, ap, arith}
 use Rattle.std.proofs.lemmas.Int.{ints}
 use lib.IntN.{nat_abs}
+use Rattle.symmetry.specs.HeightMotions.{IsSign}
 use Rattle.motions.specs.Rationals.{IsMultiple}
-use Rattle.recognition.specs.Listed.{IsUnit}
 use Rattle.integers.proofs.Spread.{spread}
 use Rattle.integers.proofs.Order.{mul_left_cancel_pos, one-le-mul}
 
@@ -22,7 +22,7 @@ one_factor (suc (suc n)) zero e = absurd (omega arith)
 one_factor (suc (suc n)) (suc m) e = absurd (omega arith)
 
 -- a divisor of 1 is 1 or -1
-pub unit_factor : (a b : ℤ) → a *ℤ b ≡ pos 1 → IsUnit a
+pub unit_factor : (a b : ℤ) → a *ℤ b ≡ pos 1 → IsSign a
 unit_factor (pos a) (pos b) e = inl (ap pos (one_factor a b (ap nat_abs e)))
 unit_factor (pos zero) (negsuc b) e = absurd (omega (arith, ints))
 unit_factor (pos (suc a)) (negsuc b) e = absurd (omega (arith, ints))

@@ -1,5 +1,6 @@
 -- The finite tests that tell whether a change carries a section onto a type.
-use Rattle.std.specs.Prelude.{◌≡◌, ◌⊎◌, ℕ, ℤ, pos, negsuc, ◌+ℤ◌, ◌-ℤ◌, ◌*ℤ◌, ◌<◌, List, length, All, Any, Bool, true, false, IsTrue, slice_index_or}
+use Rattle.std.specs.Prelude.{◌≡◌, ◌⊎◌, ℕ, ℤ, pos, ◌+ℤ◌, ◌-ℤ◌, ◌*ℤ◌, ◌<◌, List, length, All, Any, Bool, true, false, IsTrue, slice_index_or}
+use Rattle.symmetry.specs.HeightMotions.{IsSign}
 use Rattle.motions.specs.declared.layer.LayerMotion.{LayerMotion}
 use Rattle.motions.specs.PlaneMatrices.{Matrix2, determinant2, product2}
 use Rattle.motions.specs.PlaneViews.{matrix2_of, pair_of}
@@ -20,22 +21,18 @@ half = record { x = pos 1; y = pos 1; over = pos 2 }
 abbrev pub IsInLattice : Bool → RationalPair → Type 0
 IsInLattice centred u = IsWhole u ⊎ (IsTrue centred × IsWhole (rational_minus u half))
 
--- 1 or -1
-abbrev pub IsUnit : ℤ → Type 0
-IsUnit d = (d ≡ pos 1) ⊎ (d ≡ negsuc 0)
-
 -- for a centred type: P (1/2, 1/2) is (a, b), and with the second column it has the determinant 1 or -1
 pub record TakesCentred (p : Matrix2) : Type 0 where
   pub a : ℤ
   pub b : ℤ
   pub first : p.first.x +ℤ p.first.y ≡ pos 2 *ℤ a
   pub second : p.second.x +ℤ p.second.y ≡ pos 2 *ℤ b
-  pub unit : IsUnit (a *ℤ p.second.y -ℤ p.first.y *ℤ b)
+  pub unit : IsSign (a *ℤ p.second.y -ℤ p.first.y *ℤ b)
 
 -- P takes the type's lattice onto the whole vectors
 abbrev pub TakesLattice : Bool → Matrix2 → Type 0
 TakesLattice true p = TakesCentred p
-TakesLattice false p = IsUnit (determinant2 p)
+TakesLattice false p = IsSign (determinant2 p)
 
 -- ---- listed motions
 

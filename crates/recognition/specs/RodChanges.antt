@@ -1,16 +1,12 @@
 -- Changes of basis and origin that carry a section onto a rod type.
-use Rattle.std.specs.Prelude.{◌≡◌, ◌↔◌, ℕ, ℤ, pos, negsuc, ◌-ℤ◌, ◌*ℤ◌, List}
+use Rattle.std.specs.Prelude.{◌≡◌, ◌↔◌, ℕ, ℤ, pos, ◌-ℤ◌, ◌*ℤ◌, List}
+use Rattle.integers.specs.Size.{sign_number}
 use Rattle.fractions.specs.Fraction.{Fraction, IsWhole, fraction_minus}
 use Rattle.motions.specs.declared.rod.RodMotion.{RodMotion}
 use Rattle.motions.specs.Signs.{sign_value}
 use Rattle.motions.specs.PlaneMatrices.{Matrix2, product2, determinant2}
 use Rattle.recognition.specs.declared.found_rod.TheConstants.{ROD_GRID}
 use Rattle.recognition.specs.RationalRods.{RationalRod, IsRationalRod, IsListedRod, multiple2}
-
--- 1, or -1 below zero
-abbrev pub sign_number : ℤ → ℤ
-sign_number (pos n) = pos 1
-sign_number (negsuc n) = negsuc 0
 
 -- how a change turns the axis, so that the basis stays right-handed: n = 1 where its cross number is positive, -1 where it is negative
 abbrev pub hand : Matrix2 → ℤ

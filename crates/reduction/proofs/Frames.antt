@@ -5,7 +5,7 @@ use Rattle.integers.proofs.Solver.{Expr.{var, num, ◌⊕◌, ◌⊝◌, ◌⊗�
 use Rattle.fractions.specs.declared.part.TheConstants.{UNIT}
 use Rattle.symmetry.specs.Vectors.{Vector, origin, plus, multiple, opposite, dot, cross}
 use Rattle.symmetry.specs.Planes.{IsCoprime}
-use Rattle.symmetry.specs.Groups.{Listing}
+use Rattle.symmetry.specs.Groups.{Listing, third_edge}
 use Rattle.symmetry.specs.Frames.{Basis, IsFrame}
 use Rattle.symmetry.proofs.VectorLaws.{vector_path, dot_comm, dot-multiple, multiple-dot, dot-origin}
 use Rattle.plane_lattice.specs.Coordinates.{HoldsEdges, scaled, volume}
@@ -36,9 +36,6 @@ determinant_of_two c d e c' d' e' ax ay bx by tx ty h k l =
     ∷ given (v 2 ⊗ v 3 ⊝ v 0 ⊗ v 5) (v 10 ⊗ v 7 ⊝ v 11 ⊗ v 6) (num (pos 0)) ∷ []) tt (h, (k, (l, tt)))
 
 module _ (f : Basis) (held : HoldsEdges f) (none : volume f ≡ pos 0) where
-  abbrev third_edge : Vector
-  third_edge = record { x = pos 0; y = pos 0; z = UNIT }
-
   nothing : (c : ℤ) → volume f *ℤ c ≡ pos 0
   nothing c = ap (λ z. z *ℤ c) none ∙ omega (arith, ints)
 

@@ -20,11 +20,11 @@ use Rattle.scanning.specs.declared.scan.Scan.{Scan}
 use Rattle.scanning.specs.HeightView.{IsInHalves, special_of}
 use Rattle.scanning.proofs.MadeHeights.{in_halves}
 use Rattle.scanning.proofs.Shifts.{period_within}
+use Rattle.scanning.specs.SmallHeights.{IsSmallHeight}
 use Rattle.report.specs.declared.report.Report.{Report}
 use Rattle.report.specs.declared.report.HeightSection.{HeightSection}
 use Rattle.report.specs.Reports.{HeightBlock}
 use Rattle.report.specs.SectionView.{block_of}
-use Rattle.report.specs.SmallHeights.{IsSmallHeight}
 
 -- q x = 2 p u: so p over q is x over 2 u
 same_number : (p q x u : ℤ) → q *ℤ x ≡ pos 2 *ℤ p *ℤ u → p *ℤ (pos 2 *ℤ u) ≡ x *ℤ q

@@ -3,12 +3,13 @@ use Rattle.std.proofs.Common.{◌≡◌, ◌⊎◌, ℕ, ◌*◌, ℤ, pos, negs
 use Rattle.std.proofs.lemmas.Int.{ints}
 use Rattle.fractions.specs.declared.part.TheConstants.{UNIT}
 use Rattle.integers.specs.Size.{IsWithin}
+use Rattle.fractions.specs.Parts.{half_an_edge}
 use Rattle.symmetry.specs.Vectors.{Matrix, Vector, cross, dot, image, multiple, plus}
 use Rattle.symmetry.specs.Frames.{combination}
 use Rattle.symmetry.specs.Sizes.{IsMatrixWithin, IsVectorWithin}
 use Rattle.symmetry.proofs.VectorLaws.{vector_path}
 use Rattle.plane_lattice.specs.Coordinates.{IsCombination}
-use Rattle.sample.specs.SampleGroups.{half_an_edge, sample_frame, upright}
+use Rattle.sample.specs.SampleGroups.{sample_frame, upright}
 use Rattle.sample.proofs.Lattices.{InCell, centring_in_cell}
 
 -- ---- they are in the lattice

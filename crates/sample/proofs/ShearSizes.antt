@@ -4,6 +4,7 @@ use Rattle.std.proofs.lemmas.Int.{ints}
 use Rattle.integers.specs.Size.{IsWithin}
 use Rattle.integers.proofs.Coded.{again, again_is}
 use Rattle.integers.proofs.Ring.{IsWithin-mul, IsWithin-neg}
+use Rattle.fractions.specs.Parts.{edge}
 use Rattle.symmetry.specs.Vectors.{Matrix, Vector, dot, image, multiple, plus, product, row_times}
 use Rattle.symmetry.specs.Motions.{Motion, followed_by}
 use Rattle.symmetry.proofs.MatrixLaws.{image-origin}
@@ -16,7 +17,7 @@ use Rattle.motions.specs.declared.motion.Sign.TheVariants.{Plus, Minus}
 use Rattle.motions.specs.Signs.{sign_value}
 use Rattle.motions.specs.Layers.{IsBlockForm, PlanarMotion, block_matrix}
 use Rattle.motions.specs.PlaneSizes.{IsMatrix2Within}
-use Rattle.layer_types.specs.Lattices.{IsReduced, edge}
+use Rattle.layer_types.specs.Lattices.{IsReduced}
 use Rattle.sample.specs.Shears.{shear, sheared}
 use Rattle.sample.proofs.Conjugates.{linear}
 

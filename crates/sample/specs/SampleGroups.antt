@@ -1,6 +1,7 @@
 -- The groups of the sample, and their frames.
-use Rattle.std.specs.Prelude.{ℕ, ℤ, pos, neg_ℤ, ◌+◌, ◌%◌, ◌-ℤ◌, int_div, Bool, cond, List, [], ◌∷◌, map}
+use Rattle.std.specs.Prelude.{ℕ, ℤ, pos, neg_ℤ, ◌+◌, ◌%◌, ◌-ℤ◌, Bool, cond, List, [], ◌∷◌, map}
 use Rattle.fractions.specs.declared.part.TheConstants.{UNIT}
+use Rattle.fractions.specs.Parts.{half_an_edge}
 use Rattle.symmetry.specs.Vectors.{Vector}
 use Rattle.symmetry.specs.Groups.{Listing}
 use Rattle.symmetry.specs.Frames.{Basis}
@@ -15,10 +16,6 @@ type_number i = i % 80 + 1
 -- the number j of the change of x to x + j z
 abbrev pub shear_number : ℕ → ℤ
 shear_number i = pos (i % 5) -ℤ pos 2
-
--- half a cell edge, in parts
-abbrev pub half_an_edge : ℤ
-half_an_edge = int_div UNIT (pos 2)
 
 -- the centring vector (1/2,1/2,0)
 abbrev pub centring : Vector

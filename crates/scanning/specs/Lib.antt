@@ -5,4 +5,5 @@ pub mod Members
 pub mod HeightView
 pub mod PlaceView
 pub mod ScanView
+pub mod SmallHeights
 pub mod SpecialHeights

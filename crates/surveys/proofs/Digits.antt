@@ -1,16 +1,15 @@
 -- Places of triples: each place has one triple, and the greater triple stands first.
 use native.Mathlib.Nat.{mod-lt, div-add-mod'}
-use Rattle.std.proofs.Common.{◌≡◌, ℕ, ◌+◌, ◌*◌, ◌/◌, ◌%◌, ◌<◌, ℤ, pos, negsuc, ◌+ℤ◌, ◌-ℤ◌, ◌*ℤ◌, ◌≤ℤ◌, ◌<ℤ◌, inl, inr, List, [], ◌∷◌, unsigned_abs, sym, ◌∙◌, ap, subst, arith}
+use Rattle.std.proofs.Common.{◌≡◌, ℕ, ◌+◌, ◌*◌, ◌/◌, ◌%◌, ◌<◌, ℤ, pos, ◌+ℤ◌, ◌-ℤ◌, ◌*ℤ◌, ◌≤ℤ◌, ◌<ℤ◌, inl, inr, [], ◌∷◌, unsigned_abs, sym, ◌∙◌, ap, subst, arith}
 use Rattle.std.proofs.lemmas.Bool.{cases_lt}
 use Rattle.std.proofs.lemmas.Int.{ints}
 use Rattle.integers.specs.Size.{IsWithin}
 use Rattle.integers.proofs.Coded.{again, code_is}
-use Rattle.integers.proofs.Order.{mul-le-mul_right, mul_left_cancel_pos}
+use Rattle.integers.proofs.Order.{mul-le-mul_right}
 use Rattle.integers.proofs.Solver.{Expr.{var, num, neg, ◌⊕◌, ◌⊝◌, ◌⊗◌}, given, linear, ring}
 use Rattle.symmetry.specs.Sizes.{IsVectorWithin}
 use Rattle.symmetry.specs.Vectors.{Vector}
 use Rattle.symmetry.proofs.VectorLaws.{vector_path}
-use Rattle.scanning.proofs.HeightNumbers.{one_rest}
 use Rattle.surveys.specs.Places.{place_of, side}
 use Rattle.surveys.specs.Surveys.{IsGreater}
 use Rattle.surveys.proofs.Greatest.{Compared, Compared.{greater, equal, less}, compared}

@@ -1,12 +1,12 @@
 -- The rows W and their opposites of operations, each once.
-use Rattle.std.proofs.Common.{◌≡◌, ℕ, ◌+◌, ◌<◌, ◌≤◌, ℤ, ◌⊎◌, inl, inr, List, [], ◌∷◌, ◌++◌, length, get_or, map, take, refl, sym, ap, subst, ◌∙◌, arith}
+use Rattle.std.proofs.Common.{◌≡◌, ℕ, ◌+◌, ◌<◌, ◌≤◌, ◌⊎◌, inl, inr, List, [], ◌∷◌, ◌++◌, length, get_or, map, take, sym, ap, subst, ◌∙◌, arith}
 use Rattle.std.specs.Prelude.{Contains}
 use Rattle.std.proofs.lemmas.List.{length-map, take_all}
 use Rattle.std.proofs.lemmas.List.Elements.{Contains-append_left, Contains-push, Contains-push_cases}
 use Rattle.symmetry.specs.Vectors.{Vector, opposite, row_times}
 use Rattle.symmetry.specs.Motions.{Motion}
 use Rattle.symmetry.specs.Groups.{Listing}
-use Rattle.motions.specs.Views.{motion_of, vector_of}
+use Rattle.motions.specs.Views.{motion_of}
 use Rattle.motions.specs.declared.motion.Motion3.{Motion3}
 use Rattle.orbits.proofs.RowLists.{motions_more}
 use Rattle.surveys.specs.Additions.{IsWith}

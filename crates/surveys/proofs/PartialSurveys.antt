@@ -1,12 +1,11 @@
 -- The survey, place after place.
-use Rattle.std.proofs.Common.{◌≡◌, ◌⊎◌, ℕ, zero, suc, ◌+◌, ◌*◌, ◌<◌, ◌≤◌, lit<, ℤ, pos, negsuc, ◌+ℤ◌, ◌-ℤ◌, ◌*ℤ◌, ◌≤ℤ◌, ◌<ℤ◌, List, [], ◌∷◌, ◌++◌, length, get_or, inl, inr, refl, sym, ◌∙◌, ap, subst, arith, unsigned_abs}
+use Rattle.std.proofs.Common.{◌≡◌, ◌⊎◌, ℕ, ◌+◌, ◌*◌, ◌<◌, ◌≤◌, lit<, ℤ, pos, ◌+ℤ◌, ◌-ℤ◌, ◌*ℤ◌, ◌≤ℤ◌, ◌<ℤ◌, List, [], ◌∷◌, ◌++◌, get_or, inl, inr, sym, ap, subst, arith, unsigned_abs}
 use Rattle.std.specs.Prelude.{All, AllPairs, Any}
 use Rattle.std.proofs.lemmas.Int.{ints}
 use Rattle.std.proofs.lemmas.Bool.{cases_lt}
 use Rattle.std.proofs.lemmas.Grind.{common_steps}
 use Rattle.std.proofs.lemmas.List.Elements.{All-nil, All-push}
 use Rattle.std.proofs.lemmas.List.Quantifiers.{Any-push, all_pairs_push}
-use Rattle.integers.specs.Size.{IsWithin}
 use Rattle.integers.proofs.Coded.{again, again_is}
 use Rattle.integers.proofs.Solver.{Expr.{var, num, neg, ◌⊕◌, ◌⊝◌, ◌⊗◌}, given, linear, ring}
 use Rattle.symmetry.specs.Frames.{IsSpecial}
@@ -18,7 +17,7 @@ use Rattle.symmetry.proofs.Alike.{alike_sym, special_to}
 use Rattle.symmetry.specs.Sizes.{IsVectorWithin}
 use Rattle.symmetry.specs.Vectors.{Vector}
 use Rattle.surveys.specs.Places.{place_of, side}
-use Rattle.surveys.specs.Surveys.{AreEquivalent, HasCounts, IsGreater, IsRepresentative, IsSurvey, IsWithinSurvey, SurveyedPlane}
+use Rattle.surveys.specs.Surveys.{AreEquivalent, HasCounts, IsGreater, IsRepresentative, IsSurvey, SurveyedPlane}
 use Rattle.surveys.proofs.Digits.{earlier, greater_first, one_triple}
 use Rattle.surveys.proofs.Equivalence.{equivalent_from, equivalent_to}
 use Rattle.surveys.proofs.Sets.{lists_same}

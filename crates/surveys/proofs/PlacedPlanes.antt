@@ -1,5 +1,5 @@
 -- The orientation at a place, where the triple there is coprime.
-use Rattle.std.proofs.Common.{◌≡◌, ◌↔◌, ℕ, ℤ, pos, ◌≤ℤ◌, Option, Result, Ok, Err, IfOk, refl, sym, ◌∙◌, ap, subst, lit<, lit≤, arith, unsigned_abs}
+use Rattle.std.proofs.Common.{◌≡◌, ◌↔◌, ℕ, ℤ, pos, ◌≤ℤ◌, Option, Result, Ok, Err, IfOk, refl, sym, ◌∙◌, ap, subst, lit<, arith, unsigned_abs}
 use Rattle.std.specs.Prelude.{MatchOption}
 use Rattle.std.specs.Result.{result_ok}
 use Rattle.std.proofs.lemmas.Int.{ints}

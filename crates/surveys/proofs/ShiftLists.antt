@@ -7,7 +7,7 @@ use Rattle.std.proofs.lemmas.List.Elements.{Contains-append_left, Contains-push,
 use Rattle.fractions.specs.declared.part.TheConstants.{UNIT}
 use Rattle.integers.proofs.Coded.{again, again_is}
 use Rattle.integers.proofs.Solver.{Expr.{var, num, neg, ◌⊕◌, ◌⊗◌}, given, linear}
-use Rattle.symmetry.specs.Vectors.{Vector, dot, opposite, row_times}
+use Rattle.symmetry.specs.Vectors.{Vector, dot, row_times}
 use Rattle.symmetry.specs.Motions.{Motion}
 use Rattle.motions.specs.Views.{motion_of}
 use Rattle.motions.specs.declared.motion.Motion3.{Motion3}

@@ -1,5 +1,5 @@
 -- A list that is chosen operation by operation is the list of its set.
-use Rattle.std.proofs.Common.{◌≡◌, ℕ, zero, suc, ◌<◌, List, ◌∷◌, length, Some, refl, sym, ap, ◌∙◌, subst, arith, ◌⊎◌, inl, inr}
+use Rattle.std.proofs.Common.{◌≡◌, ℕ, zero, suc, ◌<◌, List, ◌∷◌, length, Some, sym, ◌∙◌, subst, arith, inl, inr}
 use Rattle.std.proofs.lemmas.Bool.{cases_order}
 use Rattle.symmetry.specs.Motions.{Motion}
 use Rattle.symmetry.specs.Lists.{motion_at, ExactlyOne, IsFirstPlace, IsListOf, AreDistinct, AreChosen, no_more, passed, taken, IsChoice, AreCovered, IsSameness}

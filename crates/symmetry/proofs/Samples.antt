@@ -1,8 +1,8 @@
 -- The definitions at known values: C2/m with the planes (0 1 0), at the height 1/4.
 use Rattle.std.proofs.Common.{◌≡◌, ℕ, zero, suc, ◌<◌, inl, inr, ℤ, pos, negsuc, neg_ℤ, ◌*ℤ◌, refl, ap, arith, lit<, [], ◌∷◌}
-use Rattle.std.specs.Prelude.{int_div}
 use Rattle.std.proofs.lemmas.Int.{ints}
 use Rattle.fractions.specs.declared.part.TheConstants.{UNIT}
+use Rattle.fractions.specs.Parts.{half_an_edge}
 use Rattle.symmetry.specs.Vectors.{Vector, Matrix, origin, plus, multiple, dot, cross}
 use Rattle.symmetry.specs.Motions.{Motion, identity}
 use Rattle.symmetry.specs.Planes.{Height, TurnsRow, KeepsPlane}
@@ -21,10 +21,6 @@ diagonal x y z = record { first = vector x (pos 0) (pos 0); second = vector (pos
 abbrev still : Matrix → Motion
 still m = record { matrix = m; translation = origin }
 
--- half a cell edge
-abbrev half : ℤ
-half = int_div UNIT (pos 2)
-
 -- the row (0 1 0)
 abbrev row : Vector
 row = vector (pos 0) (pos 1) (pos 0)
@@ -34,19 +30,19 @@ abbrev listing : Listing
 listing = record {
   ops = identity ∷ still (diagonal (negsuc 0) (pos 1) (negsuc 0)) ∷ still (diagonal (negsuc 0) (negsuc 0) (negsuc 0))
       ∷ still (diagonal (pos 1) (negsuc 0) (pos 1)) ∷ [];
-  centrings = origin ∷ vector half half (pos 0) ∷ [];
+  centrings = origin ∷ vector half_an_edge half_an_edge (pos 0) ∷ [];
 }
 
 -- a, -c and -a/2 + b/2
 abbrev frame : Basis
-frame = record { a = vector UNIT (pos 0) (pos 0); b = vector (pos 0) (pos 0) (neg_ℤ UNIT); tau = vector (neg_ℤ half) half (pos 0) }
+frame = record { a = vector UNIT (pos 0) (pos 0); b = vector (pos 0) (pos 0) (neg_ℤ UNIT); tau = vector (neg_ℤ half_an_edge) half_an_edge (pos 0) }
 
 abbrev quarter : Height
 quarter = record { num = pos 1; den = pos 4 }
 
 -- x-1/2,-y+1/2,z
 abbrev glide : Motion
-glide = record { matrix = diagonal (pos 1) (negsuc 0) (pos 1); translation = vector (neg_ℤ half) half (pos 0) }
+glide = record { matrix = diagonal (pos 1) (negsuc 0) (pos 1); translation = vector (neg_ℤ half_an_edge) half_an_edge (pos 0) }
 
 -- the signs of the listed operations, and c', which is 0,1/2,0
 rotation_keeps : sign_at row (still (diagonal (negsuc 0) (pos 1) (negsuc 0))) ≡ pos 1
@@ -57,7 +53,7 @@ glide_turns : sign_at row glide ≡ negsuc 0
 unfolding plus multiple
 glide_turns = refl
 
-mean_is : mean_of row frame.tau listing.ops ≡ record { at = vector (pos 0) (pos 4 *ℤ half) (pos 0); over = UNIT *ℤ pos 4 }
+mean_is : mean_of row frame.tau listing.ops ≡ record { at = vector (pos 0) (pos 4 *ℤ half_an_edge) (pos 0); over = UNIT *ℤ pos 4 }
 unfolding dot plus multiple
 mean_is = refl
 
@@ -76,8 +72,8 @@ same_as_mirror : SameModulo listing glide (motion_at listing.ops 3)
 unfolding plus multiple
 same_as_mirror = record {
   matrix = refl;
-  translation = subtracted (vector half half (pos 0)) (vector UNIT (pos 0) (pos 0))
-      (added origin (vector half half (pos 0)) zero_vector (inr (inl (1, lit< tt, refl)))) (inl (0, lit< tt, refl));
+  translation = subtracted (vector half_an_edge half_an_edge (pos 0)) (vector UNIT (pos 0) (pos 0))
+      (added origin (vector half_an_edge half_an_edge (pos 0)) zero_vector (inr (inl (1, lit< tt, refl)))) (inl (0, lit< tt, refl));
 }
 
 is_member : IsMember listing glide

@@ -10,12 +10,16 @@ pub record Listing : Type 0 where
   pub ops : List Motion
   pub centrings : List Vector
 
+-- the edge of the cell along the third axis
+abbrev pub third_edge : Vector
+third_edge = record { x = pos 0; y = pos 0; z = UNIT }
+
 -- the three edges of the cell
 abbrev pub edges : List Vector
 edges =
     record { x = UNIT; y = pos 0; z = pos 0 }
     ∷ record { x = pos 0; y = UNIT; z = pos 0 }
-    ∷ record { x = pos 0; y = pos 0; z = UNIT }
+    ∷ third_edge
     ∷ []
 
 -- a vector that the lattice is made of: an edge, a centring vector, or a listed translation

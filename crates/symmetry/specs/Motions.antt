@@ -32,6 +32,10 @@ pub record Point : Type 0 where
 abbrev pub IsPoint : Point → Type 0
 IsPoint p = pos 1 ≤ℤ p.over
 
+-- the two points are one
+abbrev pub SamePoint : Point → Point → Type 0
+SamePoint x y = multiple y.over x.at ≡ multiple x.over y.at
+
 -- where a motion takes a point: UNIT W (X,Y,Z) + n w over UNIT n
 abbrev pub moved : Motion → Point → Point
 moved g p = record {

@@ -14,7 +14,8 @@ use Rattle.triplets.specs.TextReading.{Said, Kept, kept, kept_start, text_run}
 use Rattle.triplets.proofs.BegunRows.{one_begun_row}
 use Rattle.triplets.proofs.FirstTexts.{IsTextKept, text_given}
 use Rattle.triplets.proofs.Answered.{text_lines_one}
-use Rattle.triplets.proofs.LineByLine.{make_listing, listing_path}
+use Rattle.triplets.proofs.LineByLine.{listing_path}
+use Rattle.triplets.proofs.LineEnds.{make_listing}
 
 -- what the reader keeps is told by the bytes
 is_kept : (nt : Notation) → (bytes : List ℕ) (k : Kept) → text_run nt (Ok kept_start) bytes ≡ Ok k → IsKept nt bytes k.said.generated k.said.listing k.line k.column

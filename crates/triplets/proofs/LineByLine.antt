@@ -22,7 +22,7 @@ use Rattle.triplets.specs.declared.place.TextPlace.TheVariants as texts
 use Rattle.triplets.specs.HeadingReading.{in_line, text_step, text_completed, text_ending, is_heading}
 use Rattle.triplets.specs.Texts.{with_front, lines_of, listed_then, Fault}
 use Rattle.triplets.specs.TextReading.{Said, Kept, said_vector, moved, new_line, ended, fault_here, with_operation, text_run, byte_step}
-use Rattle.triplets.proofs.LineEnds.{is_line}
+use Rattle.triplets.proofs.LineEnds.{is_line, make_listing}
 use Rattle.triplets.proofs.LinePlaces.{end_fault}
 use Rattle.triplets.proofs.Runs.{going, stopped, run_stopped, run_more}
 
@@ -39,9 +39,6 @@ pub record InLine (nt : Notation) (k : Kept) (here : LinePlace) (base : Said) (n
   pub line : k.line ≡ n
   pub column : k.column ≡ length before + 1
   pub run : line_run nt (Ok line_start) before ≡ going (record { place = here; vectors = vs })
-
-abbrev pub make_listing : List Motion → List Vector → Listing
-make_listing x y = record { ops = x; centrings = y }
 
 pub listing_path : (a b : Listing) → a.ops ≡ b.ops → a.centrings ≡ b.centrings → a ≡ b
 listing_path a b e f = ap (λ (x : List Motion). make_listing x a.centrings) e ∙ ap (λ (y : List Vector). make_listing b.ops y) f

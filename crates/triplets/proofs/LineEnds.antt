@@ -22,7 +22,7 @@ use Rattle.triplets.proofs.VectorSteps.{as_vector, as_vector_text}
 use Rattle.triplets.proofs.LineSteps.{line_goes}
 use Rattle.triplets.proofs.Runs.{going}
 
-abbrev make_listing : List Motion → List Vector → Listing
+abbrev pub make_listing : List Motion → List Vector → Listing
 make_listing x y = record { ops = x; centrings = y }
 
 lists_is : (a b : Listing) → lists a ≡ lists b → b ≡ a

@@ -27,6 +27,7 @@ use Rattle.triplets.proofs.LineSeen.{LineSeen, SameMark}
 use Rattle.triplets.proofs.PartEnds.{settles}
 use Rattle.triplets.proofs.LineAgrees.{index, PartKnown}
 use Rattle.triplets.proofs.Runs.{follows}
+use Rattle.triplets.specs.Bytes.{comma}
 
 abbrev pub Suffix : (nt : Notation) → (o c : ℕ) → (Axis → Bool) → ℕ → TextKind → Type 0
 Suffix nt o c S b k =
@@ -107,9 +108,6 @@ not_fresh m c n (inl h) e (inl x) = e (sym h.0 ∙ x)
 not_fresh m c n (inl h) e (inr (inl x)) = h.1 x
 not_fresh m c n (inl h) e (inr (inr x)) = h.2 x.0
 not_fresh m c n (inr h) e x = e h.0
-
-abbrev pub comma : ℕ
-comma = 44
 
 pub early_rest : (nt : Notation) → (spot : Spot) (g : Seen) (f : LineSeen) (S : Axis → Bool) → SpotAgrees spot g → SameMark f.mark f.commas g.mark →
     TableRow ((comma ≡ 44) × Fresh f.mark f.commas) kinds.Empty (early_comma spot) (Suffix nt f.other f.count S 44 (early_comma spot))

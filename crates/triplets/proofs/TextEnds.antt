@@ -17,7 +17,8 @@ use Rattle.triplets.specs.Texts.{with_front, nothing_listed, listed_then, AreLin
 use Rattle.triplets.specs.TextReading.{Said, Kept, ended, fault_here, outcome}
 use Rattle.triplets.proofs.LinePlaces.{byte_fault}
 use Rattle.triplets.proofs.Runs.{going, stopped}
-use Rattle.triplets.proofs.LineByLine.{said_then, InLine, make_listing, listing_path, make_said, no_ending, a_line, bad_line, said_line, ended_is, Claim, IsByLine, HoldsBehind, by_line}
+use Rattle.triplets.proofs.LineByLine.{said_then, InLine, listing_path, make_said, no_ending, a_line, bad_line, said_line, ended_is, Claim, IsByLine, HoldsBehind, by_line}
+use Rattle.triplets.proofs.LineEnds.{make_listing}
 
 -- what a text gives whose lines before say this
 abbrev pub IsOutcome : (nt : Notation) → Result Said Fault → Said → ℕ → List (List ℕ) → Type 0

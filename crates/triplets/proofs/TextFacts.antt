@@ -35,9 +35,6 @@ pub gives_along : {B D : Type 0} (e : TextFault) (r : Result B Fault) (s : Resul
 gives_along faults.NoMemory r s f h = tt
 gives_along (faults.At l c k) r s f h = f (record { line = l; column = c; kind = k }) h
 
-abbrev some_fault : TextFault → Option TextFault
-some_fault e = Some e
-
 abbrev no_fault : Option TextFault
 no_fault = None
 
@@ -48,7 +45,7 @@ stands_fault nt r faults.NoMemory b text i h n g f = inl refl
 stands_fault nt r (faults.At l c k) b text i h n g f = inr (record {
   run_is = f (record { line = l; column = c; kind = k }) g ∙ sym (ap (λ (o : Option TextFault). kept_or o (kept r)) h);
   fed = n;
-  memory = λ z. let y : some_fault (faults.At l c k) ≡ some_fault faults.NoMemory = sym h ∙ z in cc;
+  memory = λ z. let y : a_fault (faults.At l c k) ≡ a_fault faults.NoMemory = sym h ∙ z in cc;
   reads = i;
 })
 

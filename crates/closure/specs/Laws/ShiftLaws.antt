@@ -9,12 +9,12 @@ use Rattle.symmetry.proofs.VectorLaws.{plus_comm, minus-plus, minus-same, opposi
 use Rattle.symmetry.proofs.MatrixLaws.{image-unit, image-minus, product-unit_left, product-unit_right}
 use Rattle.symmetry.proofs.MotionLaws.{motion_path}
 use Rattle.motions.specs.declared.motion.Motion3.{Motion3}
-use Rattle.motions.specs.Views.{parts, motion_of}
+use Rattle.motions.specs.Views.{parts, motion_of, array_of}
 use Rattle.closure.specs.declared.lattice.Lattice.{Lattice}
 use Rattle.closure.specs.Residues.{IsWhole, residue, has_residue}
 use Rattle.closure.specs.Laws.ResidueLaws.{has_residue-is, residue-same, residue-parts, whole_from_residues, whole-image, residue-residue}
 use Rattle.closure.specs.Laws.FirstLaws.{in_plus, in_flip, first-in, first-reduced, first-first, first-same}
-use Rattle.closure.specs.Lattices.{residues_of, InLattice, IsLatticeShift, array_of, first_with, lattice_home, IsHome}
+use Rattle.closure.specs.Lattices.{residues_of, InLattice, IsLatticeShift, first_with, lattice_home, IsHome}
 
 -- the kind of motions modulo the lattice
 abbrev pub modulo : Lattice → Kind

@@ -4,13 +4,14 @@ use Rattle.std.specs.Prelude.{unsigned_abs}
 use Rattle.std.specs.Int.{int_rem_euclid}
 use Rattle.std.proofs.lemmas.Int.{ints}
 use Rattle.integers.proofs.Ring.{mul_assoc}
+use Rattle.fractions.specs.Parts.{edge}
 use Rattle.quotient.specs.Kind.{AreShiftsGroup, IsSame, Keeps}
 use Rattle.motions.specs.Signs.{sign_value}
 use Rattle.motions.specs.FriezeMotions.{FriezeOperation, frieze_followed_by, frieze_identity, frieze_translation}
 use Rattle.motions.specs.Laws.SignLaws.{sign_product-plus}
 use Rattle.motions.specs.Laws.FriezeLaws.{frieze_path}
 use Rattle.friezes.specs.declared.line_op.LineOp.{LineOp}
-use Rattle.friezes.specs.Lines.{IsLineShift, edge, line_home, line_kind, line_of}
+use Rattle.friezes.specs.Lines.{IsLineShift, line_home, line_kind, line_of}
 
 -- ---- a number of half parts without the whole edges in it
 

@@ -7,9 +7,10 @@ use lib.Signed.{lt_z_yes, lt_z_no}
 use Rattle.std.proofs.lemmas.Int.{ints}
 use Rattle.std.proofs.lemmas.Bool.Decides.{Decides-int_eq, Decides-and, Decides-or, Decides-like}
 use Rattle.integers.proofs.Spread.{spread}
+use Rattle.fractions.specs.Parts.{edge, rest_of_edge}
 use Rattle.motions.specs.PlaneMatrices.{Matrix2, Pair, image2, minus2, opposite2, origin2, plus2}
 use Rattle.motions.specs.Laws.PlaneMatrixLaws.{pair_path, image2-plus, minus2-plus}
-use Rattle.layer_types.specs.Lattices.{IsHome, IsLexAtMost, IsReduced, IsWholeVector, InLattice, centring, edge, half_edge, home_vector, in_lattice, keeps_lattice, leaves, rest_of_edge}
+use Rattle.layer_types.specs.Lattices.{IsHome, IsLexAtMost, IsReduced, IsWholeVector, InLattice, centring, half_edge, home_vector, in_lattice, keeps_lattice, leaves}
 
 -- ---- sums and multiples
 

@@ -14,9 +14,9 @@ use Rattle.symmetry.proofs.MatrixLaws.{image-plus, image-multiple, image-unit, p
 use Rattle.symmetry.proofs.MotionLaws.{motion_path}
 use Rattle.symmetry.proofs.FrameLaws.{combination-multiple, combination-origin, combination-plus}
 use Rattle.motions.specs.declared.motion.Motion3.{Motion3}
-use Rattle.motions.specs.Views.{motion_of, parts}
+use Rattle.motions.specs.Views.{motion_of, parts, array_of}
 use Rattle.plane_lattice.specs.Coordinates.{volume, scaled, IsPlaneCombination}
-use Rattle.plane_lattice.specs.PlaneLattice.{IsPlaneShift, whole_part, home_shift, of_vector, home_of_motion}
+use Rattle.plane_lattice.specs.PlaneLattice.{IsPlaneShift, whole_part, home_shift, home_of_motion}
 
 -- ---- coordinates
 
@@ -91,7 +91,7 @@ module _ (f : Basis) (spans : pos 1 ≤ℤ volume f) where
 pub translation_of : Vector → Motion3
 translation_of v = record {
   w = (pos 1 ∷ pos 0 ∷ pos 0 ∷ []) ∷ (pos 0 ∷ pos 1 ∷ pos 0 ∷ []) ∷ (pos 0 ∷ pos 0 ∷ pos 1 ∷ []) ∷ [];
-  t = of_vector v;
+  t = array_of v;
 }
 
 -- the kind of the motions of space, where the shifts are the plane lattice

@@ -1,5 +1,5 @@
 -- The frame is that of the plane.
-use Rattle.std.proofs.Common.{◌≡◌, ◌∙◌, ap, sym, subst}
+use Rattle.std.proofs.Common.{◌∙◌, ap, sym, subst}
 use Rattle.std.specs.Prelude.{IfOk}
 use Rattle.motions.specs.Views.{row_of}
 use Rattle.motions.specs.declared.miller.Miller.{Miller}

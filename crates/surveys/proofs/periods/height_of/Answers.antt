@@ -1,5 +1,5 @@
 -- The indices are at most INDEX in size, and the entries at most UNIT.
-use Rattle.std.proofs.Common.{◌≡◌, ℕ, ℤ, pos, List, [], ◌∷◌, arith, unsigned_abs}
+use Rattle.std.proofs.Common.{ℕ, ℤ, List, [], ◌∷◌, arith, unsigned_abs}
 use Rattle.std.proofs.lemmas.Int.{ints}
 use Rattle.fractions.specs.declared.part.Part.{Part}
 use Rattle.fractions.specs.declared.part.TheConstants.{UNIT}

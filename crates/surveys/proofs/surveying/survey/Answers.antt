@@ -1,4 +1,4 @@
-use Rattle.std.proofs.Common.{ℕ, ℤ, pos, ◌+◌, map, Vec, List, [], ◌∷◌, true, false, unsigned_abs, refl, sym, subst, ap, arith, ◌≡◌, ◌∙◌}
+use Rattle.std.proofs.Common.{pos, ◌+◌, map, Vec, List, [], ◌∷◌, true, false, unsigned_abs, refl, sym, subst, ap, arith, ◌≡◌, ◌∙◌}
 use Rattle.std.proofs.lemmas.Int.{ints}
 use Rattle.std.proofs.lemmas.List.{map-append}
 use Rattle.integers.proofs.Coded.{again}
