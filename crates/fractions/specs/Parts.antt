@@ -1,6 +1,6 @@
 -- Parts of a cell edge, and half parts, modulo whole edges.
-use Rattle.std.specs.Prelude.{◌≡◌, ℤ, pos, ◌+ℤ◌, ◌*ℤ◌, ◌≤ℤ◌, ◌<ℤ◌}
-use Rattle.std.specs.Int.{int_div, int_rem_euclid}
+use Rattle.std.specs.Prelude.{◌≡◌, ℤ, pos, ◌+ℤ◌, ◌*ℤ◌, ◌≤ℤ◌, ◌<ℤ◌, int_div}
+use Rattle.std.specs.Int.{int_rem_euclid}
 use Rattle.fractions.specs.declared.part.TheConstants.{UNIT}
 
 -- what is left of a number of parts without the whole edges in it

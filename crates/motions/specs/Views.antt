@@ -1,5 +1,5 @@
 -- The code's arrays as vectors, matrices and motions.
-use Rattle.std.specs.Prelude.{ℕ, ℤ, pos, List, [], slice_index_or, map}
+use Rattle.std.specs.Prelude.{ℕ, ℤ, pos, List, [], ◌∷◌, slice_index_or, map}
 use Rattle.fractions.specs.declared.part.Part.{Part}
 use Rattle.motions.specs.declared.motion.Motion3.{Motion3}
 use Rattle.motions.specs.declared.listed.Listed.{Listed}
