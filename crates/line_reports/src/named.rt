@@ -11,7 +11,8 @@ ghost use Rattle.motions.specs.PlaneSizes.{IsPairWithin};
 ghost use Rattle.plane_lattice.specs.Bounds.{largest_entry, largest_period};
 ghost use Rattle.plane_motions.specs.PlaneMotions.{parts2};
 ghost use Rattle.line_reports.specs.LineOrigins.{lowest_point2, origin_along, origin_at_height};
-ghost use Rattle.line_scans.specs.SmallLineScans.{IsSmallLineHeight, IsSmallLineScan, IsSmallPeriod};
+ghost use Rattle.plane_lattice.specs.SmallHeights.{IsSmallHeight};
+ghost use Rattle.line_scans.specs.SmallLineScans.{IsSmallLineScan, IsSmallPeriod};
 ghost use Rattle.line_reports.specs.WrittenView.{edges_of, parts_of};
 
 use crate::written::{InEdges, InParts};
@@ -48,7 +49,7 @@ pub(crate) fn origin_along(a: &[Part; 2], found: &FoundFrieze) -> InEdges
 /// The origin (s/d) tau + (x/grid) a of a change at a special height, in lowest terms.
 pub(crate) fn origin_at_height(scan: &LineScan, s: Ratio, found: &FoundFrieze) -> InEdges
     requires scan { IsSmallLineScan scan.now }
-    requires s { IsSmallLineHeight (fraction_of s) }
+    requires s { IsSmallHeight (fraction_of s) }
     ensures { edges_of result ≡ lowest_point2 (origin_at_height scan.now.period.0 (fraction_of s)
         (parts2 scan.now.a) (parts2 scan.now.tau) (change_of found.now)) }
 {
@@ -61,7 +62,7 @@ pub(crate) fn origin_at_height(scan: &LineScan, s: Ratio, found: &FoundFrieze) -
 
 // An entry of it, by the entries of tau and of x a.
 fn origin_entry(s: Ratio, period: Part, tau: Part, v: Part) -> Ratio
-    requires s { IsSmallLineHeight (fraction_of s) }
+    requires s { IsSmallHeight (fraction_of s) }
     requires period { IsSmallPeriod period.0 }
     requires tau { IsWithin largest_entry tau.0 }
     requires v { IsWithin (GRID * largest_entry) v.0 }

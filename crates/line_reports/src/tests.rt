@@ -2,7 +2,8 @@
 ghost use Rattle.std.specs.Prelude.{IfOk};
 ghost use Rattle.fractions.specs.FractionOf.{fraction_of};
 ghost use Rattle.integers.specs.Size.{IsWithin};
-ghost use Rattle.line_scans.specs.SmallLineScans.{IsSmallLineHeight, IsSmallLineScan};
+ghost use Rattle.plane_lattice.specs.SmallHeights.{IsSmallHeight};
+ghost use Rattle.line_scans.specs.SmallLineScans.{IsSmallLineScan};
 
 use crate::lines_text;
 use fractions::{Part, Ratio, UNIT};
@@ -81,7 +82,7 @@ end
 
 fn halves(num: i64) -> Ratio
     requires { IsWithin 2 num }
-    ensures { IsSmallLineHeight (fraction_of result) }
+    ensures { IsSmallHeight (fraction_of result) }
 {
     Ratio::make(i128::from(num), 2).unwrap()
 }

@@ -2,9 +2,10 @@
 ghost use Rattle.std.specs.Prelude.{◌≡◌, ◌++◌, All, IfOk, OnOk, codes, map, flat_map, string_bytes};
 ghost use Rattle.fractions.specs.FractionOf.{fraction_of};
 ghost use Rattle.triplets.specs.Writing.{number_text};
+ghost use Rattle.plane_lattice.specs.SmallHeights.{IsSmallHeight};
 ghost use Rattle.line_scans.specs.LineView.{line_height_of, line_scan_of};
 ghost use Rattle.line_reports.specs.LineTexts.{frame_text, general_text, height_text, indices_text, lines_text};
-ghost use Rattle.line_scans.specs.SmallLineScans.{IsSmallLineHeight, IsSmallLineScan};
+ghost use Rattle.line_scans.specs.SmallLineScans.{IsSmallLineScan};
 
 use crate::lines::{write_edges, write_vector};
 use crate::named::{origin_along, origin_at_height};
@@ -81,7 +82,7 @@ fn write_general(text: &mut String, scan: &LineScan) -> Result<(), NoMemory>
 // The blocks of the special heights.
 fn write_heights(text: &mut String, scan: &LineScan, heights: &[LineHeight]) -> Result<(), NoMemory>
     requires scan { IsSmallLineScan scan.now }
-    requires heights { All (λ h. IsSmallLineHeight (fraction_of h.s)) heights.now }
+    requires heights { All (λ h. IsSmallHeight (fraction_of h.s)) heights.now }
     ensures { OnOk result (string_bytes text.new
         ≡ string_bytes text.old
         ++ flat_map (height_text (line_scan_of scan.now)) (map line_height_of heights.now)) }
@@ -94,7 +95,7 @@ fn write_heights(text: &mut String, scan: &LineScan, heights: &[LineHeight]) -> 
 
 fn write_height(text: &mut String, scan: &LineScan, height: &LineHeight) -> Result<(), NoMemory>
     requires scan { IsSmallLineScan scan.now }
-    requires height { IsSmallLineHeight (fraction_of height.now.s) }
+    requires height { IsSmallHeight (fraction_of height.now.s) }
     ensures { OnOk result (string_bytes text.new
         ≡ string_bytes text.old
         ++ height_text (line_scan_of scan.now) (line_height_of height.now)) }

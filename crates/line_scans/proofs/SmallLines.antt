@@ -15,11 +15,11 @@ use Rattle.symmetry.specs.Planes.{Height as HeightOfLine}
 use Rattle.symmetry.specs.Vectors.{Vector}
 use Rattle.symmetry.specs.Frames.{Basis}
 use Rattle.plane_lattice.specs.Bounds.{largest_period}
+use Rattle.plane_lattice.specs.SmallHeights.{IsSmallHeight}
 use Rattle.scanning.specs.Levels.{IsLevel}
 use Rattle.scanning.specs.declared.height.Height.{Height}
 use Rattle.line_scans.specs.LineOps.{IsStep}
 use Rattle.line_scans.specs.LineView.{IsLineHeightOf}
-use Rattle.line_scans.specs.SmallLineScans.{IsSmallLineHeight}
 use Rattle.line_scans.specs.declared.scan.LineHeight.{LineHeight}
 
 -- a level at a step of the period lies from 0 to below two periods
@@ -38,7 +38,7 @@ lowest_level s level e =
     (given (num (pos 1)) (num (pos 2) ⊗ var 0 ⊗ num UNIT) (var 1 ⊗ var 2) ∷ []) tt (sym e, tt)
 
 module _ (r : Vector) (f : Basis) (d : ℤ) (above : pos 1 ≤ℤ d) (within : IsWithin largest_period d) where
-  small_line_height : (h : Height) (line : LineHeight) → IsLineHeightOf r f d h line → IsSmallLineHeight (fraction_of line.s)
+  small_line_height : (h : Height) (line : LineHeight) → IsLineHeightOf r f d h line → IsSmallHeight (fraction_of line.s)
   small_line_height h line of =
       let s = fraction_of line.s in
       let x = h.level in
@@ -53,9 +53,9 @@ module _ (r : Vector) (f : Basis) (d : ℤ) (above : pos 1 ≤ℤ d) (within : I
       record { num = num; den = den; above = line.s.positive }
 
   pub small_line_heights : (hs : List Height) (lines : List LineHeight) → AllZip (IsLineHeightOf r f d) hs lines
-      → All (λ line. IsSmallLineHeight (fraction_of line.s)) lines
+      → All (λ line. IsSmallHeight (fraction_of line.s)) lines
   small_line_heights [] [] zip = All-nil _
   small_line_heights [] (y ∷ ys) zip = absurd zip
   small_line_heights (x ∷ xs) [] zip = absurd zip
   small_line_heights (x ∷ xs) (y ∷ ys) zip =
-      All-cons (λ line. IsSmallLineHeight (fraction_of line.s)) y ys (small_line_height x y zip.0) (small_line_heights xs ys zip.1)
+      All-cons (λ line. IsSmallHeight (fraction_of line.s)) y ys (small_line_height x y zip.0) (small_line_heights xs ys zip.1)

@@ -14,6 +14,7 @@ use Rattle.symmetry.specs.Planes.{Height}
 use Rattle.symmetry.specs.Scans.{IsInPeriod, SpecialHeight}
 use Rattle.symmetry.proofs.HeightsInPeriod.{less_by_factor}
 use Rattle.plane_lattice.specs.Bounds.{largest_period}
+use Rattle.plane_lattice.specs.SmallHeights.{IsSmallHeight}
 use Rattle.scanning.specs.declared.height.Height.{Height as HeightOfScan}
 use Rattle.scanning.specs.declared.scan.Scan.{Scan}
 use Rattle.scanning.specs.HeightView.{IsInHalves, special_of}
@@ -23,7 +24,6 @@ use Rattle.report.specs.declared.report.Report.{Report}
 use Rattle.report.specs.declared.report.HeightSection.{HeightSection}
 use Rattle.report.specs.Reports.{HeightBlock}
 use Rattle.report.specs.SectionView.{block_of}
-use Rattle.report.specs.SmallHeights.{IsSmallHeight}
 
 -- the half parts that there are
 pub half_parts : (s : Height) → IsInHalves s → s.den *ℤ int_div (pos 2 *ℤ s.num *ℤ UNIT) s.den ≡ pos 2 *ℤ s.num *ℤ UNIT

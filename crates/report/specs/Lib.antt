@@ -11,7 +11,6 @@ pub mod SectionView
 pub mod Shown
 pub mod SlabTexts
 pub mod SurveyTexts
-pub mod SmallHeights
 pub mod Texts
 pub mod TypeNumbers
 pub mod TypeTexts

@@ -5,6 +5,7 @@ use Rattle.integers.specs.Size.{IsWithin}
 use Rattle.fractions.specs.declared.part.TheConstants.{UNIT}
 use Rattle.fractions.specs.Fraction.{Fraction}
 use Rattle.fractions.specs.LowestTerms.{gcd}
+use Rattle.fractions.specs.Fractions.{Fractions}
 use Rattle.symmetry.specs.Vectors.{Vector}
 use Rattle.symmetry.specs.Frames.{Basis}
 use Rattle.motions.specs.declared.miller.TheConstants.{INDEX}
@@ -12,7 +13,7 @@ use Rattle.motions.specs.declared.miller.PlaneFault.{PlaneFault}
 use Rattle.motions.specs.declared.miller.PlaneFault.TheVariants as planes
 use Rattle.requests.specs.declared.refusal.Refusal.{Refusal}
 use Rattle.requests.specs.declared.refusal.Refusal.TheVariants.{FourIndex, OutOfRange, AllZero, NotCoprime, FrameLimit, HeightLimit}
-use Rattle.requests.specs.Words.{all_three, Fractions, FrameWords, Indices}
+use Rattle.requests.specs.Words.{all_three, FrameWords, Indices}
 
 -- whether the three numbers are at most INDEX in size
 abbrev pub are_small_indices : Vector → Bool

@@ -1,10 +1,10 @@
 -- The limits of a line and of its rod frame.
 use Rattle.std.specs.Prelude.{Option, Some, None, option_and_then, option_map, Result, Ok, Err}
+use Rattle.fractions.specs.Fractions.{Fractions}
 use Rattle.symmetry.specs.Vectors.{Vector}
 use Rattle.motions.specs.declared.miller.PlaneFault.{PlaneFault}
 use Rattle.requests.specs.declared.refusal.Refusal.{Refusal}
 use Rattle.requests.specs.declared.refusal.Refusal.TheVariants.{FrameLimit, PointLimit}
-use Rattle.requests.specs.Words.{Fractions}
 use Rattle.requests.specs.RodWords.{RodFrameWords}
 use Rattle.requests.specs.Limits.{edges_basis, plane_fault, plane_refusal, vector_parts}
 

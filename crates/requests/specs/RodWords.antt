@@ -2,8 +2,9 @@
 use Rattle.std.specs.Prelude.{ℕ, List, [], ◌∷◌, if◌then◌else◌, Option, Some, None, option_map, option_and_then, codes}
 use Rattle.std.specs.Str.{bytes_eq}
 use Rattle.fractions.specs.Fraction.{Fraction}
+use Rattle.fractions.specs.Fractions.{Fractions}
 use Rattle.symmetry.specs.Vectors.{Vector}
-use Rattle.requests.specs.Words.{first_word, Fractions, ratio_to_end, three_indices, vector_word}
+use Rattle.requests.specs.Words.{first_word, ratio_to_end, three_indices, vector_word}
 
 -- the direction `u v w`
 abbrev pub direction_first : List (List ℕ) → Option (Vector × List (List ℕ))

@@ -3,6 +3,7 @@ use Rattle.std.specs.Prelude.{ℕ}
 use Rattle.std.specs.Option.{option_map}
 use Rattle.fractions.specs.FractionOf.{fraction_of}
 use Rattle.fractions.specs.declared.ratio.Ratio.{Ratio}
+use Rattle.fractions.specs.Fractions.{Fractions}
 use Rattle.motions.specs.Views.{parts, row_of}
 use Rattle.motions.specs.BasisView.{basis_of}
 use Rattle.penetration.specs.DirectionView.{direction_of}
@@ -20,7 +21,7 @@ use Rattle.requests.specs.declared.request.Table.{Table as ReadTable}
 use Rattle.requests.specs.declared.request.Table.TheVariants as tables
 use Rattle.requests.specs.declared.request.Request.{Request}
 use Rattle.requests.specs.declared.request.Request.TheVariants as requests
-use Rattle.requests.specs.Words.{Fractions, FrameWords, Indices, Placed}
+use Rattle.requests.specs.Words.{FrameWords, Indices, Placed}
 use Rattle.requests.specs.Limits.{PlaneWords, Planes}
 use Rattle.requests.specs.SlabLimits.{SlabWords}
 use Rattle.requests.specs.Questions.{Question, Table, Asked, at_height, between_heights, all_heights, image_rows, survey_within, along_line, all_lines, of_type, of_sample, about, tabulate}

@@ -7,6 +7,7 @@ use Rattle.std.specs.Str.Parse.{without_leading_sign, signed_digits_value}
 use Rattle.fractions.specs.Fraction.{Fraction}
 use Rattle.fractions.specs.LowestTerms.{lowest_terms}
 use Rattle.fractions.specs.WrittenRatio.{numerator, denominator, ratio_end, ratio_fault}
+use Rattle.fractions.specs.Fractions.{Fractions}
 use Rattle.symmetry.specs.Vectors.{Vector}
 use Rattle.requests.specs.declared.request.Form.{Form}
 use Rattle.requests.specs.declared.request.Form.TheVariants.{Text, Json}
@@ -49,12 +50,6 @@ ratio_before_comma word at =
 -- the same to the end of the word
 unfoldable pub ratio_to_end : List ℕ → ℕ → Option Fraction
 ratio_to_end word at = option_and_then (λ r. if r.behind == length word then Some r.ratio else None) (ratio_at word at)
-
--- three ratios
-pub record Fractions : Type 0 where
-  pub x : Fraction
-  pub y : Fraction
-  pub z : Fraction
 
 -- the vector that a word is: three ratios joined by commas
 abbrev pub vector_word : List ℕ → Option Fractions

@@ -13,10 +13,10 @@ use Rattle.plane_lattice.specs.declared.frame.Frame.{Frame}
 use Rattle.scanning.specs.HeightView.{special_of}
 use Rattle.orbits.proofs.SpecialHeights.{length-heights}
 use Rattle.recognition.specs.Search.{change_of}
+use Rattle.plane_lattice.specs.SmallHeights.{IsSmallHeight}
 use Rattle.report.specs.FoundChanges.{IsTypeAt}
 use Rattle.report.specs.ReportView.{IsReportOf}
 use Rattle.report.specs.SectionTypes.{IsGeneralList, IsSpecialList}
-use Rattle.report.specs.SmallHeights.{IsSmallHeight}
 use Rattle.report.proofs.Made.{frame_made, report_of_each, report_of_scan}
 use Rattle.report.proofs.ScanSections.{general_list, special_lists}
 use Rattle.report.proofs.SmallSizes.{small_specials}
