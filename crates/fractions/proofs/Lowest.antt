@@ -180,3 +180,9 @@ lowest_terms-without m u n den d t v hm hu h k =
   where
     not_zero : (x : ℤ) → pos 1 ≤ℤ x → ¬ (x ≡ pos 0)
     not_zero x h = omega (arith, ints)
+
+-- where q x is 2 p u, p over q is x over 2 u
+pub same_half : (p q x u : ℤ) → q *ℤ x ≡ pos 2 *ℤ p *ℤ u → p *ℤ (pos 2 *ℤ u) ≡ x *ℤ q
+same_half p q x u e =
+    linear (p ∷ q ∷ x ∷ u ∷ []) (var 0 ⊗ (literal (pos 2) ⊗ var 3)) (var 2 ⊗ var 1)
+    (given (literal (negsuc 0)) (var 1 ⊗ var 2) (literal (pos 2) ⊗ var 0 ⊗ var 3) ∷ []) tt (e, tt)

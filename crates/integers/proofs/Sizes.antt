@@ -1,10 +1,15 @@
 -- How large quotients and factors are.
-use Rattle.std.proofs.Common.{◌≡◌, ℕ, zero, suc, ◌+◌, ◌*◌, ◌≤◌, ◌<◌, ℤ, pos, ◌+ℤ◌, ◌*ℤ◌, ◌≤ℤ◌, ◌<ℤ◌, nat_abs, refl, sym, subst, ◌∙◌, arith}
+use Rattle.std.proofs.Common.{◌≡◌, ℕ, zero, suc, ◌+◌, ◌*◌, ◌≤◌, ◌<◌, ℤ, pos, ◌+ℤ◌, ◌*ℤ◌, ◌≤ℤ◌, ◌<ℤ◌, nat_abs, refl, sym, subst, ◌∙◌, arith, Bool, true, false, cond, negsuc, lit≤}
 use Rattle.std.proofs.Math.Nat.{le_of_mul-le-mul_left}
 use Rattle.std.proofs.lemmas.Int.{ints}
 use lib.IntN.{*ℤ_comm}
 use Rattle.integers.specs.Size.{IsWithin}
 use Rattle.integers.proofs.Ring.{IsWithin-add, IsWithin-mul, abs-mul, abs-zero}
+
+-- 1 and -1
+pub unit_within : (b : Bool) → IsWithin 1 (cond b (pos 1) (negsuc 0))
+unit_within true = record { most = lit≤ tt }
+unit_within false = record { most = lit≤ tt }
 
 -- a natural number is within each that is not less
 pub pos_within : (n x : ℕ) (z : ℤ) → x ≤ n → z ≡ pos x → IsWithin n z

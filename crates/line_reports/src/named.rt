@@ -10,8 +10,8 @@ ghost use Rattle.line_types.specs.FriezeRows.{frieze_row};
 ghost use Rattle.motions.specs.PlaneSizes.{IsPairWithin};
 ghost use Rattle.plane_lattice.specs.Bounds.{largest_entry, largest_period};
 ghost use Rattle.plane_motions.specs.PlaneMotions.{parts2};
-ghost use Rattle.scanning.specs.SmallHeights.{IsSmallHeight};
 ghost use Rattle.line_reports.specs.LineOrigins.{lowest_point2, origin_along, origin_at_height};
+ghost use Rattle.plane_lattice.specs.SmallHeights.{IsSmallHeight};
 ghost use Rattle.line_scans.specs.SmallLineScans.{IsSmallLineScan, IsSmallPeriod};
 ghost use Rattle.line_reports.specs.WrittenView.{edges_of, parts_of};
 

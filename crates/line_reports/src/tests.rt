@@ -2,7 +2,7 @@
 ghost use Rattle.std.specs.Prelude.{IfOk};
 ghost use Rattle.fractions.specs.FractionOf.{fraction_of};
 ghost use Rattle.integers.specs.Size.{IsWithin};
-ghost use Rattle.scanning.specs.SmallHeights.{IsSmallHeight};
+ghost use Rattle.plane_lattice.specs.SmallHeights.{IsSmallHeight};
 ghost use Rattle.line_scans.specs.SmallLineScans.{IsSmallLineScan};
 
 use crate::lines_text;

@@ -2,7 +2,7 @@
 ghost use Rattle.std.specs.Prelude.{◌≡◌, ◌++◌, All, IfOk, OnOk, codes, map, flat_map, string_bytes};
 ghost use Rattle.fractions.specs.FractionOf.{fraction_of};
 ghost use Rattle.triplets.specs.Writing.{number_text};
-ghost use Rattle.scanning.specs.SmallHeights.{IsSmallHeight};
+ghost use Rattle.plane_lattice.specs.SmallHeights.{IsSmallHeight};
 ghost use Rattle.line_scans.specs.LineView.{line_height_of, line_scan_of};
 ghost use Rattle.line_reports.specs.LineTexts.{frame_text, general_text, height_text, indices_text, lines_text};
 ghost use Rattle.line_scans.specs.SmallLineScans.{IsSmallLineScan};

@@ -15,9 +15,9 @@ use Rattle.symmetry.specs.Planes.{Height as HeightOfLine}
 use Rattle.symmetry.specs.Vectors.{Vector}
 use Rattle.symmetry.specs.Frames.{Basis}
 use Rattle.plane_lattice.specs.Bounds.{largest_period}
+use Rattle.plane_lattice.specs.SmallHeights.{IsSmallHeight}
 use Rattle.scanning.specs.Levels.{IsLevel}
 use Rattle.scanning.specs.declared.height.Height.{Height}
-use Rattle.scanning.specs.SmallHeights.{IsSmallHeight}
 use Rattle.line_scans.specs.LineOps.{IsStep}
 use Rattle.line_scans.specs.LineView.{IsLineHeightOf}
 use Rattle.line_scans.specs.declared.scan.LineHeight.{LineHeight}

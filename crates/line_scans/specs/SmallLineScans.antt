@@ -2,11 +2,10 @@
 use Rattle.std.specs.Prelude.{ℤ, pos, ◌≤ℤ◌, All}
 use Rattle.fractions.specs.FractionOf.{fraction_of}
 use Rattle.integers.specs.Size.{IsWithin}
-use Rattle.symmetry.specs.Planes.{Height}
 use Rattle.motions.specs.PlaneSizes.{IsPairWithin}
 use Rattle.plane_lattice.specs.Bounds.{largest_entry, largest_period}
 use Rattle.plane_motions.specs.PlaneMotions.{parts2}
-use Rattle.scanning.specs.SmallHeights.{IsSmallHeight}
+use Rattle.plane_lattice.specs.SmallHeights.{IsSmallHeight}
 use Rattle.line_scans.specs.declared.scan.LineScan.{LineScan}
 
 -- a period in parts

@@ -1,5 +1,5 @@
 -- How large the numbers of a' and b' are: the rod operations take a and b to combinations with small coefficients.
-use Rattle.std.proofs.Common.{◌≡◌, inl, inr, ℕ, suc, ◌*◌, ◌<◌, ◌≤◌, ◌^◌, ℤ, pos, negsuc, ◌+ℤ◌, ◌*ℤ◌, ◌≤ℤ◌, Bool, true, false, cond, List, [], ◌∷◌, length, map, sym, ap, subst, ◌∙◌, arith, lit≤}
+use Rattle.std.proofs.Common.{◌≡◌, inl, inr, ℕ, suc, ◌*◌, ◌<◌, ◌≤◌, ◌^◌, ℤ, pos, negsuc, ◌+ℤ◌, ◌*ℤ◌, ◌≤ℤ◌, List, [], ◌∷◌, length, map, sym, ap, subst, ◌∙◌, arith, lit≤}
 use Rattle.std.specs.Prelude.{slice_index_or, unsigned_abs}
 use Rattle.std.proofs.lemmas.Int.{ints}
 use Rattle.std.proofs.lemmas.List.{length-map}
@@ -14,6 +14,7 @@ use Rattle.integers.specs.Size.{IsWithin}
 use Rattle.integers.proofs.Order.{mul_left_cancel_pos}
 use Rattle.integers.proofs.Ring.{IsWithin-add, IsWithin-more, IsWithin-mul, mul_zero}
 use Rattle.integers.proofs.Solver.{Expr.{var, num, ◌⊕◌, ◌⊗◌}, ring}
+use Rattle.integers.proofs.Sizes.{unit_within}
 use Rattle.fractions.proofs.Arrays.{fraction_at-lowest, fraction_at-positive}
 use Rattle.symmetry.specs.Vectors.{Vector, dot, cross, image, multiple, plus}
 use Rattle.symmetry.specs.Motions.{Motion}
@@ -36,11 +37,7 @@ use Rattle.penetration.proofs.MadeRodFrames.{rod_turned_near, turned_a, turned_b
 
 -- a sign is 1 in size
 sign_within : (u : Vector) (m : Motion) → IsWithin 1 (sign_along u m)
-sign_within u m = by (same_vector (image m.matrix u) u)
-  where
-    by : (b : Bool) → IsWithin 1 (cond b (pos 1) (negsuc 0))
-    by true = record { most = lit≤ tt }
-    by false = record { most = lit≤ tt }
+sign_within u m = unit_within (same_vector (image m.matrix u) u)
 
 -- k(W v) is a whole number of at most 500 in size
 abbrev IsTurnedNear : Basis → Vector → Motion → Type 0

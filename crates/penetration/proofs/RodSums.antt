@@ -5,7 +5,7 @@ use Rattle.std.proofs.lemmas.Int.{ints}
 use Rattle.std.proofs.lemmas.List.{append-nil, get_or_default, length-append}
 use Rattle.std.proofs.lemmas.List.Elements.{filter-append}
 use Rattle.std.proofs.lemmas.List.Kept.{AllPairs-filter}
-use Rattle.std.proofs.lemmas.Bool.{cases_order}
+use Rattle.std.proofs.lemmas.Bool.{cases_order, or_left, or_right}
 use Rattle.symmetry.specs.Vectors.{Vector, multiple, opposite, image}
 use Rattle.symmetry.specs.Motions.{Motion, identity}
 use Rattle.symmetry.specs.Planes.{IsCoprime}
@@ -26,16 +26,8 @@ use Rattle.penetration.proofs.DirectionSigns.{keeps_by_sign, sign_is}
 -- ---- the test of the direction
 
 pub keeps_true : (u : Vector) (m : Motion) → KeepsDirection u m → keeps_along u m ≡ true
-keeps_true u m (inl e) = or_first (same_vector (image m.matrix u) u) _ ((same_vector-is (image m.matrix u) u).1 e)
-  where
-    or_first : (a b : Bool) → a ≡ true → (a || b) ≡ true
-    or_first true b t = refl
-    or_first false b t = absurd (cc t)
-keeps_true u m (inr e) = or_second (same_vector (image m.matrix u) u) _ ((same_vector-is (image m.matrix u) (opposite u)).1 e)
-  where
-    or_second : (a b : Bool) → b ≡ true → (a || b) ≡ true
-    or_second true b t = refl
-    or_second false b t = t
+keeps_true u m (inl e) = or_left (same_vector (image m.matrix u) u) _ ((same_vector-is (image m.matrix u) u).1 e)
+keeps_true u m (inr e) = or_right (same_vector (image m.matrix u) u) _ ((same_vector-is (image m.matrix u) (opposite u)).1 e)
 
 pub true_keeps : (u : Vector) (m : Motion) → keeps_along u m ≡ true → KeepsDirection u m
 true_keeps u m t = by (same_vector (image m.matrix u) u) refl t

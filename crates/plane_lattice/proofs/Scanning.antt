@@ -1,10 +1,12 @@
 -- The scanning operations of a list, one operation after the other.
-use Rattle.std.proofs.Common.{◌≡◌, inl, inr, ℕ, ◌+◌, ◌<◌, pos, negsuc, Bool, true, false, ◌||◌, cond, List, [], ◌∷◌, ◌++◌, length, map, take, get_or, refl, sym, ap, subst, ◌∙◌, arith, add-one, ◌*◌, lit≤}
+use Rattle.std.proofs.Common.{◌≡◌, inl, inr, ℕ, ◌+◌, ◌<◌, pos, negsuc, Bool, true, false, ◌||◌, cond, List, [], ◌∷◌, ◌++◌, length, map, take, get_or, refl, sym, ap, subst, ◌∙◌, arith, add-one, ◌*◌}
 use Rattle.std.proofs.Math.Seq.{take-suc}
 use Rattle.std.proofs.lemmas.List.{append-nil, length-append, map-append}
 use Rattle.std.proofs.lemmas.List.Elements.{filter-append}
+use Rattle.std.proofs.lemmas.Bool.{or_left, or_right}
 use Rattle.integers.specs.Size.{IsWithin}
 use Rattle.integers.proofs.Ring.{IsWithin-add, IsWithin-mul}
+use Rattle.integers.proofs.Sizes.{unit_within}
 use Rattle.symmetry.specs.Sizes.{IsVectorWithin}
 use Rattle.symmetry.specs.Vectors.{Vector, plus, minus, multiple, opposite, image, row_times}
 use Rattle.symmetry.specs.Motions.{Motion}
@@ -19,16 +21,8 @@ use Rattle.plane_lattice.specs.Scanning.{keeps_orientation, scanning_ops}
 -- ---- the test of the orientation
 
 pub keeps_true : (r : Vector) (m : Motion) → KeepsOrientation r m → keeps_orientation r m ≡ true
-keeps_true r m (inl e) = or_first (same_vector (row_times r m.matrix) r) _ ((same_vector-is (row_times r m.matrix) r).1 e)
-  where
-    or_first : (a b : Bool) → a ≡ true → (a || b) ≡ true
-    or_first true b t = refl
-    or_first false b t = absurd (cc t)
-keeps_true r m (inr e) = or_second (same_vector (row_times r m.matrix) r) _ ((same_vector-is (row_times r m.matrix) (opposite r)).1 e)
-  where
-    or_second : (a b : Bool) → b ≡ true → (a || b) ≡ true
-    or_second true b t = refl
-    or_second false b t = t
+keeps_true r m (inl e) = or_left (same_vector (row_times r m.matrix) r) _ ((same_vector-is (row_times r m.matrix) r).1 e)
+keeps_true r m (inr e) = or_right (same_vector (row_times r m.matrix) r) _ ((same_vector-is (row_times r m.matrix) (opposite r)).1 e)
 
 pub true_keeps : (r : Vector) (m : Motion) → keeps_orientation r m ≡ true → KeepsOrientation r m
 true_keeps r m t = by (same_vector (row_times r m.matrix) r) refl t
@@ -107,11 +101,7 @@ with_none r m x t v none is = is ∙ ap (λ (b : Bool). cond b (plus t (multiple
 -- ---- sizes
 
 sign_within : (r : Vector) (m : Motion) → IsWithin 1 (sign_at r m)
-sign_within r m = by (same_vector (row_times r m.matrix) r)
-  where
-    by : (b : Bool) → IsWithin 1 (cond b (pos 1) (negsuc 0))
-    by true = record { most = lit≤ tt }
-    by false = record { most = lit≤ tt }
+sign_within r m = unit_within (same_vector (row_times r m.matrix) r)
 
 pub total_within : (n k : ℕ) (r : Vector) (m : Motion) (t v x : Vector) → IsVectorWithin n t → IsVectorWithin k v
     → x ≡ cond (keeps_orientation r m) (plus t (multiple (sign_at r m) v)) t → IsVectorWithin (n + 1 * k) x

@@ -8,6 +8,7 @@ use Rattle.fractions.specs.declared.part.TheConstants.{UNIT}
 use Rattle.integers.proofs.Order.{mul_left_cancel_pos, one-le-mul}
 use Rattle.integers.proofs.Solver.{Expr, Expr.{var, num, neg, ◌⊕◌, ◌⊝◌, ◌⊗◌}, ring, linear, given}
 use Rattle.fractions.specs.Parts.{edge}
+use Rattle.integers.proofs.Ring.{add_left_cancel}
 use Rattle.symmetry.specs.Vectors.{Vector, Matrix, plus, minus, multiple, cross, dot, image}
 use Rattle.symmetry.specs.Motions.{Motion, Point, moved}
 use Rattle.symmetry.specs.Groups.{Listing}
@@ -181,10 +182,7 @@ image-combination w f k =
 
 plus_cancel : (u v w : Vector) → plus u v ≡ plus u w → v ≡ w
 unfolding plus
-plus_cancel u v w e = vector_path (entry u.x v.x w.x (λ i. (e i).x)) (entry u.y v.y w.y (λ i. (e i).y)) (entry u.z v.z w.z (λ i. (e i).z))
-  where
-    entry : (a b c : ℤ) → a +ℤ b ≡ a +ℤ c → b ≡ c
-    entry a b c e = omega (arith, ints)
+plus_cancel u v w e = vector_path (add_left_cancel u.x v.x w.x (λ i. (e i).x)) (add_left_cancel u.y v.y w.y (λ i. (e i).y)) (add_left_cancel u.z v.z w.z (λ i. (e i).z))
 
 -- matrices that agree at a, b and a vector above the plane are one
 module _ (r : Vector) (f : Basis) (right : (k : ℤ) × (pos 0 <ℤ k) × (cross f.a f.b ≡ multiple k r)) (up : pos 0 <ℤ dot r f.tau) (c : Vector) (above : pos 1 ≤ℤ dot r c)

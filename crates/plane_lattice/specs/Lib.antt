@@ -8,3 +8,4 @@ pub mod Laws
 pub mod Scanning
 pub mod Sections
 pub mod Skews
+pub mod SmallHeights

@@ -104,3 +104,8 @@ three_items (x ∷ []) d e = absurd (omega arith)
 three_items (x ∷ y ∷ []) d e = absurd (omega arith)
 three_items (x ∷ y ∷ z ∷ []) d e = refl
 three_items (x ∷ y ∷ z ∷ w ∷ xs) d e = absurd (omega arith)
+
+-- what is so of the only one is so of all
+pub All-single : {X : Type 0} (P : X → Type 0) (x : X) → P x → All P (x ∷ [])
+All-single P x p zero d h = p
+All-single P x p (suc k) d h = absurd (omega arith)

@@ -6,6 +6,7 @@ use Rattle.integers.specs.Size.{IsWithin}
 use Rattle.integers.proofs.Coded.{again, fits_within}
 use Rattle.integers.proofs.Solver.{Expr, Expr.{var, num, ◌⊕◌, ◌⊝◌, ◌⊗◌}, ring}
 use Rattle.integers.proofs.Wide.{wide, wide_is, code_fits, code_is}
+use Rattle.integers.proofs.Order.{lt-le_trans}
 use Rattle.symmetry.specs.Vectors.{Vector, Matrix, plus, multiple}
 use Rattle.symmetry.specs.Sizes.{IsVectorWithin}
 use Rattle.symmetry.proofs.VectorLaws.{vector_path}
@@ -92,10 +93,7 @@ module _ (g : Matrix) (form : IsForm g) (v w : Vector) (hv : IsShort g v) (a h k
       shorter_less g form v w (pos 0 -ℤ wide k) (subst (λ z. pos 1 ≤ℤ z) (sym back) from) (subst (λ z. (z *ℤ by_form g w w) <ℤ (pos 2 *ℤ by_form g v w)) (sym back) l)
 
   pub step_small : IsVectorWithin largest_short (combined (pos 1) v (pos 0 -ℤ wide k) w)
-  step_small = let l = step_less in let m = hv.most in short_within g form _ (record { most = below_most _ _ _ l m })
-    where
-      below_most : (x y z : ℤ) → x <ℤ y → y ≤ℤ z → x ≤ℤ z
-      below_most x y z h k = omega (arith, ints)
+  step_small = let l = step_less in let m = hv.most in short_within g form _ (record { most = lt-le_trans _ _ _ l m })
 
   pub step_shortens : (u : Vector) → u ≡ combined (pos 1) v (pos 0 -ℤ wide k) w → Shortens g v w u
   step_shortens u e = record { times = pos 0 -ℤ wide k; is = e; less = subst (λ (t : Vector). by_form g t t <ℤ by_form g v v) (sym e) step_less }

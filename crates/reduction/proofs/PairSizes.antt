@@ -1,7 +1,8 @@
 -- How short the two vectors of a pair are, and their sum and difference.
-use Rattle.std.proofs.Common.{ℕ, ◌*◌, ◌≤◌, ℤ, pos, negsuc, ◌+ℤ◌, ◌*ℤ◌, ◌≤ℤ◌, ◌<ℤ◌, sym, subst, lit≤, arith}
+use Rattle.std.proofs.Common.{ℕ, ◌*◌, ◌≤◌, ℤ, pos, negsuc, ◌+ℤ◌, ◌*ℤ◌, ◌≤ℤ◌, sym, subst, lit≤, arith}
 use Rattle.std.proofs.lemmas.Int.{ints}
 use Rattle.integers.specs.Size.{IsWithin}
+use Rattle.integers.proofs.Order.{le_pos-more, lt-le_trans}
 use Rattle.symmetry.specs.Vectors.{Vector, Matrix}
 use Rattle.symmetry.specs.Sizes.{IsVectorWithin}
 use Rattle.symmetry.specs.Frames.{Basis}
@@ -15,25 +16,16 @@ use Rattle.reduction.proofs.Unshortened.{above, below}
 
 module _ (g : Matrix) where
   pub short : (v : Vector) → by_form g v v ≤ℤ pos largest_begun → IsShort g v
-  short v h = record { most = at_most (by_form g v v) largest_begun (largest_short * largest_short) h (lit≤ tt) }
-    where
-      at_most : (x : ℤ) (m n : ℕ) → x ≤ℤ pos m → m ≤ n → x ≤ℤ pos n
-      at_most x m n h k = omega (arith, ints)
+  short v h = record { most = le_pos-more (by_form g v v) largest_begun (largest_short * largest_short) h (lit≤ tt) }
 
   -- a shorter vector is as short
   pub shorter : (v w u : Vector) → by_form g v v ≤ℤ pos largest_begun → Shortens g v w u → by_form g u u ≤ℤ pos largest_begun
-  shorter v w u h s = let l = s.less in go (by_form g u u) (by_form g v v) largest_begun l h
-    where
-      go : (x y : ℤ) (n : ℕ) → x <ℤ y → y ≤ℤ pos n → x ≤ℤ pos n
-      go x y n h k = omega (arith, ints)
+  shorter v w u h s = let l = s.less in lt-le_trans (by_form g u u) (by_form g v v) (pos largest_begun) l h
 
 -- the sum and the difference of a pair of which the first does not shorten the second
 module _ (g : Matrix) (form : IsForm g) (f : Basis) (pair : IsShortPair g f) (first : IsUnshortened g f.b f.a) where
   three : (x : ℤ) → x ≤ℤ pos (3 * largest_begun) → x ≤ℤ pos (largest_short * largest_short)
-  three x h = go x (3 * largest_begun) (largest_short * largest_short) h (lit≤ tt)
-    where
-      go : (x : ℤ) (m n : ℕ) → x ≤ℤ pos m → m ≤ n → x ≤ℤ pos n
-      go x m n h k = omega (arith, ints)
+  three x h = le_pos-more x (3 * largest_begun) (largest_short * largest_short) h (lit≤ tt)
 
   within_three : (p q r : ℤ) (n : ℕ) → p ≤ℤ pos n → r ≤ℤ pos n → (pos 2 *ℤ q) ≤ℤ p → (negsuc 1 *ℤ q) ≤ℤ p
       → ((p +ℤ pos 1 *ℤ (pos 2 *ℤ q +ℤ pos 1 *ℤ r)) ≤ℤ pos (3 * n)) × ((p +ℤ negsuc 0 *ℤ (pos 2 *ℤ q +ℤ negsuc 0 *ℤ r)) ≤ℤ pos (3 * n))

@@ -1,7 +1,7 @@
 -- A multiple of one vector of the plane is added to the other.
 use Rattle.std.proofs.Common.{◌≡◌, ◌<◌, ℤ, pos, negsuc, ◌+ℤ◌, ◌-ℤ◌, ◌*ℤ◌, ◌≤ℤ◌, ◌<ℤ◌, nat_abs, [], ◌∷◌, sym, ap, subst, ◌∙◌, arith}
 use Rattle.std.proofs.lemmas.Int.{ints}
-use Rattle.integers.proofs.Order.{zero-le-square}
+use Rattle.integers.proofs.Order.{zero-le-square, lt-le_trans}
 use Rattle.integers.proofs.Solver.{Expr.{var, num, ◌⊕◌, ◌⊝◌, ◌⊗◌}, ring}
 use Rattle.symmetry.specs.Vectors.{Vector, Matrix, plus, multiple, opposite, dot, cross}
 use Rattle.symmetry.specs.Groups.{Listing}
@@ -66,10 +66,7 @@ module _ (g : Listing) (r : Vector) (a b tau : Vector) (h : IsAdapted g r (recor
 
 -- sizes
 pub still_short : (g : Matrix) (v w u : Vector) → IsShort g v → Shortens g v w u → IsShort g u
-still_short g v w u h s = let m = h.most in let l = s.less in record { most = go _ _ _ l m }
-  where
-    go : (x y z : ℤ) → x <ℤ y → y ≤ℤ z → x ≤ℤ z
-    go x y z h k = omega (arith, ints)
+still_short g v w u h s = let m = h.most in let l = s.less in record { most = lt-le_trans _ _ _ l m }
 
 not_negative : (g : Matrix) → IsForm g → (v : Vector) → pos 0 ≤ℤ by_form g v v
 unfolding dot

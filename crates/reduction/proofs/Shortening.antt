@@ -3,7 +3,7 @@ use native.Mathlib.Nat.{mul-le-mul}
 use Rattle.std.proofs.Common.{◌≡◌, ℕ, suc, ◌*◌, ◌≤◌, ◌⊎◌, inl, inr, ℤ, pos, negsuc, ◌+ℤ◌, ◌-ℤ◌, ◌*ℤ◌, ◌≤ℤ◌, ◌<ℤ◌, [], ◌∷◌, sym, ap, subst, ◌∙◌, arith}
 use Rattle.std.proofs.lemmas.Int.{ints}
 use Rattle.integers.specs.Size.{IsWithin}
-use Rattle.integers.proofs.Order.{zero-le-square, one-le-mul}
+use Rattle.integers.proofs.Order.{zero-le-square, one-le-mul, le_trans}
 use Rattle.integers.proofs.Solver.{Expr.{var, num, ◌⊕◌, ◌⊝◌, ◌⊗◌}, linear, given, ring}
 use Rattle.symmetry.specs.Vectors.{Vector, Matrix, plus, multiple, dot, image}
 use Rattle.symmetry.specs.Sizes.{IsVectorWithin}
@@ -89,12 +89,9 @@ short_within g form v h =
     let x = zero-le-square v.x in
     let y = zero-le-square v.y in
     let z = zero-le-square v.z in
-    let sum : (v.x *ℤ v.x +ℤ v.y *ℤ v.y +ℤ v.z *ℤ v.z) ≤ℤ pos (largest_short * largest_short) = at_most _ _ _ p most in
+    let sum : (v.x *ℤ v.x +ℤ v.y *ℤ v.y +ℤ v.z *ℤ v.z) ≤ℤ pos (largest_short * largest_short) = le_trans _ _ _ p most in
     record {
       x = square_within largest_short v.x (omega (arith, ints));
       y = square_within largest_short v.y (omega (arith, ints));
       z = square_within largest_short v.z (omega (arith, ints));
     }
-  where
-    at_most : (a b c : ℤ) → a ≤ℤ b → b ≤ℤ c → a ≤ℤ c
-    at_most a b c h k = omega (arith, ints)

@@ -1,7 +1,7 @@
 -- What it means that no multiple of a vector makes another shorter.
-use Rattle.std.proofs.Common.{◌≡◌, ◌⊎◌, inl, inr, zero, suc, ℤ, pos, negsuc, ◌+ℤ◌, ◌*ℤ◌, ◌≤ℤ◌, refl, sym, ap, subst, ◌∙◌, arith}
+use Rattle.std.proofs.Common.{◌≡◌, inl, inr, zero, suc, ℤ, pos, negsuc, ◌+ℤ◌, ◌*ℤ◌, ◌≤ℤ◌, refl, sym, ap, subst, ◌∙◌, arith}
 use Rattle.std.proofs.lemmas.Int.{ints}
-use Rattle.integers.proofs.Order.{zero-le-square}
+use Rattle.integers.proofs.Order.{zero-le-square, le_trans, positive_or_not}
 use Rattle.symmetry.specs.Vectors.{Vector, Matrix, origin, dot}
 use Rattle.symmetry.proofs.VectorLaws.{vector_path, dot-origin}
 use Rattle.symmetry.proofs.MatrixLaws.{image-origin}
@@ -23,20 +23,12 @@ no_squares v h =
     let z = zero-le-square v.z in
     vector_path (square_zero v.x (omega (arith, ints))) (square_zero v.y (omega (arith, ints))) (square_zero v.z (omega (arith, ints)))
 
-positive_or_not : (x : ℤ) → (pos 1 ≤ℤ x) ⊎ (x ≤ℤ pos 0)
-positive_or_not (pos zero) = inr (omega (arith, ints))
-positive_or_not (pos (suc n)) = inl (omega (arith, ints))
-positive_or_not (negsuc n) = inr (omega (arith, ints))
-
 form-origin : (g : Matrix) (v : Vector) → by_form g v origin ≡ pos 0
 form-origin g v = ap (dot v) (image-origin g) ∙ dot-origin v
 
 module _ (g : Matrix) (form : IsForm g) (v w : Vector) (h : IsUnshortened g v w) where
   no_length : by_form g w w ≤ℤ pos 0 → w ≡ origin
-  no_length none = let p = form.positive w in no_squares w (at_most _ _ _ p none)
-    where
-      at_most : (a b c : ℤ) → a ≤ℤ b → b ≤ℤ c → a ≤ℤ c
-      at_most a b c h k = omega (arith, ints)
+  no_length none = let p = form.positive w in no_squares w (le_trans _ _ _ p none)
 
   -- the two bounds, of a w that is 0 too
   pub above : (pos 2 *ℤ by_form g v w) ≤ℤ by_form g w w

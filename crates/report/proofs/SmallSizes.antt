@@ -1,5 +1,5 @@
 -- How large the numbers of a height in a period are, which is a whole number of half parts.
-use Rattle.std.proofs.Common.{◌≡◌, ℕ, ◌*◌, ◌<◌, length, map, get_or, ℤ, pos, ◌+ℤ◌, ◌*ℤ◌, ◌<ℤ◌, List, [], ◌∷◌, unsigned_abs, sym, ap, subst, ◌∙◌, arith}
+use Rattle.std.proofs.Common.{◌≡◌, ℕ, ◌*◌, ◌<◌, length, map, get_or, ℤ, pos, ◌+ℤ◌, ◌*ℤ◌, ◌<ℤ◌, List, unsigned_abs, sym, ap, subst, ◌∙◌, arith}
 use Rattle.std.specs.Prelude.{All, int_div}
 use Rattle.std.proofs.lemmas.List.{get_or-map, length-map}
 use Rattle.std.proofs.lemmas.Int.{ints, quot-rem}
@@ -7,30 +7,23 @@ use lib.IntN.{*ℤ_comm}
 use Rattle.fractions.specs.declared.part.TheConstants.{UNIT}
 use Rattle.fractions.specs.FractionOf.{fraction_of}
 use Rattle.fractions.specs.LowestTerms.{lowest_terms, IsLowestForm, IsNoLarger}
-use Rattle.fractions.proofs.Lowest.{IsNoLarger-lowest_terms, lowest_terms-only}
+use Rattle.fractions.proofs.Lowest.{IsNoLarger-lowest_terms, lowest_terms-only, same_half}
 use Rattle.integers.specs.Size.{IsWithin}
 use Rattle.integers.proofs.Ring.{add_zero, IsWithin-mul}
-use Rattle.integers.proofs.Solver.{Expr.{var, num, ◌⊗◌}, given, linear}
 use Rattle.symmetry.specs.Planes.{Height}
 use Rattle.symmetry.specs.Scans.{IsInPeriod, SpecialHeight}
 use Rattle.symmetry.proofs.HeightsInPeriod.{less_by_factor}
 use Rattle.plane_lattice.specs.Bounds.{largest_period}
+use Rattle.plane_lattice.specs.SmallHeights.{IsSmallHeight}
 use Rattle.scanning.specs.declared.height.Height.{Height as HeightOfScan}
 use Rattle.scanning.specs.declared.scan.Scan.{Scan}
 use Rattle.scanning.specs.HeightView.{IsInHalves, special_of}
 use Rattle.scanning.proofs.MadeHeights.{in_halves}
 use Rattle.scanning.proofs.Shifts.{period_within}
-use Rattle.scanning.specs.SmallHeights.{IsSmallHeight}
 use Rattle.report.specs.declared.report.Report.{Report}
 use Rattle.report.specs.declared.report.HeightSection.{HeightSection}
 use Rattle.report.specs.Reports.{HeightBlock}
 use Rattle.report.specs.SectionView.{block_of}
-
--- q x = 2 p u: so p over q is x over 2 u
-same_number : (p q x u : ℤ) → q *ℤ x ≡ pos 2 *ℤ p *ℤ u → p *ℤ (pos 2 *ℤ u) ≡ x *ℤ q
-same_number p q x u e =
-    linear (p ∷ q ∷ x ∷ u ∷ []) (var 0 ⊗ (num (pos 2) ⊗ var 3)) (var 2 ⊗ var 1)
-    (given (num (pos 1)) (num (pos 2) ⊗ var 0 ⊗ var 3) (var 1 ⊗ var 2) ∷ []) tt (sym e, tt)
 
 -- the half parts that there are
 pub half_parts : (s : Height) → IsInHalves s → s.den *ℤ int_div (pos 2 *ℤ s.num *ℤ UNIT) s.den ≡ pos 2 *ℤ s.num *ℤ UNIT
@@ -43,7 +36,7 @@ small_height d s small inside halves =
     let form : IsLowestForm s x (pos 2 *ℤ UNIT) = record {
       positive = inside.positive;
       lowest = inside.lowest;
-      same = same_number s.num s.den x UNIT (half_parts s halves);
+      same = same_half s.num s.den x UNIT (half_parts s halves);
     } in
     let same : s ≡ lowest_terms x (pos 2 *ℤ UNIT) = lowest_terms-only s x (pos 2 *ℤ UNIT) (λ e. absurd (omega (arith, ints, e))) form in
     let no_larger : IsNoLarger s x (pos 2 *ℤ UNIT) = subst (λ q. IsNoLarger q x (pos 2 *ℤ UNIT)) (sym same) (IsNoLarger-lowest_terms x (pos 2 *ℤ UNIT)) in

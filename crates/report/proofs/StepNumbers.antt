@@ -10,7 +10,7 @@ use Rattle.integers.proofs.Wide.{wide, wide_is, cast_is}
 use Rattle.symmetry.specs.Planes.{Height}
 use Rattle.plane_lattice.specs.Bounds.{largest_period}
 use Rattle.plane_lattice.proofs.Steps.{step_within}
-use Rattle.scanning.specs.SmallHeights.{IsSmallHeight}
+use Rattle.plane_lattice.specs.SmallHeights.{IsSmallHeight}
 use Rattle.report.specs.SectionTypes.{IsAtStep}
 use Rattle.report.proofs.SeenLists.{step_divides, step_found}
 

@@ -8,7 +8,7 @@ ghost use Rattle.plane_lattice.specs.FrameView.{basis_of_frame};
 ghost use Rattle.recognition.specs.Search.{change_of};
 ghost use Rattle.serde_json.specs.Data.{array, string};
 ghost use Rattle.serde_json.specs.View.{items_of, view};
-ghost use Rattle.scanning.specs.SmallHeights.{IsSmallHeight};
+ghost use Rattle.plane_lattice.specs.SmallHeights.{IsSmallHeight};
 ghost use Rattle.report.specs.ReportView.{report_of};
 ghost use Rattle.report.specs.SectionView.{block_of};
 ghost use Rattle.report.specs.Values.{fractions_data, general_data, general_type_data, height_data, indices_data, named_data, operations_data, report_data, type_data, vector_data};

@@ -13,7 +13,7 @@ ghost use Rattle.plane_lattice.specs.Bounds.{largest_entry, largest_period};
 ghost use Rattle.plane_lattice.specs.FrameView.{basis_of_frame};
 ghost use Rattle.recognition.specs.Grid.{grid};
 ghost use Rattle.recognition.specs.Search.{change_of};
-ghost use Rattle.scanning.specs.SmallHeights.{IsSmallHeight};
+ghost use Rattle.plane_lattice.specs.SmallHeights.{IsSmallHeight};
 ghost use Rattle.report.specs.TypeVectors.{first_vector, lowest_point, origin_at_height, origin_in_plane, second_vector, third_vector};
 ghost use Rattle.report.specs.WrittenView.{directed_of, edges_of, parts_of};
 

@@ -14,7 +14,7 @@ ghost use Rattle.plane_lattice.specs.Sections.{height_in_steps};
 ghost use Rattle.scanning.specs.HeightView.{special_of};
 ghost use Rattle.recognition.specs.Search.{change_of};
 ghost use Rattle.recognition.specs.Sections.{IsSmallMotion};
-ghost use Rattle.scanning.specs.SmallHeights.{IsSmallHeight};
+ghost use Rattle.plane_lattice.specs.SmallHeights.{IsSmallHeight};
 ghost use Rattle.report.specs.FoundChanges.{IsGeneralType, IsTypeAt};
 ghost use Rattle.report.specs.SectionTypes.{IsAtStep, IsGeneralList, IsOnPlane, IsSeen, IsSpecialList};
 

@@ -4,7 +4,7 @@ ghost use Rattle.fractions.specs.FractionOf.{fraction_of};
 ghost use Rattle.recognition.specs.Search.{change_of};
 ghost use Rattle.motions.specs.Views.{row_of};
 ghost use Rattle.triplets.specs.Writing.{number_text};
-ghost use Rattle.scanning.specs.SmallHeights.{IsSmallHeight};
+ghost use Rattle.plane_lattice.specs.SmallHeights.{IsSmallHeight};
 ghost use Rattle.report.specs.ReportView.{report_of};
 ghost use Rattle.report.specs.SectionView.{block_of};
 ghost use Rattle.report.specs.Texts.{frame_text, indices_text, general_text, general_type_lines, height_text, type_lines};

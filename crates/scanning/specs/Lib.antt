@@ -5,5 +5,4 @@ pub mod Members
 pub mod HeightView
 pub mod PlaceView
 pub mod ScanView
-pub mod SmallHeights
 pub mod SpecialHeights

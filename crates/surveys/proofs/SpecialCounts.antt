@@ -4,10 +4,10 @@ use Rattle.std.proofs.lemmas.Int.{ints, by_lt_z}
 use Rattle.std.proofs.lemmas.List.{length-append, length-map}
 use Rattle.fractions.specs.LowestTerms.{IsLowestForm, lowest_terms}
 use Rattle.fractions.specs.declared.part.TheConstants.{UNIT}
-use Rattle.fractions.proofs.Lowest.{IsLowestForm-lowest_terms, lowest_terms-only}
+use Rattle.fractions.proofs.Lowest.{IsLowestForm-lowest_terms, lowest_terms-only, same_half}
 use Rattle.integers.proofs.Order.{mul_left_cancel_pos}
-use Rattle.integers.proofs.Solver.{Expr.{var, num, ◌⊕◌, ◌⊝◌, ◌⊗◌}, given, linear}
 use Rattle.integers.proofs.Ring.{add_comm}
+use Rattle.integers.proofs.Solver.{Expr.{var, num, ◌⊕◌, ◌⊗◌}, given, linear}
 use Rattle.symmetry.specs.Vectors.{Vector, dot, minus, multiple, plus, row_times}
 use Rattle.symmetry.specs.Motions.{Motion}
 use Rattle.symmetry.specs.Planes.{Height, IsCoprime}
@@ -93,11 +93,7 @@ half_once x y e = one_level (half x) x y (half_form x).positive (half_level x) (
 half_is : (s : Height) (d x : ℤ) → IsInPeriod d s → IsLevel s x → half x ≡ s
 half_is s d x inside level =
     sym (lowest_terms-only s x (pos 2 *ℤ UNIT) (λ e. absurd (omega (arith, ints, e)))
-    (record { positive = inside.positive; lowest = inside.lowest; same = flipped s.num s.den x UNIT level }))
-  where
-    flipped : (p q x u : ℤ) → q *ℤ x ≡ pos 2 *ℤ p *ℤ u → p *ℤ (pos 2 *ℤ u) ≡ x *ℤ q
-    flipped p q x u e =
-        linear (p ∷ q ∷ x ∷ u ∷ []) (var 0 ⊗ (num (pos 2) ⊗ var 3)) (var 2 ⊗ var 1) (given (num (negsuc 0)) (var 1 ⊗ var 2) (num (pos 2) ⊗ var 0 ⊗ var 3) ∷ []) tt (e, tt)
+    (record { positive = inside.positive; lowest = inside.lowest; same = same_half s.num s.den x UNIT level }))
 
 module _ (g : Listing) (r : Vector) (d : ℤ) (group : IsGroup g) (coprime : IsCoprime r) (period : IsPeriod g r d) where
   abbrev IsSpecialHeight : Height → Type 0

@@ -1,12 +1,12 @@
 -- Heights brought into the period.
-use Rattle.std.proofs.Common.{◌≡◌, zero, suc, ℤ, pos, negsuc, ◌+ℤ◌, ◌-ℤ◌, ◌*ℤ◌, ◌≤ℤ◌, ◌<ℤ◌, ◌⊎◌, inl, inr, sym, ◌∙◌, ap, arith, [], ◌∷◌}
+use Rattle.std.proofs.Common.{◌≡◌, ℤ, pos, negsuc, ◌+ℤ◌, ◌-ℤ◌, ◌*ℤ◌, ◌≤ℤ◌, ◌<ℤ◌, ◌⊎◌, inl, inr, sym, ◌∙◌, ap, arith, [], ◌∷◌}
 use Rattle.std.proofs.lemmas.Int.{ints}
 use Rattle.fractions.specs.declared.part.TheConstants.{UNIT}
 use Rattle.fractions.specs.Fraction.{SameFraction}
 use Rattle.fractions.specs.LowestTerms.{lowest_terms, IsLowestForm}
 use Rattle.fractions.proofs.Lowest.{IsLowestForm-lowest_terms}
 use Rattle.integers.proofs.Division.{floor}
-use Rattle.integers.proofs.Order.{mul_right_cancel_pos, mul-le-mul_right, one-le-mul, small_multiple, zero-le-mul}
+use Rattle.integers.proofs.Order.{mul_right_cancel_pos, mul-le-mul_right, one-le-mul, small_multiple, zero-le-mul, positive_or_not}
 use Rattle.integers.proofs.Ring.{add_mul, mul_add}
 use Rattle.integers.proofs.Solver.{Expr.{var, num, neg, ◌⊕◌, ◌⊝◌, ◌⊗◌}, linear, given, ring}
 use Rattle.symmetry.specs.Planes.{Height, IsHeight}
@@ -17,12 +17,7 @@ use Rattle.symmetry.specs.HeightMotions.{HeightMotion}
 
 -- one of two numbers is below the other, or not
 below_or_not : (a b : ℤ) → (a <ℤ b) ⊎ (b ≤ℤ a)
-below_or_not a b = elim (by_sign (b -ℤ a)) [ inl h ↦ inl (omega (arith, ints, h)) | inr h ↦ inr (omega (arith, ints, h)) ]
-  where
-    by_sign : (x : ℤ) → (pos 1 ≤ℤ x) ⊎ (x ≤ℤ pos 0)
-    by_sign (pos zero) = inr (omega (arith, ints))
-    by_sign (pos (suc n)) = inl (omega (arith, ints))
-    by_sign (negsuc n) = inr (omega (arith, ints))
+below_or_not a b = elim (positive_or_not (b -ℤ a)) [ inl h ↦ inl (omega (arith, ints, h)) | inr h ↦ inr (omega (arith, ints, h)) ]
 
 -- a factor of at least 1 is cancelled
 pub less_by_factor : (q a b : ℤ) → pos 1 ≤ℤ q → (a *ℤ q) <ℤ (b *ℤ q) → a <ℤ b

@@ -1,9 +1,10 @@
 -- What a text of pairs lists is flat.
-use Rattle.std.proofs.Common.{◌≡◌, ℕ, zero, suc, arith, ℤ, pos, Bool, true, false, List, [], ◌∷◌, refl, sym, subst}
+use Rattle.std.proofs.Common.{◌≡◌, ℕ, ℤ, pos, Bool, true, false, List, [], ◌∷◌, refl, sym, subst}
 use Rattle.std.specs.Prelude.{All}
 use Rattle.std.proofs.lemmas.List.Elements.{All-append, All-nil}
 use Rattle.symmetry.specs.Vectors.{Vector}
 use Rattle.symmetry.specs.Groups.{Listing}
+use Rattle.quotient.proofs.ListLaws.{All-single}
 use Rattle.plane_motions.specs.PlaneMotions.{IsFlat, IsFlatListing}
 use Rattle.triplets.specs.declared.notation.Notation.{Notation}
 use Rattle.triplets.specs.declared.notation.Notation.TheVariants.{Triplets, Pairs}
@@ -47,17 +48,13 @@ operation_flat v w = record { row_x = refl; row_y = refl; row_z = refl; column_x
 abbrev IsLevel : Vector → Type 0
 IsLevel v = v.z ≡ pos 0
 
-single : {A : Type 0} (P : A → Type 0) (x : A) → P x → All P (x ∷ [])
-single P x p zero d h = p
-single P x p (suc k) d h = absurd (omega arith)
-
 centrings_level : (vs : Centrings Pairs) → All IsLevel (centrings_value Pairs vs)
-centrings_level (one v) = single IsLevel (centring_value Pairs v) refl
-centrings_level (further vs v) = All-append IsLevel (centrings_value Pairs vs) (centring_value Pairs v ∷ []) (centrings_level vs) (single IsLevel (centring_value Pairs v) refl)
+centrings_level (one v) = All-single IsLevel (centring_value Pairs v) refl
+centrings_level (further vs v) = All-append IsLevel (centrings_value Pairs vs) (centring_value Pairs v ∷ []) (centrings_level vs) (All-single IsLevel (centring_value Pairs v) refl)
 
 form_flat : (f : Form Pairs) → IsFlatListing (form_value Pairs f)
 form_flat (empty bs) = record { operations = All-nil IsFlat; centrings = All-nil IsLevel }
-form_flat (operation l v w x) = record { operations = single IsFlat (motion_with (part_row Pairs v) (part_row Pairs w) axis_row) (operation_flat v w); centrings = All-nil IsLevel }
+form_flat (operation l v w x) = record { operations = All-single IsFlat (motion_with (part_row Pairs v) (part_row Pairs w) axis_row) (operation_flat v w); centrings = All-nil IsLevel }
 form_flat (row vs bs) = record { operations = All-nil IsFlat; centrings = centrings_level vs }
 
 lines_flat : (ls : List (List ℕ)) (g : Listing) → AreLines Pairs ls g → IsFlatListing g

@@ -1,5 +1,5 @@
 -- The numbers that a triplet or a group text gives are small.
-use Rattle.std.proofs.Common.{ℕ, zero, suc, ◌+◌, ◌*◌, ◌<◌, ◌≤◌, Bool, true, false, cond, List, [], ◌∷◌, ◌++◌, length, ℤ, sym, ◌∙◌, ap, subst, arith, length-append}
+use Rattle.std.proofs.Common.{ℕ, suc, ◌+◌, ◌*◌, ◌<◌, ◌≤◌, Bool, true, false, cond, List, [], ◌∷◌, ◌++◌, length, ℤ, sym, ◌∙◌, ap, subst, arith, length-append}
 use Rattle.std.specs.Prelude.{◌^◌, ◌==◌, nat_abs, All, map}
 use Rattle.std.proofs.lemmas.Int.{ints}
 use Rattle.std.proofs.lemmas.List.Elements.{All-append, All-nil}
@@ -20,6 +20,7 @@ use Rattle.triplets.specs.Grammar.{Digit, digit_value, Numerator, decimal, numer
 use Rattle.triplets.specs.Lines.{coordinate_text, third_coordinate_text, third_coordinate_value, ThirdCoordinate, Centring, centring_text, centring_value, Centrings, one, further, centrings_text, centrings_value, Form, empty, operation, row, form_text, form_value, label_text, comment_text, IsLine}
 use Rattle.triplets.specs.Texts.{lines_of, with_front, listed_then, nothing_listed, AreLines, AreTextLines, IsGroupText}
 use Rattle.integers.specs.Size.{IsWithin}
+use Rattle.quotient.proofs.ListLaws.{All-single}
 use Rattle.motions.specs.ListedSizes.{IsSmallWithin, IsListedSmall}
 use Rattle.motions.specs.declared.listed.Listed.{Listed}
 use Rattle.motions.specs.Views.{motion_of, parts, listing_of}
@@ -134,16 +135,12 @@ centring_small nt v n h i =
       z = third_coordinate_small nt v.three n h (omega arith);
     }
 
-single : {A : Type 0} (P : A → Type 0) (x : A) → P x → All P (x ∷ [])
-single P x p zero d h = p
-single P x p (suc k) d h = absurd (omega arith)
-
 centrings_small : (nt : Notation) → (r : Centrings nt) (n : ℕ) → n ≤ 16777216 → length (centrings_text nt r) ≤ n → All (IsVectorWithin (2 ^ 40)) (centrings_value nt r)
-centrings_small nt (one v) n h i = single (IsVectorWithin (2 ^ 40)) (centring_value nt v) (centring_small nt v n h i)
+centrings_small nt (one v) n h i = All-single (IsVectorWithin (2 ^ 40)) (centring_value nt v) (centring_small nt v n h i)
 centrings_small nt (further r v) n h i =
     let a = length-append (centrings_text nt r) (centring_text nt v) in
     All-append (IsVectorWithin (2 ^ 40)) (centrings_value nt r) (centring_value nt v ∷ []) (centrings_small nt r n h (omega arith))
-    (single (IsVectorWithin (2 ^ 40)) (centring_value nt v) (centring_small nt v n h (omega arith)))
+    (All-single (IsVectorWithin (2 ^ 40)) (centring_value nt v) (centring_small nt v n h (omega arith)))
 
 -- the operations and the vectors that are listed are small
 pub record IsListingSmall (g : Listing) : Type 0 where
@@ -157,7 +154,7 @@ form_small : (nt : Notation) → (f : Form nt) (n : ℕ) → n ≤ 16777216 → 
 form_small nt (empty bs) n h i = nothing_small
 form_small nt (operation l v w x) n h i =
     let a = length-append (label_text l) (part_text nt v ++ (44 ∷ (part_text nt w ++ third_text nt x))) in
-    record { ops = single (IsSmallWithin 9) (motion_with (part_row nt v) (part_row nt w) (third_row nt x)) (parts_within nt v w x n h (omega arith)); centrings = All-nil (IsVectorWithin (2 ^ 40)) }
+    record { ops = All-single (IsSmallWithin 9) (motion_with (part_row nt v) (part_row nt w) (third_row nt x)) (parts_within nt v w x n h (omega arith)); centrings = All-nil (IsVectorWithin (2 ^ 40)) }
 form_small nt (row r bs) n h i =
     let a = length-append (centrings_text nt r) (blanks_text bs) in
     record { ops = All-nil (IsSmallWithin 9); centrings = centrings_small nt r n h (omega arith) }

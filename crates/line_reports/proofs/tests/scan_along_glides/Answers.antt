@@ -3,7 +3,7 @@ use Rattle.std.specs.Prelude.{All}
 use Rattle.std.proofs.lemmas.Int.{ints}
 use Rattle.std.proofs.lemmas.List.Elements.{All-cons, All-nil}
 use Rattle.fractions.specs.FractionOf.{fraction_of}
-use Rattle.scanning.specs.SmallHeights.{IsSmallHeight}
+use Rattle.plane_lattice.specs.SmallHeights.{IsSmallHeight}
 use Rattle.line_reports.proofs.tests.scan_along_glides.Goals as goal
 
 all_of_two : {X : Type 0} (P : X → Type 0) (x y : X) {xs : List X} → xs ≡ x ∷ y ∷ [] → P x → P y → All P xs

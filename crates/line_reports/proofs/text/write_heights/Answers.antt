@@ -2,7 +2,7 @@ use Rattle.std.proofs.Common.{◌++◌, ap, sym, subst, ◌∙◌, arith}
 use Rattle.std.specs.Prelude.{string_bytes}
 use Rattle.fractions.specs.FractionOf.{fraction_of}
 use Rattle.triplets.proofs.TextLines.{one_line_more}
-use Rattle.scanning.specs.SmallHeights.{IsSmallHeight}
+use Rattle.plane_lattice.specs.SmallHeights.{IsSmallHeight}
 use Rattle.line_scans.specs.LineView.{line_height_of, line_scan_of}
 use Rattle.line_reports.specs.LineTexts.{height_text}
 use Rattle.line_reports.proofs.text.write_heights.Goals as goal

@@ -1,7 +1,7 @@
 use Rattle.std.proofs.Common.{sym, subst}
 use Rattle.std.specs.Prelude.{All}
 use Rattle.fractions.specs.FractionOf.{fraction_of}
-use Rattle.scanning.specs.SmallHeights.{IsSmallHeight}
+use Rattle.plane_lattice.specs.SmallHeights.{IsSmallHeight}
 use Rattle.report.proofs.SmallSizes.{small_sections}
 use Rattle.report.proofs.json.report_value.Goals as goal
 

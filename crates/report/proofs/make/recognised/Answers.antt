@@ -11,9 +11,9 @@ use Rattle.closure.proofs.OwnLattice.{own_listing}
 use Rattle.plane_lattice.specs.FrameView.{basis_of_frame}
 use Rattle.plane_lattice.specs.declared.frame.Frame.{Frame}
 use Rattle.scanning.specs.HeightView.{special_of}
-use Rattle.scanning.specs.SmallHeights.{IsSmallHeight}
 use Rattle.orbits.proofs.SpecialHeights.{length-heights}
 use Rattle.recognition.specs.Search.{change_of}
+use Rattle.plane_lattice.specs.SmallHeights.{IsSmallHeight}
 use Rattle.report.specs.FoundChanges.{IsTypeAt}
 use Rattle.report.specs.ReportView.{IsReportOf}
 use Rattle.report.specs.SectionTypes.{IsGeneralList, IsSpecialList}

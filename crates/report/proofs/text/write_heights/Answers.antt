@@ -2,7 +2,7 @@ use Rattle.std.proofs.Common.{◌++◌, ap, sym, subst, ◌∙◌, arith}
 use Rattle.std.specs.Prelude.{string_bytes}
 use Rattle.fractions.specs.FractionOf.{fraction_of}
 use Rattle.triplets.proofs.TextLines.{one_line_more}
-use Rattle.scanning.specs.SmallHeights.{IsSmallHeight}
+use Rattle.plane_lattice.specs.SmallHeights.{IsSmallHeight}
 use Rattle.report.specs.ReportView.{report_of}
 use Rattle.report.specs.SectionView.{block_of}
 use Rattle.report.specs.Texts.{height_text}

@@ -1,4 +1,4 @@
--- How large the numbers of a special height are.
+-- How large the numbers of a special height of planes or lines are.
 use Rattle.std.specs.Prelude.{◌*◌, unsigned_abs}
 use Rattle.fractions.specs.declared.part.TheConstants.{UNIT}
 use Rattle.integers.specs.Size.{IsWithin}
