@@ -11,4 +11,5 @@ pub mod Parts
 pub mod Positions
 pub mod Products
 pub mod Sameness
+pub mod ShiftGroups
 pub mod TableLemma
