@@ -11,7 +11,7 @@ use Rattle.quotient.specs.Kind.{IsEquivalence}
 use Rattle.quotient.specs.Lists.{AreFirst}
 use Rattle.quotient.specs.Lists.AreFirst.{none}
 use Rattle.quotient.proofs.Firsts.{AreFirst-kept, AreFirst-left_out}
-use Rattle.quotient.proofs.Items.{Contains-item_at}
+use Rattle.quotient.proofs.Items.{All-item_at, Contains-item_at}
 use Rattle.symmetry.specs.Vectors.{Vector, row_times}
 use Rattle.symmetry.specs.Motions.{Motion}
 use Rattle.symmetry.specs.Groups.{Listing}
@@ -101,7 +101,7 @@ motions_more ops i d h =
     take-map motion_of (i + 1) ops ∙ map_more motion_of ops i d h ∙ ap (λ l. l ++ motion_of (get_or ops i d) ∷ []) (sym (take-map motion_of i ops))
 
 pub motion_is_small : (n : ℕ) (ops : List Motion3) (i : ℕ) (d : Motion3) → All (IsSmallWithin n) (map motion_of ops) → i < length ops → IsSmall (motion_of (get_or ops i d))
-motion_is_small n ops i d small h = (All-contains (IsSmallWithin n) (map motion_of ops) (motion_of (get_or ops i d)) small (Contains-item_at motion_of ops i d h)).small
+motion_is_small n ops i d small h = (All-item_at motion_of ops (IsSmallWithin n) i d small h).small
 
 -- the rows of the code, up to one more operation
 module _ (r : Vector) (ops : List Motion3) (i : ℕ) (d : Motion3) (within : i < length ops) (row : List ℤ)

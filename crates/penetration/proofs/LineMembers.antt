@@ -7,7 +7,6 @@ use Rattle.integers.proofs.Division.{fractional_parts}
 use Rattle.integers.proofs.Order.{mul_left_cancel_pos, one-le-mul, at_least_one}
 use Rattle.integers.proofs.Ring.{mul_zero}
 use Rattle.integers.proofs.Solver.{Expr.{var, num, neg, ◌⊕◌, ◌⊝◌, ◌⊗◌}, linear, given}
-use Rattle.integers.proofs.Spread.{spread}
 use Rattle.symmetry.specs.Vectors.{Vector, plus, minus, multiple, dot, cross, image}
 use Rattle.symmetry.specs.Motions.{Motion, moved}
 use Rattle.symmetry.specs.Planes.{IsCoprime}
@@ -17,7 +16,7 @@ use Rattle.symmetry.specs.Lists.{IsChoice}
 use Rattle.symmetry.proofs.FrameLaws.{combination-minus, combination-multiple, cramer}
 use Rattle.symmetry.proofs.LatticeLaws.{same_member, same_sym, same_trans}
 use Rattle.symmetry.proofs.MotionLaws.{motion_path}
-use Rattle.symmetry.proofs.VectorLaws.{vector_path, dot-multiple, multiple-minus, minus-minus}
+use Rattle.symmetry.proofs.VectorLaws.{vector_path, dot-multiple, multiple-minus, minus-minus, dot-cross_first, dot-cross_second}
 use Rattle.plane_lattice.specs.Coordinates.{volume, scaled}
 use Rattle.plane_lattice.specs.Laws.QuotientLaws.{scaled-combination, scaled-plus}
 use Rattle.penetration.specs.Lines.{IsOnLine, InLineStabiliser}
@@ -104,14 +103,6 @@ drift_along f at c m ex ey =
     ∙ (λ i. minus (sym (cramer f (drift m at)) i) (sym (combination-multiple f v c) i))
     ∙ sym (combination-minus f s (multiple v c)) ∙ ap (combination f) (rest_back s v c ex ey) ∙ only_axis f (s.z -ℤ v *ℤ c.z)
 
-crossed_b : (b t : Vector) → dot (cross b t) t ≡ pos 0
-unfolding dot cross
-crossed_b b t = simp spread (omega (arith, ints))
-
-crossed_a : (a t : Vector) → dot (cross t a) t ≡ pos 0
-unfolding dot cross
-crossed_a a t = simp spread (omega (arith, ints))
-
 x_of : (v s : Vector) (k : ℤ) (c : Vector) → v ≡ plus s (multiple k c) → v.x ≡ s.x +ℤ k *ℤ c.x
 unfolding plus multiple
 x_of v s k c e = λ i. (e i).x
@@ -171,8 +162,8 @@ module _ (g : Listing) (u : Vector) (f : Basis) (group : IsGroup g) (coprime : I
   drift_flat n in_it =
       let on = ((stabiliser_by_direction g u (counted at) n group coprime unit_positive).0 in_it).1.point in
       let e = drift_on_line u at n on in (
-        none_by (cross f.b f.tau) (drift n at) on.by.den (on.by.num *ℤ UNIT) (crossed_b f.b f.tau) on.is_fraction e,
-        none_by (cross f.tau f.a) (drift n at) on.by.den (on.by.num *ℤ UNIT) (crossed_a f.a f.tau) on.is_fraction e,
+        none_by (cross f.b f.tau) (drift n at) on.by.den (on.by.num *ℤ UNIT) (dot-cross_second f.b f.tau) on.is_fraction e,
+        none_by (cross f.tau f.a) (drift n at) on.by.den (on.by.num *ℤ UNIT) (dot-cross_first f.tau f.a) on.is_fraction e,
       )
 
   -- the coordinates of the drifts of two motions that are the same modulo L differ by whole ones

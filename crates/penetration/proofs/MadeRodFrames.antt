@@ -1,5 +1,5 @@
 -- What a rod frame is that `RodFrame::make` gives for a group, and what members of the group do in it.
-use Rattle.std.proofs.Common.{◌≡◌, ◌⊎◌, inl, inr, ℤ, pos, ◌*ℤ◌, ◌≤ℤ◌, sym, ap, subst, ◌∙◌}
+use Rattle.std.proofs.Common.{◌≡◌, inl, inr, ℤ, pos, ◌*ℤ◌, ◌≤ℤ◌, sym, ap, subst, ◌∙◌}
 use Rattle.fractions.specs.declared.part.TheConstants.{UNIT}
 use Rattle.integers.proofs.Order.{mul_left_cancel_pos}
 use Rattle.integers.proofs.Ring.{mul_zero}
@@ -7,7 +7,7 @@ use Rattle.symmetry.specs.Vectors.{Vector, multiple, image}
 use Rattle.symmetry.specs.Motions.{Motion}
 use Rattle.symmetry.specs.Planes.{IsCoprime}
 use Rattle.symmetry.specs.Groups.{Listing, IsGroup, IsMember}
-use Rattle.symmetry.specs.Frames.{Basis, combination}
+use Rattle.symmetry.specs.Frames.{Basis}
 use Rattle.symmetry.specs.Sizes.{IsVectorWithin}
 use Rattle.symmetry.proofs.GroupLaws.{member_keeps}
 use Rattle.motions.specs.Views.{parts}
@@ -16,6 +16,7 @@ use Rattle.closure.specs.Groups.{group_listing}
 use Rattle.plane_lattice.specs.Coordinates.{IsCombination, scaled, volume}
 use Rattle.plane_lattice.specs.Laws.QuotientLaws.{scaled-combination}
 use Rattle.plane_lattice.proofs.SectionFacts.{near_or_far}
+use Rattle.plane_lattice.proofs.Skewness.{IsTurned, same_turned}
 use Rattle.penetration.specs.declared.frame.RodFrame.{RodFrame}
 use Rattle.penetration.specs.DirectionView.{direction_of}
 use Rattle.penetration.specs.Lines.{InLineStabiliser}
@@ -27,6 +28,7 @@ use Rattle.penetration.proofs.AxisFacts.{a_inside, b_inside}
 use Rattle.penetration.proofs.AxisTests.{along_by_coordinates}
 use Rattle.penetration.proofs.LatticeMultiples.{lattice-edges}
 use Rattle.penetration.proofs.LineMembers.{drift_flat, frame_volume, scaled_multiple}
+use Rattle.penetration.proofs.DirectionSigns.{same_direction}
 
 module _ (group : Group) (frame : RodFrame) (made : IsRodMadeFor group frame) where
   same_basis : record { a = parts made.0.a; b = parts made.0.b; tau = parts frame.axis } ≡ basis_of_rod frame
@@ -39,18 +41,6 @@ module _ (group : Group) (frame : RodFrame) (made : IsRodMadeFor group frame) wh
   made_rod_not_skewed = subst (λ f. ¬ IsRodSkewed (group_listing group) (direction_of frame.direction) f) same_basis made.1.not_skewed
 
 -- ---- coordinates of what a member turns
-
-abbrev IsTurned : Basis → Motion → Vector → Type 0
-IsTurned f m c = (combination f c ≡ image m.matrix f.a) ⊎ ((combination f c ≡ image m.matrix f.b) ⊎ (combination f c ≡ image m.matrix f.tau))
-
-same_direction : (u : Vector) (m n : Motion) → m.matrix ≡ n.matrix → KeepsDirection u m → KeepsDirection u n
-same_direction u m n e (inl h) = inl (ap (λ w. image w u) (sym e) ∙ h)
-same_direction u m n e (inr h) = inr (ap (λ w. image w u) (sym e) ∙ h)
-
-same_turned : (f : Basis) (m n : Motion) (c : Vector) → m.matrix ≡ n.matrix → IsTurned f m c → IsTurned f n c
-same_turned f m n c e (inl h) = inl (h ∙ ap (λ w. image w f.a) e)
-same_turned f m n c e (inr (inl h)) = inr (inl (h ∙ ap (λ w. image w f.b) e))
-same_turned f m n c e (inr (inr h)) = inr (inr (h ∙ ap (λ w. image w f.tau) e))
 
 pub rod_turned_near : (g : Listing) (u : Vector) (f : Basis) (m : Motion) → ¬ IsRodSkewed g u f → IsMember g m → KeepsDirection u m
     → (c : Vector) → IsTurned f m c → IsVectorWithin 500 c

@@ -1,5 +1,5 @@
 -- A frame is told by finitely many vectors.
-use Rattle.std.proofs.Common.{◌≡◌, zero, suc, ℤ, pos, negsuc, ◌*ℤ◌, ◌<ℤ◌, sym, ap, subst, ◌∙◌, arith}
+use Rattle.std.proofs.Common.{◌≡◌, zero, suc, ℤ, pos, negsuc, ◌*ℤ◌, ◌<ℤ◌, sym, ap, subst, ◌∙◌, arith, ◌↔◌, Bool, IsTrue}
 use Rattle.std.proofs.lemmas.Int.{ints}
 use Rattle.symmetry.specs.Vectors.{Vector, origin, plus, minus, multiple, dot, cross}
 use Rattle.symmetry.specs.Groups.{Listing, Generates, IsInLattice, zero_vector, added, subtracted}
@@ -11,6 +11,8 @@ use Rattle.symmetry.proofs.FrameLaws.{combination-minus, combination-origin, com
 use Rattle.plane_lattice.specs.Coordinates.{volume}
 use Rattle.plane_lattice.specs.Laws.QuotientLaws.{along_a, along_b}
 use Rattle.plane_lattice.proofs.Cramer.{combination_once}
+use Rattle.motions.specs.declared.basis.Basis.{Basis as BasisOfCode}
+use Rattle.motions.specs.BasisView.{basis_of}
 
 pub lattice-combination : (g : Listing) (f : Basis) → IsInLattice g f.a → IsInLattice g f.b → IsInLattice g f.tau
     → (c : Vector) → IsInLattice g (combination f c)
@@ -71,3 +73,7 @@ module _ (g : Listing) (r : Vector) (f : Basis) where
     right_handed = k.right_handed;
     combined = λ v made. k.spans v (lattice-made g v made);
   }
+
+-- what is told of one basis of the code is told of the same
+pub told : {b : Bool} {basis kept : BasisOfCode} (P : Basis → Type 0) → kept ≡ basis → (IsTrue b ↔ P (basis_of kept)) → (IsTrue b ↔ P (basis_of basis))
+told {b} P same tells = subst (λ (x : BasisOfCode). IsTrue b ↔ P (basis_of x)) same tells

@@ -1,19 +1,19 @@
 -- The scanning operations of a list, one operation after the other.
-use Rattle.std.proofs.Common.{◌≡◌, inl, inr, ℕ, ◌+◌, ◌<◌, pos, negsuc, Bool, true, false, ◌||◌, cond, List, [], ◌∷◌, ◌++◌, length, map, take, get_or, refl, sym, ap, subst, ◌∙◌, arith, add-one, ◌*◌}
+use Rattle.std.proofs.Common.{◌≡◌, ℕ, ◌+◌, ◌<◌, pos, negsuc, Bool, true, false, cond, List, [], ◌∷◌, ◌++◌, length, map, take, get_or, sym, ap, subst, ◌∙◌, arith, add-one, ◌*◌}
 use Rattle.std.proofs.Math.Seq.{take-suc}
-use Rattle.std.proofs.lemmas.List.{append-nil, length-append, map-append}
-use Rattle.std.proofs.lemmas.List.Elements.{filter-append}
-use Rattle.std.proofs.lemmas.Bool.{or_left, or_right}
+use Rattle.std.proofs.lemmas.List.{map-append}
+use Rattle.std.proofs.lemmas.Bool.{or_left, or_right, false_from_ne_true}
 use Rattle.integers.specs.Size.{IsWithin}
 use Rattle.integers.proofs.Ring.{IsWithin-add, IsWithin-mul}
 use Rattle.integers.proofs.Sizes.{unit_within}
 use Rattle.symmetry.specs.Sizes.{IsVectorWithin}
-use Rattle.symmetry.specs.Vectors.{Vector, plus, minus, multiple, opposite, image, row_times}
+use Rattle.symmetry.specs.Vectors.{Vector, plus, minus, multiple, image, row_times}
 use Rattle.symmetry.specs.Motions.{Motion}
 use Rattle.symmetry.specs.Frames.{same_vector, sign_at, total_up, KeepsOrientation}
 use Rattle.symmetry.proofs.VectorLaws.{plus_assoc, plus-origin, origin-plus, multiple-one}
 use Rattle.symmetry.proofs.Sizes.{IsVectorWithin-more}
-use Rattle.motions.specs.Laws.MotionLaws.{same_vector-is}
+use Rattle.symmetry.proofs.Signs.{same_or_opposite-is}
+use Rattle.symmetry.proofs.KeptOps.{filter-push}
 use Rattle.motions.specs.Views.{motion_of}
 use Rattle.motions.specs.declared.motion.Motion3.{Motion3}
 use Rattle.plane_lattice.specs.Scanning.{keeps_orientation, scanning_ops}
@@ -21,22 +21,13 @@ use Rattle.plane_lattice.specs.Scanning.{keeps_orientation, scanning_ops}
 -- ---- the test of the orientation
 
 pub keeps_true : (r : Vector) (m : Motion) → KeepsOrientation r m → keeps_orientation r m ≡ true
-keeps_true r m (inl e) = or_left (same_vector (row_times r m.matrix) r) _ ((same_vector-is (row_times r m.matrix) r).1 e)
-keeps_true r m (inr e) = or_right (same_vector (row_times r m.matrix) r) _ ((same_vector-is (row_times r m.matrix) (opposite r)).1 e)
+keeps_true r m = (same_or_opposite-is (row_times r m.matrix) r).1
 
 pub true_keeps : (r : Vector) (m : Motion) → keeps_orientation r m ≡ true → KeepsOrientation r m
-true_keeps r m t = by (same_vector (row_times r m.matrix) r) refl t
-  where
-    by : (a : Bool) → same_vector (row_times r m.matrix) r ≡ a → (a || same_vector (row_times r m.matrix) (opposite r)) ≡ true → KeepsOrientation r m
-    by true e t = inl ((same_vector-is (row_times r m.matrix) r).0 e)
-    by false e t = inr ((same_vector-is (row_times r m.matrix) (opposite r)).0 t)
+true_keeps r m = (same_or_opposite-is (row_times r m.matrix) r).0
 
 pub keeps_false : (r : Vector) (m : Motion) → ¬ KeepsOrientation r m → keeps_orientation r m ≡ false
-keeps_false r m none = by (keeps_orientation r m) refl
-  where
-    by : (b : Bool) → keeps_orientation r m ≡ b → b ≡ false
-    by true e = absurd (none (true_keeps r m e))
-    by false e = refl
+keeps_false r m none = false_from_ne_true (keeps_orientation r m) (λ e. none (true_keeps r m e))
 
 -- ---- one operation more
 
@@ -44,14 +35,6 @@ pub taken_more : (ops : List Motion3) (i : ℕ) (d : Motion3) → i < length ops
     → map motion_of (take (i + 1) ops) ≡ map motion_of (take i ops) ++ motion_of (get_or ops i d) ∷ []
 taken_more ops i d h =
     ap (λ n. map motion_of (take n ops)) (add-one i) ∙ ap (map motion_of) (take-suc ops i d h) ∙ map-append motion_of (take i ops) (get_or ops i d ∷ [])
-
-pub scanning-more : (r : Vector) (ms : List Motion) (m : Motion)
-    → scanning_ops r (ms ++ m ∷ []) ≡ cond (keeps_orientation r m) (scanning_ops r ms ++ m ∷ []) (scanning_ops r ms)
-scanning-more r ms m = filter-append (keeps_orientation r) ms (m ∷ []) ∙ by (keeps_orientation r m) refl
-  where
-    by : (b : Bool) → keeps_orientation r m ≡ b → scanning_ops r ms ++ scanning_ops r (m ∷ []) ≡ cond b (scanning_ops r ms ++ m ∷ []) (scanning_ops r ms)
-    by true e = ap (λ (b : Bool). scanning_ops r ms ++ cond b (m ∷ []) []) e
-    by false e = ap (λ (b : Bool). scanning_ops r ms ++ cond b (m ∷ []) []) e ∙ append-nil (scanning_ops r ms)
 
 pub total_up-more : (r tau : Vector) (ms : List Motion) (m : Motion)
     → total_up r tau (ms ++ m ∷ []) ≡ plus (total_up r tau ms) (multiple (sign_at r m) (image m.matrix tau))
@@ -64,20 +47,11 @@ total_up-more r tau (n ∷ ms) m =
 pub total_more : (r tau t v : Vector) (ms : List Motion) (m : Motion) → t ≡ total_up r tau (scanning_ops r ms)
     → v ≡ cond (keeps_orientation r m) (plus t (multiple (sign_at r m) (image m.matrix tau))) t
     → v ≡ total_up r tau (scanning_ops r (ms ++ m ∷ []))
-total_more r tau t v ms m is more = more ∙ by (keeps_orientation r m) ∙ sym (ap (total_up r tau) (scanning-more r ms m))
+total_more r tau t v ms m is more = more ∙ by (keeps_orientation r m) ∙ sym (ap (total_up r tau) (filter-push (keeps_orientation r) ms m))
   where
     by : (b : Bool) → cond b (plus t (multiple (sign_at r m) (image m.matrix tau))) t
         ≡ total_up r tau (cond b (scanning_ops r ms ++ m ∷ []) (scanning_ops r ms))
     by true = ap (λ u. plus u (multiple (sign_at r m) (image m.matrix tau))) is ∙ sym (total_up-more r tau (scanning_ops r ms) m)
-    by false = is
-
--- how many there are of one operation more
-pub count_more : (r : Vector) (ms : List Motion) (m : Motion) (n k : ℕ) → n ≡ length (scanning_ops r ms) → k ≡ cond (keeps_orientation r m) (n + 1) n
-    → k ≡ length (scanning_ops r (ms ++ m ∷ []))
-count_more r ms m n k is more = more ∙ by (keeps_orientation r m) ∙ sym (ap length (scanning-more r ms m))
-  where
-    by : (b : Bool) → cond b (n + 1) n ≡ length (cond b (scanning_ops r ms ++ m ∷ []) (scanning_ops r ms))
-    by true = ap (λ n. n + 1) is ∙ sym (length-append (scanning_ops r ms) (m ∷ []))
     by false = is
 
 -- ---- e W tau

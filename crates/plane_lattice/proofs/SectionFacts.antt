@@ -23,6 +23,7 @@ use Rattle.symmetry.proofs.LatticeLaws.{lattice-plus, lattice-minus, lattice-mul
 use Rattle.symmetry.proofs.MatrixLaws.{row_times-dot}
 use Rattle.symmetry.proofs.PlaneRows.{plane_by_row, member_invertible, special_by_row}
 use Rattle.symmetry.proofs.VectorLaws.{vector_path, dot-plus, dot-multiple, multiple-dot, multiple-multiple, multiple-one}
+use Rattle.symmetry.proofs.Signs.{same_orientation}
 use Rattle.motions.specs.PlaneMatrices.{Pair}
 use Rattle.motions.specs.PlaneSizes.{IsPairWithin}
 use Rattle.motions.specs.Rationals.{in_edges}
@@ -38,6 +39,7 @@ use Rattle.plane_lattice.proofs.LatticeTests.{edges_held}
 use Rattle.plane_lattice.proofs.Oriented.{positive_factor}
 use Rattle.plane_lattice.proofs.SeenPoints.{moved_along}
 use Rattle.plane_lattice.proofs.Steps.{step_within}
+use Rattle.plane_lattice.proofs.Skewness.{IsTurned, same_turned}
 
 -- ---- a vector of the plane as a combination
 
@@ -208,20 +210,6 @@ near_or_far n v =
         ]
       ]
     ]
-
-abbrev IsTurned : Basis → Motion → Vector → Type 0
-IsTurned f m c =
-    (combination f c ≡ image m.matrix f.a) ⊎ ((combination f c ≡ image m.matrix f.b) ⊎ (combination f c ≡ image m.matrix f.tau))
-
--- the operation that a member is the same as has its matrix
-same_orientation : (r : Vector) (m n : Motion) → m.matrix ≡ n.matrix → KeepsOrientation r m → KeepsOrientation r n
-same_orientation r m n e (inl h) = inl (ap (row_times r) (sym e) ∙ h)
-same_orientation r m n e (inr h) = inr (ap (row_times r) (sym e) ∙ h)
-
-same_turned : (f : Basis) (m n : Motion) (c : Vector) → m.matrix ≡ n.matrix → IsTurned f m c → IsTurned f n c
-same_turned f m n c e (inl h) = inl (h ∙ ap (λ w. image w f.a) e)
-same_turned f m n c e (inr (inl h)) = inr (inl (h ∙ ap (λ w. image w f.b) e))
-same_turned f m n c e (inr (inr h)) = inr (inr (h ∙ ap (λ w. image w f.tau) e))
 
 pub turned_near : (g : Listing) (r : Vector) (f : Basis) (m : Motion) → ¬ IsSkewed g r f → IsMember g m → KeepsOrientation r m
     → (c : Vector) → IsTurned f m c → IsVectorWithin 500 c

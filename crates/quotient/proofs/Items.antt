@@ -22,9 +22,14 @@ module _ {M S : Type 0} (f : M → S) (list : List M) where
   pub All-item : (P : S → Type 0) (i : ℕ) (x : M) → All P (map f list) → i < length list → x ≡ get_or list i x → P (f x)
   All-item P i x all within is = subst P (get_or-map_item i x (f x) within is) (all i (f x) (rw length-map within))
 
-  -- what holds of all that the items stand for
-  pub All-from_map : (P : S → Type 0) → All P (map f list) → All (λ x. P (f x)) list
-  All-from_map P all k d within = subst P (get_or-map f list k d (f d) within) (all k (f d) (rw length-map within))
+  pub All-item_at : (P : S → Type 0) (i : ℕ) (d : M) → All P (map f list) → i < length list → P (f (get_or list i d))
+  All-item_at P i d all within = All-item P i (get_or list i d) all within (get_or_default list i d (get_or list i d) within)
+
+  -- nothing that the list stands for has a property that no item has; x is only there to read with
+  pub no_item : (P : S → Type 0) (x : M) → ((k : ℕ) (d : M) → k < length list → ¬ P (f (get_or list k d))) → (n : S) → Contains (map f list) n → ¬ P n
+  no_item P x none n (k, within, is) p =
+      let inside = simp length-map at within in
+      none k x inside (subst P (sym is ∙ get_or-map f list k x n inside) p)
 
   -- one more item has the property
   pub more_items : (P : S → Type 0) (d : S) (i : ℕ) (x : M) → i < length list → x ≡ get_or list i x

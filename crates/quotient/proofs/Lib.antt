@@ -12,6 +12,7 @@ pub mod Positions
 pub mod Products
 pub mod Sameness
 pub mod Searches
+pub mod ShiftGroups
 pub mod TableLemma
 pub mod ListLaws
 pub mod Zips

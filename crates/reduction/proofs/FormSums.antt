@@ -11,8 +11,8 @@ use Rattle.symmetry.specs.Sizes.{IsMatrixWithin, IsVectorWithin}
 use Rattle.symmetry.proofs.VectorLaws.{vector_path, dot_comm, dot-origin, dot-plus, plus-dot}
 use Rattle.symmetry.proofs.MatrixLaws.{image-product, image-unit, row_times-columns, row_times-dot, row_times-unit}
 use Rattle.symmetry.proofs.Sizes.{IsMatrixWithin-more}
+use Rattle.symmetry.proofs.KeptOps.{filter-push}
 use Rattle.plane_lattice.specs.Scanning.{keeps_orientation, scanning_ops}
-use Rattle.plane_lattice.proofs.Scanning.{scanning-more}
 use Rattle.reduction.specs.Bounds.{largest_columns, largest_form}
 use Rattle.reduction.specs.Forms.{by_form, form_value, matrix_sum, transposed, with_square, IsForm, IsSumOver}
 
@@ -50,7 +50,7 @@ pub sum_more : (r : Vector) (q q' : Matrix) (ms : List Motion) (m : Motion) → 
     → q' ≡ cond (keeps_orientation r m) (with_square q m.matrix) q
     → IsSumOver (scanning_ops r (ms ++ m ∷ [])) q'
 sum_more r q q' ms m is more u v =
-    ap (λ (a : Matrix). by_form a u v) more ∙ by (keeps_orientation r m) ∙ sym (ap (λ (ns : List Motion). form_value ns u v) (scanning-more r ms m))
+    ap (λ (a : Matrix). by_form a u v) more ∙ by (keeps_orientation r m) ∙ sym (ap (λ (ns : List Motion). form_value ns u v) (filter-push (keeps_orientation r) ms m))
   where
     by : (b : Bool) → by_form (cond b (with_square q m.matrix) q) u v
         ≡ form_value (cond b (scanning_ops r ms ++ m ∷ []) (scanning_ops r ms)) u v

@@ -2,8 +2,7 @@
 use Rattle.std.proofs.Common.{◌≡◌, ℕ, ◌+◌, ◌<◌, List, [], ◌∷◌, ◌++◌, length, take, map, get_or, Some, None, ◌↔◌, subst, sym, ap, ◌∙◌}
 use Rattle.std.specs.Prelude.{All, AllPairs}
 use Rattle.std.proofs.lemmas.List.{map-append, take_more}
-use Rattle.std.proofs.lemmas.List.Elements.{All-contains, All-push, at_from_Contains}
-use Rattle.quotient.proofs.Items.{Contains-item_at}
+use Rattle.std.proofs.lemmas.List.Elements.{All-push, at_from_Contains}
 use Rattle.symmetry.specs.Vectors.{Vector}
 use Rattle.symmetry.specs.Motions.{Motion, identity}
 use Rattle.symmetry.specs.Groups.{Listing, IsMember, SameModulo}
@@ -72,9 +71,6 @@ module _ (g : Listing) (apart : AllPairs (λ m n. ¬ SameModulo g m n) g.ops) wh
       (λ p q before below. apart p q identity before below) (covered S members) (chosen_same g IsHome S g.ops ms out same chosen))
 
 -- ---- the operations of the code
-
-pub op_has : (P : Motion → Type 0) (ops : List Motion3) (i : ℕ) (d : Motion3) → All P (map motion_of ops) → i < length ops → P (motion_of (get_or ops i d))
-op_has P ops i d all h = All-contains P (map motion_of ops) (motion_of (get_or ops i d)) all (Contains-item_at motion_of ops i d h)
 
 pub homes_more : (r : Vector) (f : Basis) (ms : List Motion3) (m : Motion3) (more : List Motion3) → more ≡ ms ++ m ∷ []
     → All (λ (n : Motion3). IsHomeMotion r f (motion_of n)) ms → IsHomeMotion r f (motion_of m) → All (λ (n : Motion3). IsHomeMotion r f (motion_of n)) more

@@ -28,9 +28,9 @@ use Rattle.scanning.specs.HeightView.{special_of, specials_of}
 use Rattle.scanning.specs.ScanView.{scan_of}
 use Rattle.scanning.specs.declared.height.Height.{Height}
 use Rattle.scanning.specs.declared.scan.Scan.{Scan}
-use Rattle.scanning.proofs.ChosenLists.{op_has}
 use Rattle.scanning.proofs.MovedLists.{moved_are_conjugated}
 use Rattle.scanning.proofs.Places.{periods_within}
+use Rattle.quotient.proofs.Items.{All-item_at}
 
 -- the height at an index, as the code reads it
 module _ (hs : List Height) (i : ℕ) (h : Height) (within : i < length hs) (is : h ≡ get_or hs i h) where
@@ -44,7 +44,7 @@ module _ (hs : List Height) (i : ℕ) (h : Height) (within : i < length hs) (is 
       let P : Motion → Type 0 = IsSmallWithin (unsigned_abs MAX_ENTRY) in
       let long = length-map hs special_of in
       let all : All P (map motion_of h.ops.items) = subst (λ (x : SpecialHeight). All P x.ops) (at_index (special_of h)) (small i (special_of h) (omega arith)) in
-      op_has P ops k d (subst (λ ms. All P (map motion_of ms)) (sym of_h) all) l
+      All-item_at motion_of ops P k d (subst (λ ms. All P (map motion_of ms)) (sym of_h) all) l
 
 module _ (scan : Scan) (s : HeightOfPlane) (high : IsHeight s) where
   pub index_within : (i : ℕ) (k : ℤ) → StandsAt scan.frame.period.0 (specials_of scan.special.items) s i k → i < length scan.special.items

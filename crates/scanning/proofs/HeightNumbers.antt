@@ -1,9 +1,11 @@
 -- Heights and their levels, as numbers.
-use Rattle.std.proofs.Common.{◌≡◌, ℤ, pos, negsuc, ◌+ℤ◌, ◌-ℤ◌, ◌*ℤ◌, ◌≤ℤ◌, ◌<ℤ◌, [], ◌∷◌, ◌⊎◌, inl, inr, ◌∙◌, ap, arith}
+use Rattle.std.proofs.Common.{◌≡◌, ℤ, pos, negsuc, ◌+ℤ◌, ◌-ℤ◌, ◌*ℤ◌, ◌≤ℤ◌, ◌<ℤ◌, [], ◌∷◌, ◌⊎◌, inl, inr, ◌∙◌, ap, arith, sym}
 use Rattle.std.proofs.lemmas.Int.{ints, by_lt_z}
+use Rattle.std.specs.Int.{int_div_euclid, int_rem_euclid}
 use Rattle.integers.proofs.Division.{floor}
 use Rattle.integers.proofs.Order.{mul-le-mul_right, one-le-mul, small_multiple}
 use Rattle.integers.proofs.Ring.{mul_zero}
+use Rattle.integers.proofs.Remainders.{rem_euclid-div_euclid}
 use Rattle.integers.proofs.Solver.{Expr.{var, num, ◌⊕◌, ◌⊝◌, ◌⊗◌}, given, linear, ring}
 use Rattle.symmetry.proofs.HeightsInPeriod.{less_by_factor}
 
@@ -95,3 +97,11 @@ one_rest e t t' k k' x from below from' below' is is' =
     let none = small_multiple e (k -ℤ k') (omega (arith, ints)) (omega (arith, ints)) in
     let zero : e *ℤ (k -ℤ k') ≡ pos 0 = ap (λ z. e *ℤ z) none ∙ mul_zero e in
     omega (arith, ints)
+
+-- a level by its quotient and remainder over two periods
+pub level_by_periods : (z' e' z d t k : ℤ) → z' ≡ z → e' ≡ pos 2 *ℤ d → pos 1 ≤ℤ d → t ≡ int_rem_euclid z' e' → k ≡ int_div_euclid z' e'
+    → z ≡ t +ℤ pos 2 *ℤ k *ℤ d
+level_by_periods z' e' z d t k of_z of_e h t_is k_is =
+    rem_euclid-div_euclid z (pos 2 *ℤ d) (omega (arith, ints))
+    ∙ (λ i. sym (t_is ∙ (λ j. int_rem_euclid (of_z j) (of_e j))) i +ℤ sym (k_is ∙ (λ j. int_div_euclid (of_z j) (of_e j))) i *ℤ (pos 2 *ℤ d))
+    ∙ ring (t ∷ k ∷ d ∷ []) (var 0 ⊕ var 1 ⊗ (num (pos 2) ⊗ var 2)) (var 0 ⊕ num (pos 2) ⊗ var 1 ⊗ var 2) tt

@@ -12,7 +12,6 @@ pub mod MovedLists
 pub mod Places
 pub mod RaisedMotions
 pub mod ReducedMotions
-pub mod Remainders
 pub mod RowSets
 pub mod SameMotions
 pub mod Shifts

@@ -15,6 +15,7 @@ pub mod Signs
 pub mod Means
 pub mod ListLaws
 pub mod ListFacts
+pub mod KeptOps
 pub mod PlaneLattice
 pub mod HomeLaws
 pub mod Heights

@@ -1,7 +1,8 @@
 -- The sign of a motion that keeps the orientation.
-use Rattle.std.proofs.Common.{◌≡◌, inl, inr, ℤ, pos, negsuc, ◌*ℤ◌, refl, sym, ◌∙◌, ap, arith, Bool, true, false, ◌&&◌, cond}
+use Rattle.std.proofs.Common.{◌≡◌, ◌↔◌, ◌⊎◌, inl, inr, ℤ, pos, negsuc, ◌*ℤ◌, refl, sym, ◌∙◌, ap, subst, arith, Bool, true, false, ◌&&◌, ◌||◌, cond}
+use Rattle.std.proofs.lemmas.Bool.{or_left, or_right}
 use Rattle.std.proofs.lemmas.Bool.Decides.{Decides-int_eq}
-use Rattle.symmetry.specs.Vectors.{Vector, multiple, row_times}
+use Rattle.symmetry.specs.Vectors.{Vector, multiple, opposite, row_times}
 use Rattle.symmetry.specs.Motions.{Motion, followed_by}
 use Rattle.symmetry.specs.Planes.{IsCoprime}
 use Rattle.symmetry.specs.Frames.{same_vector, sign_at, KeepsOrientation}
@@ -20,6 +21,18 @@ true_same v w e =
     let z = (Decides-int_eq v.z w.z).1 (ap (λ (u : Vector). u.z) e) in
     λ i. x i && y i && z i
 
+-- whether a vector is another or its opposite
+pub same_or_opposite-is : (v w : Vector) → ((same_vector v w || same_vector v (opposite w)) ≡ true) ↔ ((v ≡ w) ⊎ (v ≡ opposite w))
+same_or_opposite-is v w = (by (same_vector v w) refl, to)
+  where
+    by : (b : Bool) → same_vector v w ≡ b → (b || same_vector v (opposite w)) ≡ true → (v ≡ w) ⊎ (v ≡ opposite w)
+    by true e t = inl (same_true v w e)
+    by false e t = inr (same_true v (opposite w) t)
+
+    to : (v ≡ w) ⊎ (v ≡ opposite w) → (same_vector v w || same_vector v (opposite w)) ≡ true
+    to (inl e) = or_left (same_vector v w) (same_vector v (opposite w)) (true_same v w e)
+    to (inr e) = or_right (same_vector v w) (same_vector v (opposite w)) (true_same v (opposite w) e)
+
 pub sign-square : (e : ℤ) → IsSign e → e *ℤ e ≡ pos 1
 sign-square e (inl p) = ap (λ x. x *ℤ x) p
 sign-square e (inr p) = ap (λ x. x *ℤ x) p
@@ -32,6 +45,10 @@ sign-mul d e (inr p) (inr q) = inl (λ i. p i *ℤ q i)
 
 pub sign_twice : (e : ℤ) → IsSign e → (v : Vector) → multiple e (multiple e v) ≡ v
 sign_twice e sign v = multiple-multiple e e v ∙ ap (λ x. multiple x v) (sign-square e sign) ∙ multiple-one v
+
+-- a motion with the matrix of one that keeps the orientation keeps it
+pub same_orientation : (r : Vector) (m n : Motion) → m.matrix ≡ n.matrix → KeepsOrientation r m → KeepsOrientation r n
+same_orientation r m n e keeps = subst (λ w. (row_times r w ≡ r) ⊎ (row_times r w ≡ opposite r)) e keeps
 
 -- a motion keeps the orientation where it multiplies the row by a sign
 pub row_sign : (r : Vector) (m : Motion) → KeepsOrientation r m → (d : ℤ) × IsSign d × (row_times r m.matrix ≡ multiple d r)

@@ -3,7 +3,7 @@ use Rattle.std.proofs.Common.{◌≡◌, ℕ, suc, ℤ, pos, negsuc, ◌+ℤ◌,
 use Rattle.std.proofs.lemmas.Int.{ints}
 use Rattle.integers.proofs.Ring.{mul_assoc}
 use Rattle.integers.proofs.Spread.{spread}
-use Rattle.symmetry.specs.Vectors.{Vector, origin, plus, minus, multiple, opposite, dot}
+use Rattle.symmetry.specs.Vectors.{Vector, origin, plus, minus, multiple, opposite, dot, cross}
 
 -- two vectors are equal when their entries are
 pub vector_path : {v w : Vector} → v.x ≡ w.x → v.y ≡ w.y → v.z ≡ w.z → v ≡ w
@@ -40,6 +40,15 @@ multiple-dot c r v = simp spread (omega (arith, ints))
 pub dot-origin : (r : Vector) → dot r origin ≡ pos 0
 unfolding dot
 dot-origin r = omega (arith, ints)
+
+-- a cross product is at right angles to both
+pub dot-cross_first : (v w : Vector) → dot (cross v w) v ≡ pos 0
+unfolding dot cross
+dot-cross_first v w = simp spread (omega (arith, ints))
+
+pub dot-cross_second : (v w : Vector) → dot (cross v w) w ≡ pos 0
+unfolding dot cross
+dot-cross_second v w = simp spread (omega (arith, ints))
 
 -- two rows are equal when they agree at every column
 pub row_path : (s t : Vector) → ((v : Vector) → dot s v ≡ dot t v) → s ≡ t

@@ -6,14 +6,14 @@ use Rattle.symmetry.specs.Sizes.{IsSmall}
 use Rattle.symmetry.specs.Vectors.{image, multiple}
 use Rattle.motions.specs.Views.{motion_of, parts, row_of}
 use Rattle.motions.specs.declared.motion.Motion3.{Motion3}
-use Rattle.plane_lattice.proofs.Operations.{all_at}
 use Rattle.line_frames.specs.Searches.{other, same}
 use Rattle.line_frames.proofs.Listed.{each_up, up_at_place}
 use Rattle.line_frames.proofs.means.other_up.Goals as goal
 use Rattle.line_frames.proofs.means.other_up.Goals.{in-Some+else-not-is_same, in_default}
+use Rattle.quotient.proofs.Items.{All-item_at}
 
 pub up_by-requires-clause-motion : goal.up_by-requires-clause-motion
-up_by-requires-clause-motion c = all_at motion_of IsSmall c.args.ops.now c.requires.operations c.loop-m.m-index _ c.loop-m-test.true
+up_by-requires-clause-motion c = All-item_at motion_of c.args.ops.now IsSmall c.loop-m.m-index _ c.requires.operations c.loop-m-test.true
 
 pub returns-then-not-is_same-clause-is : goal.returns-then-not-is_same-clause-is
 returns-then-not-is_same-clause-is c =

@@ -2,18 +2,20 @@
 use Rattle.std.proofs.Common.{◌+◌, ◌∙◌, List, length, sym, ap, cond, arith, map, take}
 use Rattle.symmetry.specs.Motions.{Motion}
 use Rattle.symmetry.specs.Sizes.{IsSmall}
+use Rattle.symmetry.proofs.KeptOps.{length-filter_push}
 use Rattle.motions.specs.Views.{motion_of}
-use Rattle.plane_lattice.proofs.Operations.{all_at, operation_at}
+use Rattle.plane_lattice.proofs.Operations.{operation_at}
 use Rattle.plane_lattice.proofs.Scanning.{taken_more}
 use Rattle.penetration.specs.DirectionView.{direction_of}
 use Rattle.penetration.specs.RodFrames.{KeepsDirection}
-use Rattle.penetration.specs.RodOperations.{rod_ops}
-use Rattle.penetration.proofs.RodSums.{count-more, keeps_false, keeps_true}
+use Rattle.penetration.specs.RodOperations.{rod_ops, keeps_along}
+use Rattle.penetration.proofs.RodSums.{keeps_false, keeps_true}
 use Rattle.penetration.proofs.means.count_rods.Goals as goal
 use Rattle.penetration.proofs.means.count_rods.Goals.{then-keeps_direction, else-keeps_direction}
+use Rattle.quotient.proofs.Items.{All-item_at}
 
 pub keeps_direction-requires : goal.keeps_direction-requires
-keeps_direction-requires c = all_at motion_of IsSmall c.args.ops.now c.requires c.loop-m.m-index _ c.loop-m-test.true
+keeps_direction-requires c = All-item_at motion_of c.args.ops.now IsSmall c.loop-m.m-index _ c.requires c.loop-m-test.true
 
 pub loop-m-preserved : goal.loop-m-preserved
 loop-m-preserved c =
@@ -25,14 +27,14 @@ loop-m-preserved c =
       | then-keeps_direction w ↦
           let keeps = c.keeps_direction.ensures.0 w.if-keeps_direction.true in
           record {
-            is = count-more u (map motion_of (take c.loop-m.m-index ops)) m c.loop-m.count c.if-keeps_direction.count c.loop-m.invariant.is
+            is = length-filter_push (keeps_along u) (map motion_of (take c.loop-m.m-index ops)) m c.loop-m.count c.if-keeps_direction.count c.loop-m.invariant.is
                 (w.count-is ∙ ap (λ b. cond b (c.loop-m.count + 1) c.loop-m.count) (sym (keeps_true u m keeps)))
                 ∙ ap (λ (ms : List Motion). length (rod_ops u ms)) (sym more);
             few = omega arith;
           }
       | else-keeps_direction w ↦
           record {
-            is = count-more u (map motion_of (take c.loop-m.m-index ops)) m c.loop-m.count c.if-keeps_direction.count c.loop-m.invariant.is
+            is = length-filter_push (keeps_along u) (map motion_of (take c.loop-m.m-index ops)) m c.loop-m.count c.if-keeps_direction.count c.loop-m.invariant.is
                 (w.count-is ∙ ap (λ b. cond b (c.loop-m.count + 1) c.loop-m.count)
                 (sym (keeps_false u m (λ (k : KeepsDirection u m). absurd (cc (c.keeps_direction.ensures.1 k, w.if-keeps_direction.false))))))
                 ∙ ap (λ (ms : List Motion). length (rod_ops u ms)) (sym more);

@@ -8,16 +8,17 @@ use Rattle.symmetry.specs.Sizes.{IsSmall}
 use Rattle.motions.specs.BasisView.{basis_of}
 use Rattle.motions.specs.Views.{motion_of, parts}
 use Rattle.plane_lattice.specs.Bounds.{largest_scaled}
-use Rattle.plane_lattice.proofs.Operations.{all_at, operation_at}
+use Rattle.plane_lattice.proofs.Operations.{operation_at}
 use Rattle.plane_lattice.proofs.Scanning.{taken_more}
 use Rattle.penetration.specs.DirectionView.{direction_of}
 use Rattle.penetration.specs.RodFrames.{total_along}
 use Rattle.penetration.specs.RodOperations.{rod_ops}
 use Rattle.penetration.proofs.RodSums.{total-more}
 use Rattle.penetration.proofs.means.rod_total.Goals as goal
+use Rattle.quotient.proofs.Items.{All-item_at}
 
 pub signed_coefficient-total-requires-clause-motion : goal.signed_coefficient-total-requires-clause-motion
-signed_coefficient-total-requires-clause-motion c = all_at motion_of IsSmall c.args.ops.now c.requires.operations c.loop-m.m-index _ c.loop-m-test.true
+signed_coefficient-total-requires-clause-motion c = All-item_at motion_of c.args.ops.now IsSmall c.loop-m.m-index _ c.requires.operations c.loop-m-test.true
 
 -- the sum as the code has it
 module _ (t x : ℤ) (i : ℕ) (below : i < 192) (h : IsWithin (i * largest_scaled) t) (k : IsWithin largest_scaled x) where

@@ -8,7 +8,7 @@ use Rattle.motions.specs.ListedSizes.{IsSmallWithin}
 use Rattle.motions.specs.Views.{motion_of, parts}
 use Rattle.motions.specs.declared.motion.Motion3.{Motion3}
 use Rattle.closure.specs.Groups.{group_listing}
-use Rattle.scanning.proofs.ChosenLists.{ChosenFrom, none_yet, op_has, passed_more, taken_more}
+use Rattle.scanning.proofs.ChosenLists.{ChosenFrom, none_yet, passed_more, taken_more}
 use Rattle.penetration.specs.DirectionView.{direction_of}
 use Rattle.penetration.specs.Lines.{InLineStabiliser}
 use Rattle.penetration.specs.RodFrameView.{basis_of_rod}
@@ -16,6 +16,7 @@ use Rattle.penetration.specs.RodHomes.{IsNear, IsNearSmall}
 use Rattle.penetration.specs.RodSections.{counted}
 use Rattle.penetration.proofs.members.members_among.Goals as goal
 use Rattle.penetration.proofs.members.members_among.Goals.{in-Some+in_ok-push, in_default}
+use Rattle.quotient.proofs.Items.{All-item_at}
 
 pub loop-m-init : goal.loop-m-init
 loop-m-init c = record {
@@ -25,10 +26,10 @@ loop-m-init c = record {
 }
 
 pub member-requires-clause-motion : goal.member-requires-clause-motion
-member-requires-clause-motion c = op_has (IsSmallWithin 50) c.args.ops.now c.loop-m.m-index _ c.requires.small c.loop-m-test.true
+member-requires-clause-motion c = All-item_at motion_of c.args.ops.now (IsSmallWithin 50) c.loop-m.m-index _ c.requires.small c.loop-m-test.true
 
 pub member-requires-clause-member : goal.member-requires-clause-member
-member-requires-clause-member c = op_has (IsMember (group_listing c.args.group.now)) c.args.ops.now c.loop-m.m-index _ c.requires.members c.loop-m-test.true
+member-requires-clause-member c = All-item_at motion_of c.args.ops.now (IsMember (group_listing c.args.group.now)) c.loop-m.m-index _ c.requires.members c.loop-m-test.true
 
 pub loop-m-preserved : goal.loop-m-preserved
 loop-m-preserved c =

@@ -1,17 +1,16 @@
-use Rattle.std.proofs.Common.{ℕ, subst, below_more, get_or, arith}
+use Rattle.std.proofs.Common.{ℕ, subst, below_more, get_or, arith, []}
 use Rattle.std.proofs.lemmas.List.{get_or_default}
 use Rattle.motions.specs.BasisView.{basis_of}
 use Rattle.motions.specs.Views.{motion_of}
 use Rattle.motions.specs.declared.motion.Motion3.{Motion3}
 use Rattle.symmetry.specs.Sizes.{IsSmall}
-use Rattle.plane_lattice.proofs.Operations.{all_at}
 use Rattle.penetration.specs.DirectionView.{direction_of}
 use Rattle.penetration.specs.RodFrames.{SkewsRod}
-use Rattle.penetration.proofs.RodSkewness.{none_skews}
 use Rattle.penetration.proofs.skews.is_skewed.Goals as goal
+use Rattle.quotient.proofs.Items.{All-item_at, no_item}
 
 pub skews-requires-clause-motion : goal.skews-requires-clause-motion
-skews-requires-clause-motion c = all_at motion_of IsSmall c.args.ops.now c.requires.operations c.loop-m.m-index _ c.loop-m-test.true
+skews-requires-clause-motion c = All-item_at motion_of c.args.ops.now IsSmall c.loop-m.m-index _ c.requires.operations c.loop-m-test.true
 
 pub loop-m-preserved : goal.loop-m-preserved
 loop-m-preserved c k d =
@@ -23,4 +22,4 @@ loop-m-preserved c k d =
     ))) k
 
 pub returns : goal.returns
-returns c = (λ t. absurd (cc t), λ (m, is, s). absurd (none_skews (direction_of c.args.direction.now) (basis_of c.args.dual.now.basis) c.args.ops.now (λ k d h. c.loop-m.invariant k d (omega arith)) m is s))
+returns c = (λ t. absurd (cc t), λ (m, is, s). absurd (no_item motion_of c.args.ops.now (SkewsRod (direction_of c.args.direction.now) (basis_of c.args.dual.now.basis)) (record { w = []; t = [] }) (λ k d h. c.loop-m.invariant k d (omega arith)) m is s))

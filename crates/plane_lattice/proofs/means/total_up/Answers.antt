@@ -7,13 +7,14 @@ use Rattle.symmetry.specs.Vectors.{image}
 use Rattle.motions.specs.Views.{motion_of, parts, row_of}
 use Rattle.plane_lattice.specs.Bounds.{largest_turned}
 use Rattle.plane_lattice.specs.Scanning.{scanning_ops}
-use Rattle.plane_lattice.proofs.Operations.{all_at, operation_at}
+use Rattle.plane_lattice.proofs.Operations.{operation_at}
 use Rattle.plane_lattice.proofs.Scanning.{taken_more, total_more, total_within}
 use Rattle.symmetry.proofs.Sizes.{image_within}
 use Rattle.plane_lattice.proofs.means.total_up.Goals as goal
+use Rattle.quotient.proofs.Items.{All-item_at}
 
 pub with_operation-total-requires-clause-motion : goal.with_operation-total-requires-clause-motion
-with_operation-total-requires-clause-motion c = all_at motion_of IsSmall c.args.ops.now c.requires.operations c.loop-m.m-index _ c.loop-m-test.true
+with_operation-total-requires-clause-motion c = All-item_at motion_of c.args.ops.now IsSmall c.loop-m.m-index _ c.requires.operations c.loop-m-test.true
 
 pub loop-m-preserved : goal.loop-m-preserved
 loop-m-preserved c =
@@ -22,7 +23,7 @@ loop-m-preserved c =
     let r = row_of c.args.plane.now in
     let tau = parts c.args.tau.now in
     let m = motion_of (operation_at ops i) in
-    let small : IsSmall m = all_at motion_of IsSmall ops c.requires.operations i _ c.loop-m-test.true in
+    let small : IsSmall m = All-item_at motion_of ops IsSmall i _ c.requires.operations c.loop-m-test.true in
     let within = total_within (i * largest_turned) largest_turned r m (parts c.loop-m.total) (image m.matrix tau) (parts c.with_operation-total.result)
     c.loop-m.invariant.small (image_within small.matrix c.requires.tau) c.with_operation-total.ensures in
     let size : i * largest_turned + 1 * largest_turned ≡ (i + 1) * largest_turned = omega arith in

@@ -4,13 +4,13 @@ use Rattle.std.proofs.lemmas.Iterator.{IsFirst-from_position, YieldsList-from_sl
 use Rattle.quotient.specs.Modulo.{modulo}
 use Rattle.quotient.specs.Kind.{Keeps}
 use Rattle.quotient.proofs.Positions.{first_without}
-use Rattle.quotient.proofs.Items.{All-from_map}
 use Rattle.quotient.proofs.check.first_moving_shifts.Goals as goal
+use Rattle.quotient.proofs.ListLaws.{All-from_map}
 
 pub position-requires-clause-callable : goal.position-requires-clause-callable
 position-requires-clause-callable g c =
     let M = g.Q.M.Motion in
-    let small = All-from_map M.meaning c.args.list.now M.IsSmall c.requires in
+    let small = All-from_map M.meaning M.IsSmall c.args.list.now c.requires in
     grind serving
 
 pub returns : goal.returns

@@ -3,14 +3,15 @@ use Rattle.std.proofs.iter.Serving.{serving}
 use Rattle.std.proofs.lemmas.Iterator.{cases_from_any, YieldsList-from_slice}
 use Rattle.quotient.specs.Modulo.{modulo}
 use Rattle.quotient.specs.Groups.{AreInverse}
-use Rattle.quotient.proofs.Items.{All-from_map, Any-from_map, Any-map}
+use Rattle.quotient.proofs.Items.{Any-from_map, Any-map}
 use Rattle.quotient.proofs.Searches.{some_is}
 use Rattle.quotient.proofs.check.has_inverse.Goals as goal
+use Rattle.quotient.proofs.ListLaws.{All-from_map}
 
 pub any-requires-clause-callable : goal.any-requires-clause-callable
 any-requires-clause-callable g c =
     let M = g.Q.M.Motion in
-    let small = All-from_map M.meaning c.args.list.now M.IsSmall c.requires.small in
+    let small = All-from_map M.meaning M.IsSmall c.args.list.now c.requires.small in
     grind serving
 
 pub returns : goal.returns

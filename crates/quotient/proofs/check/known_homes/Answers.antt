@@ -2,14 +2,14 @@ use Rattle.std.proofs.Common.{◌≡◌, rules, tests}
 use Rattle.std.proofs.iter.Serving.{serving}
 use Rattle.std.proofs.lemmas.Iterator.{cases_from_all, YieldsList-from_slice}
 use Rattle.quotient.proofs.HomeLists.{own_homes}
-use Rattle.quotient.proofs.Items.{All-from_map}
 use Rattle.quotient.proofs.Searches.{all_are}
 use Rattle.quotient.proofs.check.known_homes.Goals as goal
+use Rattle.quotient.proofs.ListLaws.{All-from_map}
 
 pub all-requires-clause-callable : goal.all-requires-clause-callable
 all-requires-clause-callable g c =
     let M = g.Q.M.Motion in
-    let reaches = All-from_map M.meaning c.args.list.now (M.MovesWithin _) c.requires in
+    let reaches = All-from_map M.meaning (M.MovesWithin _) c.args.list.now c.requires in
     grind serving
 
 pub returns-then-all : goal.returns-then-all

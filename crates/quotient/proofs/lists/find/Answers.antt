@@ -3,14 +3,14 @@ use Rattle.std.proofs.iter.Serving.{serving}
 use Rattle.std.proofs.lemmas.Iterator.{IsFirst-from_position, YieldsList-from_slice}
 use Rattle.quotient.specs.Modulo.{modulo}
 use Rattle.quotient.specs.Kind.{IsSame}
-use Rattle.quotient.proofs.Items.{All-from_map}
 use Rattle.quotient.proofs.Positions.{first_same}
 use Rattle.quotient.proofs.lists.find.Goals as goal
+use Rattle.quotient.proofs.ListLaws.{All-from_map}
 
 pub position-requires-clause-callable : goal.position-requires-clause-callable
 position-requires-clause-callable g c =
     let M = g.Q.M.Motion in
-    let reaches = All-from_map M.meaning c.args.list.now (M.MovesWithin _) c.requires.list in
+    let reaches = All-from_map M.meaning (M.MovesWithin _) c.args.list.now c.requires.list in
     grind serving
 
 pub returns : goal.returns

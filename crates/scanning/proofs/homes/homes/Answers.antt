@@ -1,13 +1,15 @@
 -- Each operation gives one motion.
 use Rattle.std.proofs.Common.{unsigned_abs}
 use Rattle.motions.specs.ListedSizes.{IsSmallWithin}
+use Rattle.motions.specs.Views.{motion_of}
 use Rattle.closure.specs.declared.group.TheConstants.{MAX_ENTRY}
-use Rattle.scanning.proofs.ChosenLists.{homes_more, op_has}
+use Rattle.scanning.proofs.ChosenLists.{homes_more}
 use Rattle.scanning.proofs.SameMotions.{same_all, same_more}
 use Rattle.scanning.proofs.homes.homes.Goals as goal
+use Rattle.quotient.proofs.Items.{All-item_at}
 
 pub home-requires-clause-small : goal.home-requires-clause-small
-home-requires-clause-small c = op_has (IsSmallWithin (unsigned_abs MAX_ENTRY)) c.ops-m-items.result.now c.loop-m.m-index _ c.ops-m-items.ensures.small c.loop-m-test.true
+home-requires-clause-small c = All-item_at motion_of c.ops-m-items.result.now (IsSmallWithin (unsigned_abs MAX_ENTRY)) c.loop-m.m-index _ c.ops-m-items.ensures.small c.loop-m-test.true
 
 pub loop-m-preserved : goal.loop-m-preserved
 loop-m-preserved c =

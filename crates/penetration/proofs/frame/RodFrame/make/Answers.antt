@@ -1,8 +1,7 @@
 -- With the axis the vectors are no frame, one that is skewed, or one that is given.
-use Rattle.std.proofs.Common.{◌≡◌, ◌↔◌, ◌≤◌, Bool, IsTrue, List, length, map, refl, sym, subst, arith}
+use Rattle.std.proofs.Common.{◌≡◌, ◌≤◌, List, length, map, refl, sym, subst, arith}
 use Rattle.integers.proofs.Order.{at_least_one}
 use Rattle.fractions.specs.declared.ratio.Ratio.{Ratio}
-use Rattle.symmetry.specs.Frames.{Basis}
 use Rattle.symmetry.specs.Vectors.{Vector}
 use Rattle.motions.specs.BasisView.{basis_of}
 use Rattle.symmetry.specs.Motions.{Motion}
@@ -12,6 +11,7 @@ use Rattle.closure.specs.Groups.{group_listing}
 use Rattle.closure.proofs.OwnLattice.{own_fine}
 use Rattle.plane_lattice.specs.Coordinates.{volume}
 use Rattle.plane_lattice.proofs.LatticeTests.{edges_held}
+use Rattle.plane_lattice.proofs.FrameTestFacts.{told}
 use Rattle.penetration.specs.declared.frame.RodFrame.{RodFrame}
 use Rattle.penetration.specs.DirectionView.{direction_of}
 use Rattle.penetration.specs.FrameOf.{with_axis}
@@ -22,10 +22,6 @@ use Rattle.penetration.proofs.FrameFaults.{no_fault, not_frame, skewed}
 use Rattle.penetration.proofs.RodSums.{rod_ops_are, some_rod}
 use Rattle.penetration.proofs.VolumeBound.{volume_bound}
 use Rattle.penetration.proofs.frame.RodFrame.make.Goals as goal
-
--- what is told of the vectors of the dual basis is told of these
-told : {b : Bool} {basis kept : BasisOfCode} (P : Basis → Type 0) → kept ≡ basis → (IsTrue b ↔ P (basis_of kept)) → (IsTrue b ↔ P (basis_of basis))
-told {b} P same tells = subst (λ (x : BasisOfCode). IsTrue b ↔ P (basis_of x)) same tells
 
 -- a' and b' of one basis and one list are those of the same
 across_as : (u : Vector) (kept basis : BasisOfCode) (ops ms : List Motion) (across : List (List Ratio)) → kept ≡ basis → ops ≡ ms

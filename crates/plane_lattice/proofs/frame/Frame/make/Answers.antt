@@ -1,5 +1,5 @@
 -- A frame that is not skewed is given, with its period and its mean.
-use Rattle.std.proofs.Common.{◌≡◌, ◌↔◌, ◌≤ℤ◌, Bool, IsTrue, ◌<◌, ℤ, pos, List, length, ◌∙◌, ap, sym, subst, refl, arith, lit<}
+use Rattle.std.proofs.Common.{◌≡◌, ◌≤ℤ◌, ◌<◌, ℤ, pos, List, length, ◌∙◌, ap, sym, subst, refl, arith, lit<}
 use Rattle.std.specs.Prelude.{Err}
 use Rattle.std.proofs.lemmas.Int.{ints}
 use Rattle.integers.specs.Size.{IsWithin}
@@ -20,14 +20,10 @@ use Rattle.plane_lattice.specs.Bounds.{largest_period}
 use Rattle.plane_lattice.specs.Coordinates.{volume}
 use Rattle.plane_lattice.specs.Scanning.{scanning_ops, IsPointOf}
 use Rattle.plane_lattice.proofs.FrameListings.{frame_alike, good_frame, no_frame, refused_alike, skewed_frame}
-use Rattle.plane_lattice.proofs.FrameTestFacts.{frame_passes_tests, volume_positive}
+use Rattle.plane_lattice.proofs.FrameTestFacts.{frame_passes_tests, volume_positive, told}
 use Rattle.plane_lattice.proofs.LatticeTests.{edges_held, fine_as}
 use Rattle.plane_lattice.proofs.ScanningFacts.{scanning_ops_are, some_scanning}
 use Rattle.plane_lattice.proofs.frame.Frame.make.Goals as goal
-
--- what is told of the vectors of the dual basis is told of these
-told : {b : Bool} {basis kept : BasisOfCode} (P : Basis → Type 0) → kept ≡ basis → (IsTrue b ↔ P (basis_of kept)) → (IsTrue b ↔ P (basis_of basis))
-told {b} P same tells = subst (λ (x : BasisOfCode). IsTrue b ↔ P (basis_of x)) same tells
 
 -- (hkl).tau as it is kept
 period_is : (z d : ℤ) → IsWithin largest_period z → z ≡ d → again (wide z) ≡ d
