@@ -5,6 +5,7 @@ pub mod Firsts
 pub mod HomeLists
 pub mod Items
 pub mod Kept
+pub mod ListLaws
 pub mod Members
 pub mod OrderLemma
 pub mod Parts
@@ -14,5 +15,4 @@ pub mod Sameness
 pub mod Searches
 pub mod ShiftGroups
 pub mod TableLemma
-pub mod ListLaws
 pub mod Zips
