@@ -50,13 +50,8 @@ pub fn axis(group: &Group, direction: &Direction) -> [Part; 3]
     ensures axis { IsAxis (group_listing group.now) (direction_of direction.now) (parts result) }
     ensures small { IsVectorWithin (1000 * unsigned_abs UNIT) (parts result) }
 {
-    for times in 1..EDGE {
-        let vector = multiple(direction, times);
-        if group.has(vector) {
-            return vector;
-        }
-    }
-    multiple(direction, EDGE)
+    let times = (1..EDGE).find(|times| group.has(multiple(direction, *times)));
+    multiple(direction, times.unwrap_or(EDGE))
 }
 
 /// Whether a and b are a rod frame of the group and the direction, where the third vector is the axis.
