@@ -1,7 +1,6 @@
 pub mod JoinedHeights
 pub mod FirstRows
 pub mod LevelMotions
-pub mod MotionLists
 pub mod MotionsSoFar
 pub mod Multiples
 pub mod Numbering

@@ -52,12 +52,7 @@ fn lists_motion(motions: &[HeightMotion], motion: &HeightMotion) -> bool
     ensures { IsTrue result
         ↔ Any (λ h. height_motion_of motion.now ≡ h) (map height_motion_of motions.now) }
 {
-    for other in motions {
-        if is_same(motion, other) {
-            return true;
-        }
-    }
-    false
+    motions.iter().any(|other| is_same(motion, other))
 }
 
 /// Whether two motions are equal.

@@ -75,12 +75,9 @@ fn are_joined(height: &Height, image: &Height, motions: &[HeightMotion], frame: 
         ↔ AreJoined (map height_motion_of motions.now) frame.now.period.0 height.now.level
         image.now.level }
 {
-    for motion in motions {
-        if takes(motion, height, image, frame) {
-            return true;
-        }
-    }
-    false
+    motions
+        .iter()
+        .any(|motion| takes(motion, height, image, frame))
 }
 
 /// Whether the motion takes the one height to the other, but for a whole number of periods.

@@ -59,12 +59,7 @@ pub(crate) fn holds_all(dual: &DualBasis, vectors: &[[Part; 3]]) -> bool
     ensures { IsTrue result
         ↔ All (λ v. IsCombination (basis_of dual.now.basis) (parts v)) vectors.now }
 {
-    for v in vectors {
-        if !is_combination(dual, v) {
-            return false;
-        }
-    }
-    true
+    vectors.iter().all(|v| is_combination(dual, v))
 }
 
 /// Whether a vector is a whole combination of the basis.

@@ -3,8 +3,7 @@ use Rattle.std.proofs.iter.Serving.{serving}
 use Rattle.std.proofs.lemmas.Iterator.{cases_from_any, YieldsList-from_slice}
 use Rattle.quotient.specs.Modulo.{modulo}
 use Rattle.quotient.specs.Groups.{AreInverse}
-use Rattle.quotient.proofs.Items.{Any-from_map, Any-map}
-use Rattle.quotient.proofs.Searches.{some_is}
+use Rattle.quotient.proofs.Searches.{some_of}
 use Rattle.quotient.proofs.check.has_inverse.Goals as goal
 use Rattle.quotient.proofs.ListLaws.{All-from_map}
 
@@ -20,8 +19,8 @@ returns g c =
     let K = modulo M (g.Q.Quotient.IsShift c.args.q.now) in
     let P = AreInverse K (M.meaning c.args.m.now) in
     let list = c.args.list.now in
-    let found = some_is (λ n. P (M.meaning n)) list c.any.result
+    let found = some_of M.meaning P list c.any.result
     (cases_from_any _ _ _ (λ n. P (M.meaning n)) (λ n. ¬ P (M.meaning n)) c.any.ensures.ran (YieldsList-from_slice list cc) (λ x q k. search (rules, tests)) (λ x q k. search (rules, tests))) in (
-      λ t. let (k, n, within, is, undoes) = Any-map M.meaning list P (found.0 t) in record { inverse = n; listed = (k, within, is); undoes = undoes },
-      λ h. let (k, within, is) = h.listed in found.1 (Any-from_map M.meaning list P c.args.m.now (k, h.inverse, within, is, h.undoes)),
+      λ t. let (k, n, within, is, undoes) = found.0 t in record { inverse = n; listed = (k, within, is); undoes = undoes },
+      λ h. let (k, within, is) = h.listed in found.1 (k, h.inverse, within, is, h.undoes),
     )

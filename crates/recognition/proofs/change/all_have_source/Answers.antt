@@ -4,7 +4,7 @@ use Rattle.std.specs.Prelude.{Any}
 use Rattle.motions.specs.declared.layer.LayerMotion.{LayerMotion}
 use Rattle.motions.specs.PlaneViews.{matrix2_of}
 use Rattle.recognition.specs.Listed.{IsPaired}
-use Rattle.recognition.proofs.Searches.{all_are}
+use Rattle.quotient.proofs.Searches.{all_are}
 use Rattle.recognition.proofs.change.all_have_source.Goals as goal
 
 pub returns : goal.returns

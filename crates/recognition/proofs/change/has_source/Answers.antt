@@ -3,7 +3,7 @@ use Rattle.std.proofs.lemmas.Iterator.{cases_from_any, YieldsList-from_slice}
 use Rattle.motions.specs.declared.layer.LayerMotion.{LayerMotion}
 use Rattle.motions.specs.PlaneViews.{matrix2_of}
 use Rattle.recognition.specs.Listed.{IsPaired}
-use Rattle.recognition.proofs.Searches.{some_is}
+use Rattle.quotient.proofs.Searches.{some_is}
 use Rattle.recognition.proofs.change.has_source.Goals as goal
 
 pub returns : goal.returns

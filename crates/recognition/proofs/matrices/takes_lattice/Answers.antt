@@ -4,7 +4,7 @@ use Rattle.std.proofs.lemmas.Iterator.{cases_from_any, YieldsList-from_slice}
 use Rattle.quotient.proofs.ListLaws.{All-from_map, Contains-from_map}
 use Rattle.motions.specs.PlaneViews.{matrix2_of}
 use Rattle.recognition.specs.Listed.{TakesLattice}
-use Rattle.recognition.proofs.Searches.{some_is}
+use Rattle.quotient.proofs.Searches.{some_is}
 use Rattle.recognition.proofs.matrices.takes_lattice.Goals as goal
 
 pub returns : goal.returns

@@ -4,7 +4,7 @@ use Rattle.std.specs.Prelude.{Any}
 use Rattle.motions.specs.declared.rod.RodMotion.{RodMotion}
 use Rattle.motions.specs.RodMotions.{rod_of}
 use Rattle.recognition.specs.RodKinds.{IsKin}
-use Rattle.recognition.proofs.Searches.{all_are}
+use Rattle.quotient.proofs.Searches.{all_are}
 use Rattle.recognition.proofs.rod_kinds.all_have_kin.Goals as goal
 
 pub returns : goal.returns

@@ -5,7 +5,7 @@ use Rattle.motions.specs.declared.rod.RodMotion.{RodMotion}
 use Rattle.motions.specs.PlaneViews.{matrix2_of}
 use Rattle.motions.specs.RodMotions.{rod_of}
 use Rattle.recognition.specs.RodTests.{IsPaired}
-use Rattle.recognition.proofs.Searches.{all_are}
+use Rattle.quotient.proofs.Searches.{all_are}
 use Rattle.recognition.proofs.rod_pairs.all_have_source.Goals as goal
 
 pub returns : goal.returns

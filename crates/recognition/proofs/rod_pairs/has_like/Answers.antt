@@ -4,7 +4,7 @@ use Rattle.motions.specs.declared.rod.RodMotion.{RodMotion}
 use Rattle.motions.specs.PlaneViews.{matrix2_of}
 use Rattle.motions.specs.RodMotions.{rod_of}
 use Rattle.recognition.specs.RodTests.{IsPaired}
-use Rattle.recognition.proofs.Searches.{some_is}
+use Rattle.quotient.proofs.Searches.{some_is}
 use Rattle.recognition.proofs.rod_pairs.has_like.Goals as goal
 
 pub returns : goal.returns
