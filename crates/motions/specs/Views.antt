@@ -1,5 +1,5 @@
 -- The code's arrays as vectors, matrices and motions.
-use Rattle.std.specs.Prelude.{ℕ, ℤ, pos, List, [], slice_index_or, map}
+use Rattle.std.specs.Prelude.{ℕ, ℤ, pos, List, [], ◌∷◌, slice_index_or, map}
 use Rattle.fractions.specs.declared.part.Part.{Part}
 use Rattle.motions.specs.declared.motion.Motion3.{Motion3}
 use Rattle.motions.specs.declared.listed.Listed.{Listed}
@@ -27,6 +27,10 @@ part_at ps i = (slice_index_or ps i (record { 0 = pos 0 })).0
 -- the vector that an array of parts is
 abbrev pub parts : List Part → Vector
 parts ps = record { x = part_at ps 0; y = part_at ps 1; z = part_at ps 2 }
+
+-- the array with the entries of a vector
+abbrev pub array_of : Vector → List Part
+array_of v = record { 0 = v.x } ∷ record { 0 = v.y } ∷ record { 0 = v.z } ∷ []
 
 -- the motion that a Motion3 is
 abbrev pub motion_of : Motion3 → Motion

@@ -1,17 +1,15 @@
 -- Motions modulo the whole combinations of a and b, and the motion at home.
-use Rattle.std.specs.Prelude.{◌≡◌, List, [], ◌∷◌}
-use Rattle.fractions.specs.declared.part.Part.{Part}
 use Rattle.motions.specs.declared.motion.Motion3.{Motion3}
-use Rattle.motions.specs.Views.{parts}
-use Rattle.symmetry.specs.Vectors.{Vector, minus, unit_matrix}
+use Rattle.motions.specs.Views.{parts, array_of}
+use Rattle.motions.specs.Translations.{IsTranslationBy}
+use Rattle.symmetry.specs.Vectors.{Vector, minus}
 use Rattle.symmetry.specs.Motions.{Motion}
 use Rattle.symmetry.specs.Frames.{Basis, combination}
 use Rattle.plane_lattice.specs.Coordinates.{floors, volume, scaled, IsPlaneCombination}
 
 -- the motion is the translation by a whole combination of a and b
-pub record IsPlaneShift (f : Basis) (m : Motion) : Type 0 where
-  pub matrix : m.matrix ≡ unit_matrix
-  pub translation : IsPlaneCombination f m.translation
+abbrev pub IsPlaneShift : Basis → Motion → Type 0
+IsPlaneShift f m = IsTranslationBy (IsPlaneCombination f) m
 
 -- how often the vector has a whole a and a whole b: its first two coordinates, rounded down
 abbrev pub whole_part : Basis → Vector → Vector
@@ -25,10 +23,6 @@ home_shift f v = minus v (combination f (whole_part f v))
 abbrev pub home_motion : Basis → Motion → Motion
 home_motion f m = record { matrix = m.matrix; translation = home_shift f m.translation }
 
--- three numbers of parts as an array
-abbrev pub of_vector : Vector → List Part
-of_vector v = record { 0 = v.x } ∷ record { 0 = v.y } ∷ record { 0 = v.z } ∷ []
-
 -- the code's motion for the same
 abbrev pub home_of_motion : Basis → Motion3 → Motion3
-home_of_motion f m = record { w = m.w; t = of_vector (home_shift f (parts m.t)) }
+home_of_motion f m = record { w = m.w; t = array_of (home_shift f (parts m.t)) }
