@@ -8,9 +8,8 @@ use Rattle.symmetry.specs.Motions.{Motion, followed_by, identity, translation}
 use Rattle.symmetry.specs.Groups.{Listing, Generates, IsInLattice, zero_vector, added, subtracted}
 use Rattle.symmetry.proofs.VectorLaws.{plus_comm, minus-plus, minus-same, opposite-minus, opposite-plus_same, origin-plus}
 use Rattle.symmetry.proofs.MatrixLaws.{product-unit_right}
-use Rattle.symmetry.proofs.MotionLaws.{motion_path, followed_by-assoc, followed_by-identity, identity-followed_by, inverse_by, followed_by-inverse_by, inverse_by-followed_by}
+use Rattle.symmetry.proofs.MotionLaws.{motion_path, followed_by-assoc, followed_by-identity, identity-followed_by, inverse_by, followed_by-inverse_by, inverse_by-followed_by, followed_by-translation}
 use Rattle.symmetry.proofs.LatticeLaws.{lattice-opposite}
-use Rattle.closure.specs.Laws.ShiftLaws.{followed_by-translation}
 use Rattle.closure.specs.Residues.{residue, IsWhole}
 use Rattle.closure.specs.Laws.ResidueLaws.{whole-minus_residue, whole-opposite}
 use Rattle.closure.proofs.Spans.{lattice-whole}

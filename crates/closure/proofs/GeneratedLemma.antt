@@ -13,12 +13,11 @@ use Rattle.symmetry.specs.Motions.{Motion, followed_by, identity, translation}
 use Rattle.symmetry.specs.Groups.{Listing, IsInLattice, SameModulo}
 use Rattle.symmetry.proofs.VectorLaws.{plus_comm, minus-plus, plus-minus_first, minus-origin}
 use Rattle.symmetry.proofs.MatrixLaws.{product_assoc, product-unit_left, product-unit_right}
-use Rattle.symmetry.proofs.MotionLaws.{motion_path, followed_by-assoc, followed_by-identity}
+use Rattle.symmetry.proofs.MotionLaws.{motion_path, followed_by-assoc, followed_by-identity, followed_by-translation}
 use Rattle.symmetry.proofs.LatticeLaws.{same_refl, same_sym, same_trans, same-followed_by}
 use Rattle.quotient.proofs.ListLaws.{AllPairs-map, Contains-map, Contains-from_map}
 use Rattle.motions.specs.Equality.{same_matrix}
 use Rattle.motions.specs.Laws.MotionLaws.{same_matrix-is}
-use Rattle.closure.specs.Laws.ShiftLaws.{followed_by-translation}
 use Rattle.closure.specs.Generated.{generating_kind, IsGenerated, InGeneratedLattice}
 use Rattle.closure.specs.ClosedLists.{HasMatrixOf, IsMatrixClosed, IsLatticeClosed, IsCovered}
 use Rattle.closure.proofs.Pigeonhole.{has_each}

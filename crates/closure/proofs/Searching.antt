@@ -16,11 +16,10 @@ use Rattle.closure.specs.Operations.{HasSmallEntries}
 use Rattle.symmetry.proofs.Sizes.{IsMatrixWithin-more}
 use Rattle.motions.specs.Views.{motion_of}
 use Rattle.symmetry.proofs.VectorLaws.{plus_comm, minus-plus, opposite-minus}
-use Rattle.symmetry.proofs.MotionLaws.{motion_path}
+use Rattle.symmetry.proofs.MotionLaws.{motion_path, followed_by-translation}
 use Rattle.quotient.proofs.ListLaws.{AllPairs-append, AllPairs-map, Contains-map}
 use Rattle.closure.specs.Residues.{residue, IsWhole}
 use Rattle.closure.specs.Laws.ResidueLaws.{whole-minus_residue, whole-opposite}
-use Rattle.closure.specs.Laws.ShiftLaws.{followed_by-translation}
 use Rattle.closure.specs.Fineness.{centrings_alone}
 use Rattle.closure.specs.Generated.{IsGenerated, IsGeneratedMatrix, IsGeneratedMatrix.{no_matrix, one_more}, IsTooLarge, IsTooLarge.{many}}
 use Rattle.closure.specs.ClosedLists.{HasMatrixOf, IsMatrixClosed}

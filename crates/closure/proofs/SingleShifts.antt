@@ -6,10 +6,9 @@ use Rattle.quotient.specs.Closure.IsProduct.{empty, further}
 use Rattle.symmetry.specs.Vectors.{Vector, opposite}
 use Rattle.symmetry.specs.Motions.{Motion, followed_by, translation}
 use Rattle.symmetry.specs.Groups.{Listing, Generates, IsInLattice, zero_vector, added, subtracted}
-use Rattle.symmetry.proofs.MotionLaws.{motion_path, followed_by-assoc, followed_by-identity}
+use Rattle.symmetry.proofs.MotionLaws.{motion_path, followed_by-assoc, followed_by-identity, followed_by-translation}
 use Rattle.symmetry.proofs.LatticeLaws.{lattice-made, lattice-opposite}
 use Rattle.quotient.proofs.ListLaws.{nothing_contained}
-use Rattle.closure.specs.Laws.ShiftLaws.{followed_by-translation}
 use Rattle.closure.specs.Fineness.{centrings_alone}
 use Rattle.closure.specs.Generated.{generating_kind, IsGenerated, single_kind, IsEdgeOrCentring}
 

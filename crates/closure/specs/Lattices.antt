@@ -1,10 +1,11 @@
 -- The lattice that a Lattice is.
 use Rattle.std.specs.Prelude.{◌≡◌, ◌↔◌, false, List, map, Contains}
 use Rattle.std.specs.List.{best_of}
-use Rattle.symmetry.specs.Vectors.{Vector, minus, unit_matrix}
+use Rattle.symmetry.specs.Vectors.{Vector, minus}
 use Rattle.symmetry.specs.Groups.{Listing, IsInLattice}
 use Rattle.motions.specs.declared.motion.Motion3.{Motion3}
 use Rattle.motions.specs.Views.{parts, motion_of, array_of}
+use Rattle.motions.specs.Translations.{IsTranslationBy}
 use Rattle.closure.specs.declared.lattice.Lattice.{Lattice}
 use Rattle.closure.specs.Residues.{residue, is_before}
 use Rattle.closure.specs.Spans.{coset}
@@ -22,9 +23,8 @@ abbrev pub IsLatticeOf : Listing → Lattice → Type 0
 IsLatticeOf g lattice = (v : Vector) → InLattice lattice v ↔ IsInLattice g v
 
 -- the motion is the translation by a vector of the lattice
-pub record IsLatticeShift (lattice : Lattice) (m : Motion3) : Type 0 where
-  pub matrix : (motion_of m).matrix ≡ unit_matrix
-  pub translation : InLattice lattice (motion_of m).translation
+abbrev pub IsLatticeShift : Lattice → Motion3 → Type 0
+IsLatticeShift lattice m = IsTranslationBy (InLattice lattice) (motion_of m)
 
 -- the first of the vectors, in lexicographic order, that are v and a residue, modulo whole edges
 abbrev pub first_with : Vector → List Vector → Vector

@@ -1,4 +1,5 @@
 pub mod MotionLaws
+pub mod TranslationLaws
 pub mod SignLaws
 pub mod PlaneMatrixLaws
 pub mod LayerLaws

@@ -14,5 +14,6 @@ pub mod PlaneViews
 pub mod Rationals
 pub mod RodMotions
 pub mod Signs
+pub mod Translations
 pub mod Views
 pub mod WrittenMotions

@@ -28,7 +28,7 @@ part_at ps i = (slice_index_or ps i (record { 0 = pos 0 })).0
 abbrev pub parts : List Part → Vector
 parts ps = record { x = part_at ps 0; y = part_at ps 1; z = part_at ps 2 }
 
--- the array of parts that a vector is
+-- the array with the entries of a vector
 abbrev pub array_of : Vector → List Part
 array_of v = record { 0 = v.x } ∷ record { 0 = v.y } ∷ record { 0 = v.z } ∷ []
 

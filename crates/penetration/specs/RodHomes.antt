@@ -4,8 +4,9 @@ use Rattle.std.specs.Int.{int_div_euclid}
 use Rattle.motions.specs.declared.motion.Motion3.{Motion3}
 use Rattle.motions.specs.ListedSizes.{IsSmallWithin}
 use Rattle.motions.specs.Views.{parts, array_of}
+use Rattle.motions.specs.Translations.{IsTranslationBy}
 use Rattle.closure.specs.declared.group.TheConstants.{MAX_ENTRY}
-use Rattle.symmetry.specs.Vectors.{Vector, minus, multiple, unit_matrix}
+use Rattle.symmetry.specs.Vectors.{Vector, minus, multiple}
 use Rattle.symmetry.specs.Motions.{Motion}
 use Rattle.symmetry.specs.Frames.{Basis, combination}
 use Rattle.symmetry.specs.Sizes.{IsVectorWithin}
@@ -47,9 +48,8 @@ abbrev pub IsAlongAxis : Basis → Vector → Type 0
 IsAlongAxis f v = (k : ℤ) × (multiple k f.tau ≡ v)
 
 -- the motion is the translation by a whole multiple of the axis
-pub record IsAxisShift (f : Basis) (m : Motion) : Type 0 where
-  pub matrix : m.matrix ≡ unit_matrix
-  pub translation : IsAlongAxis f m.translation
+abbrev pub IsAxisShift : Basis → Motion → Type 0
+IsAxisShift f m = IsTranslationBy (IsAlongAxis f) m
 
 -- how often the vector has a whole axis: its coordinate along the axis, rounded down
 abbrev pub whole_turns : Basis → Vector → ℤ

@@ -2,38 +2,23 @@
 use Rattle.std.proofs.Common.{◌≡◌, ◌↔◌, ℤ, pos, negsuc, ◌+ℤ◌, ◌*ℤ◌, ◌≤ℤ◌, [], ◌∷◌, refl, sym, ap, subst, ◌∙◌}
 use Rattle.std.specs.Int.{int_div_euclid}
 use Rattle.integers.proofs.Solver.{Expr.{var, num, ◌⊕◌, ◌⊗◌}, ring}
-use Rattle.quotient.specs.Kind.{Kind, kind_of, IsSame, Keeps, AreShiftsGroup}
-use Rattle.symmetry.specs.Vectors.{Vector, origin, plus, minus, multiple, opposite, dot, cross, image, unit_matrix}
-use Rattle.symmetry.specs.Motions.{Motion, followed_by, identity}
+use Rattle.quotient.specs.Kind.{Kind, IsSame, Keeps, AreShiftsGroup}
+use Rattle.symmetry.specs.Vectors.{Vector, origin, plus, minus, multiple, dot, cross, image}
+use Rattle.symmetry.specs.Motions.{Motion}
 use Rattle.symmetry.specs.Frames.{Basis}
-use Rattle.symmetry.proofs.VectorLaws.{vector_path, dot-plus, dot-multiple, multiple-multiple, multiple-one, plus_comm, minus-same, opposite-plus_same, multiple-zero, plus-multiple}
+use Rattle.symmetry.proofs.VectorLaws.{vector_path, dot-plus, dot-multiple, multiple-multiple, multiple-one, multiple-zero, plus-multiple}
 use Rattle.symmetry.proofs.MatrixLaws.{image-multiple}
-use Rattle.symmetry.proofs.MotionLaws.{motion_path}
 use Rattle.motions.specs.declared.motion.Motion3.{Motion3}
-use Rattle.motions.specs.Views.{motion_of, parts, array_of}
+use Rattle.motions.specs.Views.{motion_of}
+use Rattle.motions.specs.Translations.{IsVectorGroup, modulo_translations}
+use Rattle.motions.specs.Laws.TranslationLaws.{keeps_vectors, rest_is_same, same_homes, same_rests, translations_by_meaning, translations_group}
 use Rattle.plane_lattice.specs.Coordinates.{volume}
-use Rattle.plane_lattice.specs.Laws.QuotientLaws.{cancelled, div_euclid-multiple, exchanged, followed_by-translation, translation-followed_by}
+use Rattle.plane_lattice.specs.Laws.QuotientLaws.{div_euclid-multiple}
 use Rattle.penetration.specs.RodHomes.{IsAlongAxis, IsAxisShift, rod_home_of, rod_home_shift, whole_turns}
 
 -- the kind of the motions of space, where the shifts are the whole multiples of the axis
 abbrev pub axis_kind : Basis → Kind
-axis_kind f = kind_of motion_of followed_by identity (λ m. IsAxisShift f (motion_of m))
-
-abbrev axis_shift : Basis → Motion → Type 0
-axis_shift f s = (m : Motion3) × IsAxisShift f (motion_of m) × (motion_of m ≡ s)
-
-abbrev translation3 : Vector → Motion3
-translation3 v = record {
-  w = (pos 1 ∷ pos 0 ∷ pos 0 ∷ []) ∷ (pos 0 ∷ pos 1 ∷ pos 0 ∷ []) ∷ (pos 0 ∷ pos 0 ∷ pos 1 ∷ []) ∷ [];
-  t = array_of v;
-}
-
--- the translation by a whole multiple of the axis is a shift
-shift_by : (f : Basis) (v : Vector) → IsAlongAxis f v → axis_shift f (record { matrix = unit_matrix; translation = v })
-shift_by f v h = (translation3 v, record { matrix = refl; translation = h }, refl)
-
-shift_is : (f : Basis) (s : Motion) → axis_shift f s → IsAxisShift f s
-shift_is f s (m, h, e) = subst (IsAxisShift f) e h
+axis_kind f = modulo_translations (IsAlongAxis f)
 
 -- ---- whole multiples of the axis, their sums and opposites
 
@@ -46,40 +31,23 @@ axis-plus f v w (k, e) (l, h) = (k +ℤ l, plus-multiple k l f.tau ∙ (λ i. pl
 axis-multiple : (f : Basis) (c : ℤ) (v : Vector) → IsAlongAxis f v → IsAlongAxis f (multiple c v)
 axis-multiple f c v (k, e) = (c *ℤ k, sym (multiple-multiple c k f.tau) ∙ ap (multiple c) e)
 
+axis_vectors : (f : Basis) → IsVectorGroup (IsAlongAxis f)
+axis_vectors f = record { zero_vector = axis_origin f; sums = axis-plus f; opposites = axis-multiple f (negsuc 0) }
+
+has_turns : (f : Basis) (v : Vector) → IsAlongAxis f (multiple (whole_turns f v) f.tau)
+has_turns f v = (whole_turns f v, refl)
+
 -- ---- the laws
 
 pub axis_by_meaning : (f : Basis) (m n : Motion3) → motion_of m ≡ motion_of n → IsAxisShift f (motion_of m) → IsAxisShift f (motion_of n)
-axis_by_meaning f m n e h = subst (IsAxisShift f) e h
+axis_by_meaning f = translations_by_meaning (IsAlongAxis f)
 
 pub axis_shifts : (f : Basis) → AreShiftsGroup (axis_kind f)
-axis_shifts f = record {
-  identity = shift_by f origin (axis_origin f);
-  products = λ s t h k.
-      let p = shift_is f s h in
-      let q = shift_is f t k in
-      subst (axis_shift f) (sym (followed_by-translation s t q.matrix ∙ ap (λ w. record { matrix = w; translation = plus s.translation t.translation }) p.matrix))
-      (shift_by f (plus s.translation t.translation) (axis-plus f s.translation t.translation p.translation q.translation));
-  inverses = λ s h.
-      let p = shift_is f s h in
-      let back : Motion = record { matrix = unit_matrix; translation = opposite s.translation } in (
-        back,
-        shift_by f (opposite s.translation) (axis-multiple f (negsuc 0) s.translation p.translation),
-        record {
-          after = followed_by-translation s back refl ∙ motion_path p.matrix (minus-same s.translation);
-          before = followed_by-translation back s p.matrix ∙ motion_path refl (opposite-plus_same s.translation);
-        },
-      );
-}
+axis_shifts f = translations_group (IsAlongAxis f) (axis_vectors f)
 
 pub axis_home_is_same : (f : Basis) (m : Motion3) → IsSame (axis_kind f) (motion_of (rod_home_of f m)) (motion_of m)
 axis_home_is_same f m =
-    let q = whole_turns f (parts m.t) in
-    let whole = multiple q f.tau in
-    let back : Motion = record { matrix = unit_matrix; translation = opposite whole } in record {
-      shift = back;
-      is_shift = shift_by f (opposite whole) (axis-multiple f (negsuc 0) whole (q, refl));
-      is = sym (followed_by-translation (motion_of m) back refl);
-    }
+    rest_is_same (IsAlongAxis f) (axis_vectors f) (λ v. multiple (whole_turns f v) f.tau) (has_turns f) (motion_of m)
 
 without : (v : Vector) (q k : ℤ) (c : Vector) → minus (plus v (multiple k c)) (multiple (q +ℤ k) c) ≡ minus v (multiple q c)
 unfolding plus multiple
@@ -107,46 +75,17 @@ moved_home f spans v k =
 
 pub axis_homes : (f : Basis) → pos 1 ≤ℤ volume f → (m n : Motion3)
     → IsSame (axis_kind f) (motion_of m) (motion_of n) ↔ (motion_of (rod_home_of f m) ≡ motion_of (rod_home_of f n))
-axis_homes f spans m n = (to, from)
+axis_homes f spans m n =
+    same_homes (IsAlongAxis f) (rod_home_shift f)
+    (same_rests (IsAlongAxis f) (axis_vectors f) (λ v. multiple (whole_turns f v) f.tau) (has_turns f) steady) (motion_of m) (motion_of n)
   where
-    to : IsSame (axis_kind f) (motion_of m) (motion_of n) → motion_of (rod_home_of f m) ≡ motion_of (rod_home_of f n)
-    to p =
-        let s = shift_is f p.shift p.is_shift in
-        let (k, e) = s.translation in
-        let is = p.is ∙ followed_by-translation (motion_of n) p.shift s.matrix in
-        let moved : parts m.t ≡ plus (parts n.t) (multiple k f.tau) = ap (λ (k : Motion). k.translation) is ∙ ap (plus (parts n.t)) (sym e) in
-        motion_path (ap (λ (k : Motion). k.matrix) is) (ap (rod_home_shift f) moved ∙ moved_home f spans (parts n.t) k)
-
-    from : motion_of (rod_home_of f m) ≡ motion_of (rod_home_of f n) → IsSame (axis_kind f) (motion_of m) (motion_of n)
-    from e =
-        let p = whole_turns f (parts m.t) in
-        let q = whole_turns f (parts n.t) in
-        let apart = minus (multiple p f.tau) (multiple q f.tau) in
-        let s : Motion = record { matrix = unit_matrix; translation = apart } in record {
-          shift = s;
-          is_shift = shift_by f apart (axis-plus f (multiple p f.tau) (opposite (multiple q f.tau)) (p, refl)
-              (axis-multiple f (negsuc 0) (multiple q f.tau) (q, refl)));
-          is = motion_path (ap (λ (k : Motion). k.matrix) e)
-              (exchanged (parts m.t) (parts n.t) (multiple p f.tau) (multiple q f.tau) (ap (λ (k : Motion). k.translation) e))
-              ∙ sym (followed_by-translation (motion_of n) s refl);
-        }
+    steady : (v w : Vector) → IsAlongAxis f w → rod_home_shift f (plus v w) ≡ rod_home_shift f v
+    steady v w (k, e) = ap (λ u. rod_home_shift f (plus v u)) (sym e) ∙ moved_home f spans v k
 
 -- a motion carries shifts into shifts exactly where it takes the axis to a multiple of the axis
 pub axis_keeps : (f : Basis) (m : Motion) → IsAlongAxis f (image m.matrix f.tau) ↔ Keeps (axis_kind f) m
-axis_keeps f m = (
-  λ along t h.
-      let p = shift_is f t h in
-      let v = image m.matrix t.translation in
-      let s : Motion = record { matrix = unit_matrix; translation = v } in (
-        s,
-        shift_by f v (subst (IsAlongAxis f) (sym (image-multiple m.matrix p.translation.0 f.tau) ∙ ap (image m.matrix) p.translation.1)
-            (axis-multiple f p.translation.0 (image m.matrix f.tau) along)),
-        translation-followed_by m t p.matrix ∙ motion_path refl (plus_comm v m.translation) ∙ sym (followed_by-translation m s refl),
-      ),
-  λ keeps.
-      let t : Motion = record { matrix = unit_matrix; translation = f.tau } in
-      let (s, is, e) = keeps t (shift_by f f.tau (pos 1, multiple-one f.tau)) in
-      let p = shift_is f s is in
-      let same = sym (translation-followed_by m t refl) ∙ e ∙ followed_by-translation m s p.matrix in
-      subst (IsAlongAxis f) (cancelled (image m.matrix f.tau) m.translation s.translation (ap (λ (k : Motion). k.translation) same)) p.translation,
-)
+axis_keeps f m =
+    let vectors = keeps_vectors (IsAlongAxis f) m in (
+      λ along. vectors.1 (λ v (k, e). subst (IsAlongAxis f) (sym (image-multiple m.matrix k f.tau) ∙ ap (image m.matrix) e) (axis-multiple f k (image m.matrix f.tau) along)),
+      λ keeps. vectors.0 keeps f.tau (pos 1, multiple-one f.tau),
+    )

@@ -1,16 +1,15 @@
 -- Motions modulo the whole combinations of a and b, and the motion at home.
-use Rattle.std.specs.Prelude.{◌≡◌}
 use Rattle.motions.specs.declared.motion.Motion3.{Motion3}
 use Rattle.motions.specs.Views.{parts, array_of}
-use Rattle.symmetry.specs.Vectors.{Vector, minus, unit_matrix}
+use Rattle.symmetry.specs.Vectors.{Vector, minus}
+use Rattle.motions.specs.Translations.{IsTranslationBy}
 use Rattle.symmetry.specs.Motions.{Motion}
 use Rattle.symmetry.specs.Frames.{Basis, combination}
 use Rattle.plane_lattice.specs.Coordinates.{floors, volume, scaled, IsPlaneCombination}
 
 -- the motion is the translation by a whole combination of a and b
-pub record IsPlaneShift (f : Basis) (m : Motion) : Type 0 where
-  pub matrix : m.matrix ≡ unit_matrix
-  pub translation : IsPlaneCombination f m.translation
+abbrev pub IsPlaneShift : Basis → Motion → Type 0
+IsPlaneShift f m = IsTranslationBy (IsPlaneCombination f) m
 
 -- how often the vector has a whole a and a whole b: its first two coordinates, rounded down
 abbrev pub whole_part : Basis → Vector → Vector

@@ -1,8 +1,8 @@
 -- The laws of motions.
 use Rattle.std.proofs.Common.{◌≡◌, negsuc, sym, ◌∙◌, ap}
-use Rattle.symmetry.specs.Vectors.{Matrix, image, origin, plus, opposite, product, unit_matrix}
-use Rattle.symmetry.specs.Motions.{Motion, followed_by, identity}
-use Rattle.symmetry.proofs.VectorLaws.{plus_assoc, plus-origin, origin-plus, minus-same, opposite-plus_same}
+use Rattle.symmetry.specs.Vectors.{Matrix, image, origin, plus, opposite, product, unit_matrix, Vector, minus}
+use Rattle.symmetry.specs.Motions.{Motion, followed_by, identity, translation}
+use Rattle.symmetry.proofs.VectorLaws.{plus_assoc, plus-origin, origin-plus, minus-same, opposite-plus_same, plus_comm, plus-minus_first}
 use Rattle.symmetry.proofs.MatrixLaws.{image-plus, image-multiple, image-product, image-unit, image-origin, product_assoc, product-unit_left, product-unit_right}
 
 -- two motions are equal when their parts are
@@ -38,3 +38,20 @@ inverse_by-followed_by w m e =
     (image-multiple m.matrix (negsuc 0) (image w m.translation)
     ∙ ap opposite (sym (image-product m.matrix w m.translation) ∙ ap (λ n. image n m.translation) e ∙ image-unit m.translation))
     ∙ opposite-plus_same m.translation)
+
+-- ---- translations
+
+-- a motion and then a translation
+pub followed_by-translation : (m : Motion) (v : Vector) → followed_by m (translation v) ≡ record { matrix = m.matrix; translation = plus m.translation v }
+followed_by-translation m v = motion_path (product-unit_left m.matrix) (ap (λ u. plus u v) (image-unit m.translation))
+
+-- a translation and then a motion is the motion and then the translation by what it makes of the vector
+pub translation-followed_by : (m : Motion) (v : Vector) → followed_by (translation v) m ≡ followed_by m (translation (image m.matrix v))
+translation-followed_by m v =
+    motion_path (product-unit_right m.matrix) (plus_comm (image m.matrix v) m.translation) ∙ sym (followed_by-translation m (image m.matrix v))
+
+-- after one motion, two translations that give one motion are one
+pub followed_by-translation_once : (m : Motion) (v w : Vector) → followed_by m (translation v) ≡ followed_by m (translation w) → v ≡ w
+followed_by-translation_once m v w e =
+    let same = sym (followed_by-translation m v) ∙ e ∙ followed_by-translation m w in
+    sym (plus-minus_first m.translation v) ∙ ap (λ (k : Motion). minus k.translation m.translation) same ∙ plus-minus_first m.translation w

@@ -1,15 +1,17 @@
 -- Proofs that a Lattice meets the laws of `Quotient`. They stand here since an `impl` cites them.
-use Rattle.std.proofs.Common.{◌≡◌, ◌↔◌, IsTrue, refl, sym, ap, subst, ◌∙◌, List, [], ◌∷◌, pos}
+use Rattle.std.proofs.Common.{◌≡◌, ◌↔◌, IsTrue, refl, sym, subst, List}
 use Rattle.std.specs.Prelude.{Contains, All}
 use Rattle.std.proofs.lemmas.List.Elements.{All-map, All-weaker, All-contains, All-contains_itself}
-use Rattle.quotient.specs.Kind.{Kind, kind_of, AreShiftsGroup, IsInverse, IsSame, Keeps}
+use Rattle.quotient.specs.Kind.{Kind, kind_of, AreShiftsGroup, IsSame, Keeps}
 use Rattle.symmetry.specs.Vectors.{Vector, Matrix, origin, plus, minus, opposite, image}
 use Rattle.symmetry.specs.Motions.{Motion, followed_by, identity, translation}
-use Rattle.symmetry.proofs.VectorLaws.{plus_comm, minus-plus, minus-same, opposite-plus_same, plus-minus_first, minus-plus-minus}
-use Rattle.symmetry.proofs.MatrixLaws.{image-unit, image-minus, product-unit_left, product-unit_right}
-use Rattle.symmetry.proofs.MotionLaws.{motion_path}
+use Rattle.symmetry.proofs.VectorLaws.{minus-plus-minus}
+use Rattle.symmetry.proofs.MatrixLaws.{image-minus}
 use Rattle.motions.specs.declared.motion.Motion3.{Motion3}
-use Rattle.motions.specs.Views.{parts, motion_of, array_of}
+use Rattle.motions.specs.Views.{parts, motion_of}
+use Rattle.motions.specs.Translations.{IsVectorGroup}
+use Rattle.motions.specs.Laws.TranslationLaws as translations
+use Rattle.motions.specs.Laws.TranslationLaws.{same_by_translation, same_homes, translations_by_meaning, translations_group}
 use Rattle.closure.specs.declared.lattice.Lattice.{Lattice}
 use Rattle.closure.specs.Residues.{IsWhole, residue, has_residue}
 use Rattle.closure.specs.Laws.ResidueLaws.{has_residue-is, residue-same, residue-parts, whole_from_residues, whole-image, residue-residue}
@@ -20,23 +22,11 @@ use Rattle.closure.specs.Lattices.{residues_of, InLattice, IsLatticeShift, first
 abbrev pub modulo : Lattice → Kind
 modulo lattice = kind_of motion_of followed_by identity (IsLatticeShift lattice)
 
--- a translation after a motion
-pub followed_by-translation : (m : Motion) (v : Vector) → followed_by m (translation v) ≡ record { matrix = m.matrix; translation = plus m.translation v }
-followed_by-translation m v = motion_path (product-unit_left m.matrix) (ap (λ u. plus u v) (image-unit m.translation))
-
--- the code's form of a translation
-abbrev pub translation_by : Vector → Motion3
-translation_by v = record { w = (pos 1 ∷ pos 0 ∷ pos 0 ∷ []) ∷ (pos 0 ∷ pos 1 ∷ pos 0 ∷ []) ∷ (pos 0 ∷ pos 0 ∷ pos 1 ∷ []) ∷ []; t = array_of v }
-
 -- the residue of an image is that of the residue's image
 residue-image : (w : Matrix) (v : Vector) → residue (image w (residue v)) ≡ residue (image w v)
 residue-image w v =
     residue-same (image w (residue v)) (image w v)
     (subst IsWhole (image-minus w (residue v) v) (whole-image w (minus (residue v) v) (whole_from_residues (residue v) v (residue-residue v))))
-
--- u + w = w + v
-taken_off : (u w v : Vector) → plus u w ≡ plus w v → u ≡ v
-taken_off u w v e = sym (plus-minus_first w u) ∙ ap (λ k. minus k w) (plus_comm w u ∙ e) ∙ plus-minus_first w v
 
 module _ (lattice : Lattice) where
   abbrev rs : List Vector
@@ -45,19 +35,8 @@ module _ (lattice : Lattice) where
   pub residues-reduced : All (λ r. residue r ≡ r) rs
   residues-reduced = All-map (λ r. residue r ≡ r) parts lattice.residues.items (λ k d l. residue-parts _ (lattice.reduced k d l))
 
-  -- the translation by a vector of the lattice is a shift
-  pub shift_from : (v : Vector) → InLattice lattice v → (modulo lattice).IsShift (translation v)
-  shift_from v h = (translation_by v, record { matrix = refl; translation = h }, refl)
-
-  -- a shift is the translation by a vector of the lattice
-  pub to_shift : (m : Motion) → (modulo lattice).IsShift m → (m ≡ translation m.translation) × InLattice lattice m.translation
-  to_shift m (s, shift, is) = (motion_path (ap (λ (k : Motion). k.matrix) (sym is) ∙ shift.matrix) refl, subst (λ (k : Motion). InLattice lattice k.translation) is shift.translation)
-
   pub by_meaning_lem : (a b : Motion3) → motion_of a ≡ motion_of b → IsLatticeShift lattice a → IsLatticeShift lattice b
-  by_meaning_lem a b e s = record {
-    matrix = ap (λ (k : Motion). k.matrix) (sym e) ∙ s.matrix;
-    translation = subst (λ (k : Motion). InLattice lattice k.translation) e s.translation;
-  }
+  by_meaning_lem = translations_by_meaning (InLattice lattice)
 
   abbrev In : Vector → Type 0
   In v = IsTrue (has_residue rs v)
@@ -70,54 +49,18 @@ module _ (lattice : Lattice) where
 
   -- ---- the shifts are a group
 
-  translations : (v w : Vector) → followed_by (translation v) (translation w) ≡ translation (plus v w)
-  translations v w = followed_by-translation (translation v) w
-
-  shift_product : (s t : Motion) → (modulo lattice).IsShift s → (modulo lattice).IsShift t → (modulo lattice).IsShift (followed_by s t)
-  shift_product s t p q =
-      let a = to_shift s p in
-      let b = to_shift t q in
-      subst (modulo lattice).IsShift (sym (translations s.translation t.translation) ∙ sym (λ i. followed_by (a.0 i) (b.0 i)))
-      (shift_from (plus s.translation t.translation) (from_in (plus s.translation t.translation) (lattice.group.sums s.translation t.translation (to_in s.translation a.1) (to_in t.translation b.1))))
-
-  shift_inverse : (s : Motion) → (modulo lattice).IsShift s → (t : Motion) × (modulo lattice).IsShift t × IsInverse (modulo lattice) s t
-  shift_inverse s p =
-      let a = to_shift s p in
-      let back = opposite s.translation in (
-        translation back,
-        shift_from back (from_in back (lattice.group.opposites s.translation (to_in s.translation a.1))),
-        record {
-          after = ap (λ k. followed_by k (translation back)) a.0 ∙ translations s.translation back ∙ ap translation (minus-same s.translation);
-          before = ap (followed_by (translation back)) a.0 ∙ translations back s.translation ∙ ap translation (opposite-plus_same s.translation);
-        },
-      )
-
-  pub shifts_lem : AreShiftsGroup (modulo lattice)
-  shifts_lem = record {
-    identity = shift_from origin (from_in origin lattice.group.zero_vector);
-    products = shift_product;
-    inverses = shift_inverse;
+  lattice_vectors : IsVectorGroup (InLattice lattice)
+  lattice_vectors = record {
+    zero_vector = from_in origin lattice.group.zero_vector;
+    sums = λ v w h k. from_in (plus v w) (lattice.group.sums v w (to_in v h) (to_in w k));
+    opposites = λ v h. from_in (opposite v) (lattice.group.opposites v (to_in v h));
   }
 
-  -- ---- sameness
+  pub shifts_lem : AreShiftsGroup (modulo lattice)
+  shifts_lem = translations_group (InLattice lattice) lattice_vectors
 
   pub same_is : (m n : Motion) → IsSame (modulo lattice) m n ↔ ((m.matrix ≡ n.matrix) × InLattice lattice (minus m.translation n.translation))
-  same_is m n = (to, from)
-    where
-      to : IsSame (modulo lattice) m n → (m.matrix ≡ n.matrix) × InLattice lattice (minus m.translation n.translation)
-      to s =
-          let a = to_shift s.shift s.is_shift in
-          let e : m ≡ record { matrix = n.matrix; translation = plus n.translation s.shift.translation } = s.is ∙ ap (followed_by n) a.0 ∙ followed_by-translation n s.shift.translation in (
-            ap (λ (k : Motion). k.matrix) e,
-            subst (InLattice lattice) (sym (ap (λ (k : Motion). minus k.translation n.translation) e ∙ plus-minus_first n.translation s.shift.translation)) a.1,
-          )
-
-      from : (m.matrix ≡ n.matrix) × InLattice lattice (minus m.translation n.translation) → IsSame (modulo lattice) m n
-      from (e, h) = record {
-        shift = translation (minus m.translation n.translation);
-        is_shift = shift_from (minus m.translation n.translation) h;
-        is = motion_path e (sym (minus-plus m.translation n.translation) ∙ plus_comm (minus m.translation n.translation) n.translation) ∙ sym (followed_by-translation n (minus m.translation n.translation));
-      }
+  same_is = same_by_translation (InLattice lattice)
 
   -- ---- home
 
@@ -133,13 +76,8 @@ module _ (lattice : Lattice) where
 
   pub homes_lem : (m n : Motion3)
       → IsSame (modulo lattice) (motion_of m) (motion_of n) ↔ (motion_of (lattice_home lattice m) ≡ motion_of (lattice_home lattice n))
-  homes_lem m n = (to, from)
+  homes_lem m n = same_homes (InLattice lattice) (λ v. first_with v rs) one_home (motion_of m) (motion_of n)
     where
-      to : IsSame (modulo lattice) (motion_of m) (motion_of n) → motion_of (lattice_home lattice m) ≡ motion_of (lattice_home lattice n)
-      to s =
-          let p = (same_is (motion_of m) (motion_of n)).0 s in
-          motion_path p.0 (first-same rs lattice.group residues-reduced (parts m.t) (parts n.t) (to_in (minus (parts m.t) (parts n.t)) p.1))
-
       apart : (v w : Vector) → first_with v rs ≡ first_with w rs → In (minus v w)
       apart v w f =
           subst In (minus-plus-minus v (first_with v rs) w)
@@ -147,35 +85,13 @@ module _ (lattice : Lattice) where
           (in_flip rs lattice.group residues-reduced (first_with v rs) v (first-in rs lattice.group residues-reduced v))
           (subst (λ u. In (minus u w)) (sym f) (first-in rs lattice.group residues-reduced w)))
 
-      from : motion_of (lattice_home lattice m) ≡ motion_of (lattice_home lattice n) → IsSame (modulo lattice) (motion_of m) (motion_of n)
-      from e = (same_is (motion_of m) (motion_of n)).1 (ap (λ (k : Motion). k.matrix) e, from_in (minus (parts m.t) (parts n.t)) (apart (parts m.t) (parts n.t) (ap (λ (k : Motion). k.translation) e)))
+      one_home : (v w : Vector) → InLattice lattice (minus v w) ↔ (first_with v rs ≡ first_with w rs)
+      one_home v w = (λ h. first-same rs lattice.group residues-reduced v w (to_in (minus v w) h), λ e. from_in (minus v w) (apart v w e))
 
   -- ---- which motions carry shifts into shifts
 
-  -- first a translation and then m
-  translation-followed_by : (m : Motion) (v : Vector)
-      → followed_by (translation v) m ≡ record { matrix = m.matrix; translation = plus (image m.matrix v) m.translation }
-  translation-followed_by m v = motion_path (product-unit_right m.matrix) refl
-
   pub keeps_vectors : (m : Motion) → Keeps (modulo lattice) m ↔ ((v : Vector) → InLattice lattice v → InLattice lattice (image m.matrix v))
-  keeps_vectors m = (to, from)
-    where
-      to : Keeps (modulo lattice) m → (v : Vector) → InLattice lattice v → InLattice lattice (image m.matrix v)
-      to k v is =
-          let t = k (translation v) (shift_from v is) in
-          let a = to_shift t.0 t.1 in
-          let e = sym (translation-followed_by m v) ∙ t.2 ∙ ap (followed_by m) a.0 ∙ followed_by-translation m t.0.translation in
-          subst (InLattice lattice) (sym (taken_off (image m.matrix v) m.translation t.0.translation (ap (λ (k : Motion). k.translation) e))) a.1
-
-      from : ((v : Vector) → InLattice lattice v → InLattice lattice (image m.matrix v)) → Keeps (modulo lattice) m
-      from all t is =
-          let a = to_shift t is in
-          let w = image m.matrix t.translation in (
-            translation w,
-            shift_from w (all t.translation a.1),
-            ap (λ k. followed_by k m) a.0 ∙ translation-followed_by m t.translation
-                ∙ motion_path refl (plus_comm w m.translation) ∙ sym (followed_by-translation m w),
-          )
+  keeps_vectors = translations.keeps_vectors (InLattice lattice)
 
   -- it is enough that the residues go into the lattice
   pub keeps_is : (m : Motion) → Keeps (modulo lattice) m ↔ All (λ r. InLattice lattice (image m.matrix r)) rs

@@ -2,7 +2,8 @@
 use Rattle.std.proofs.Common.{◌≡◌, ◌↔◌, Bool, refl, sym, ap, subst, ◌∙◌, [], ◌∷◌, pos}
 use Rattle.std.specs.Bool.{Decides}
 use Rattle.std.proofs.lemmas.Bool.Decides.{Decides-like}
-use Rattle.quotient.specs.Kind.{AreShiftsGroup, IsInverse, IsSame, Keeps}
+use Rattle.quotient.specs.Kind.{AreShiftsGroup, IsSame, Keeps}
+use Rattle.quotient.proofs.ShiftGroups.{keeps_by, same_by, shifts_group}
 use Rattle.motions.specs.declared.motion.Sign.TheVariants.{Plus}
 use Rattle.motions.specs.declared.layer.LayerMotion.{LayerMotion}
 use Rattle.motions.specs.PlaneMatrices.{Pair, image2, minus2, opposite2, origin2, plus2}
@@ -16,9 +17,11 @@ use Rattle.layer_types.specs.Laws.LatticeLaws.{home-same, home_is_home, in_oppos
 abbrev translation_by : Pair → LayerMotion
 translation_by v = record { a = (pos 1 ∷ pos 0 ∷ []) ∷ (pos 0 ∷ pos 1 ∷ []) ∷ []; e = Plus; t = array_of v }
 
--- u + w = w + v
-taken_off : (u w v : Pair) → plus2 u w ≡ plus2 w v → u ≡ v
-taken_off u w v e = sym (plus2-minus_first w u) ∙ ap (λ k. minus2 k w) (plus2_comm w u ∙ e) ∙ plus2-minus_first w v
+-- after one motion, two translations that give one motion are one
+translated_once : (m : PlanarMotion) (v w : Pair) → planar_followed_by m (planar_translation v) ≡ planar_followed_by m (planar_translation w) → v ≡ w
+translated_once m v w e =
+    let same = sym (followed_by-planar_translation m v) ∙ e ∙ followed_by-planar_translation m w in
+    sym (plus2-minus_first m.translation v) ∙ ap (λ (k : PlanarMotion). minus2 k.translation m.translation) same ∙ plus2-minus_first m.translation w
 
 module _ (centred : Bool) where
   -- the translation by a vector of the lattice is a shift
@@ -26,11 +29,8 @@ module _ (centred : Bool) where
   shift_from v h = (translation_by v, record { matrix = refl; side = refl; translation = h }, refl)
 
   -- a shift is the translation by a vector of the lattice
-  to_shift : (m : PlanarMotion) → (layer_kind centred).IsShift m → (m ≡ planar_translation m.translation) × InLattice centred m.translation
-  to_shift m (s, shift, is) = (
-    planar_path (ap (λ (k : PlanarMotion). k.matrix) (sym is) ∙ shift.matrix) (ap (λ (k : PlanarMotion). k.side) (sym is) ∙ shift.side) refl,
-    subst (λ (k : PlanarMotion). InLattice centred k.translation) is shift.translation,
-  )
+  shift_of : (m : PlanarMotion) → (layer_kind centred).IsShift m → (v : Pair) × InLattice centred v × (m ≡ planar_translation v)
+  shift_of m (s, shift, is) = ((planar_of s).translation, shift.translation, sym is ∙ planar_path shift.matrix shift.side refl)
 
   pub by_meaning_lem : (a b : LayerMotion) → planar_of a ≡ planar_of b → IsLayerShift centred a → IsLayerShift centred b
   by_meaning_lem a b e s = record {
@@ -41,30 +41,11 @@ module _ (centred : Bool) where
 
   -- ---- the shifts are a group
 
-  translations : (v w : Pair) → planar_followed_by (planar_translation v) (planar_translation w) ≡ planar_translation (plus2 v w)
-  translations v w = followed_by-planar_translation (planar_translation v) w
-
-  shift_product : (s t : PlanarMotion) → (layer_kind centred).IsShift s → (layer_kind centred).IsShift t → (layer_kind centred).IsShift (planar_followed_by s t)
-  shift_product s t p q =
-      let a = to_shift s p in
-      let b = to_shift t q in
-      subst (layer_kind centred).IsShift (sym (translations s.translation t.translation) ∙ sym (λ i. planar_followed_by (a.0 i) (b.0 i)))
-      (shift_from (plus2 s.translation t.translation) (in_plus centred s.translation t.translation a.1 b.1))
-
-  shift_inverse : (s : PlanarMotion) → (layer_kind centred).IsShift s → (t : PlanarMotion) × (layer_kind centred).IsShift t × IsInverse (layer_kind centred) s t
-  shift_inverse s p =
-      let a = to_shift s p in
-      let back = opposite2 s.translation in (
-        planar_translation back,
-        shift_from back (in_opposite centred s.translation a.1),
-        record {
-          after = ap (λ k. planar_followed_by k (planar_translation back)) a.0 ∙ translations s.translation back ∙ ap planar_translation (plus2-opposite s.translation);
-          before = ap (planar_followed_by (planar_translation back)) a.0 ∙ translations back s.translation ∙ ap planar_translation (opposite-plus2_same s.translation);
-        },
-      )
-
   pub shifts_lem : AreShiftsGroup (layer_kind centred)
-  shifts_lem = record { identity = shift_from origin2 (in_origin centred); products = shift_product; inverses = shift_inverse }
+  shifts_lem =
+      shifts_group (layer_kind centred) planar_translation (InLattice centred) shift_from shift_of origin2 plus2 opposite2 refl
+      (λ v w. followed_by-planar_translation (planar_translation v) w) plus2-opposite opposite-plus2_same
+      (in_origin centred) (in_plus centred) (in_opposite centred)
 
   -- ---- sameness
 
@@ -79,13 +60,12 @@ module _ (centred : Bool) where
     where
       to : IsSame (layer_kind centred) m n → AreSame m n
       to s =
-          let a = to_shift s.shift s.is_shift in
-          let e : m ≡ record { matrix = n.matrix; side = n.side; translation = plus2 n.translation s.shift.translation } =
-          s.is ∙ ap (planar_followed_by n) a.0 ∙ followed_by-planar_translation n s.shift.translation in
+          let (v, h, is) = (same_by (layer_kind centred) planar_translation (InLattice centred) shift_from shift_of m n).0 s in
+          let e : m ≡ record { matrix = n.matrix; side = n.side; translation = plus2 n.translation v } = is ∙ followed_by-planar_translation n v in
           record {
             matrix = ap (λ (k : PlanarMotion). k.matrix) e;
             side = ap (λ (k : PlanarMotion). k.side) e;
-            translation = subst (InLattice centred) (sym (ap (λ (k : PlanarMotion). minus2 k.translation n.translation) e ∙ plus2-minus_first n.translation s.shift.translation)) a.1;
+            translation = subst (InLattice centred) (sym (ap (λ (k : PlanarMotion). minus2 k.translation n.translation) e ∙ plus2-minus_first n.translation v)) h;
           }
 
       from : AreSame m n → IsSame (layer_kind centred) m n
@@ -123,24 +103,13 @@ module _ (centred : Bool) where
   -- ---- which motions carry shifts into shifts
 
   keeps_vectors : (m : PlanarMotion) → Keeps (layer_kind centred) m ↔ ((v : Pair) → InLattice centred v → InLattice centred (image2 m.matrix v))
-  keeps_vectors m = (to, from)
+  keeps_vectors m =
+      keeps_by (layer_kind centred) planar_translation (InLattice centred) shift_from shift_of m (image2 m.matrix) turned (translated_once m)
     where
-      to : Keeps (layer_kind centred) m → (v : Pair) → InLattice centred v → InLattice centred (image2 m.matrix v)
-      to k v is =
-          let t = k (planar_translation v) (shift_from v is) in
-          let a = to_shift t.0 t.1 in
-          let e = sym (planar_translation-followed_by m v) ∙ t.2 ∙ ap (planar_followed_by m) a.0 ∙ followed_by-planar_translation m t.0.translation in
-          subst (InLattice centred) (sym (taken_off (image2 m.matrix v) m.translation t.0.translation (ap (λ (k : PlanarMotion). k.translation) e))) a.1
-
-      from : ((v : Pair) → InLattice centred v → InLattice centred (image2 m.matrix v)) → Keeps (layer_kind centred) m
-      from all t is =
-          let a = to_shift t is in
-          let w = image2 m.matrix t.translation in (
-            planar_translation w,
-            shift_from w (all t.translation a.1),
-            ap (λ k. planar_followed_by k m) a.0 ∙ planar_translation-followed_by m t.translation
-                ∙ planar_path refl refl (plus2_comm w m.translation) ∙ sym (followed_by-planar_translation m w),
-          )
+      turned : (v : Pair) → planar_followed_by (planar_translation v) m ≡ planar_followed_by m (planar_translation (image2 m.matrix v))
+      turned v =
+          planar_translation-followed_by m v ∙ planar_path refl refl (plus2_comm (image2 m.matrix v) m.translation)
+          ∙ sym (followed_by-planar_translation m (image2 m.matrix v))
 
   pub keeps_is : (m : PlanarMotion) → Decides (keeps_lattice centred m.matrix) (Keeps (layer_kind centred) m)
   keeps_is m =
