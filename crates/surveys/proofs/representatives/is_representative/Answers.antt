@@ -1,4 +1,4 @@
-use Rattle.std.proofs.Common.{rules, subst, tests}
+use Rattle.std.proofs.Common.{rules, subst, sym, tests}
 use Rattle.std.proofs.iter.Serving.{serving}
 use Rattle.std.specs.Prelude.{All, Contains}
 use Rattle.std.proofs.lemmas.Iterator.{cases_from_all, YieldsList-from_slice}
