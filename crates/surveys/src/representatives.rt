@@ -16,12 +16,10 @@ pub(crate) fn is_representative(group: &Group, plane: &Miller, largest: u64) -> 
     ensures { IsTrue result
         ↔ IsRepresentative (group_listing group.now) largest (row_of plane.now) }
 {
-    for m in group.ops() {
-        if has_greater_image(m, plane, largest) {
-            return false;
-        }
-    }
-    true
+    group
+        .ops()
+        .iter()
+        .all(|m| !has_greater_image(m, plane, largest))
 }
 
 /// Whether the image of (hkl) or its opposite is greater, with indices at most `largest` in size.
