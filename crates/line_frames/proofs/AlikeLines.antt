@@ -2,8 +2,8 @@
 use Rattle.std.proofs.Common.{ℤ}
 use Rattle.symmetry.specs.Groups.{Listing}
 use Rattle.symmetry.specs.Listings.{AreAlike}
-use Rattle.motions.specs.PlaneMatrices.{Pair}
-use Rattle.line_frames.specs.Lines.{in_space, times2, IsAlong, IsInPlaneLattice, IsLineFrame, IsLinePeriod}
+use Rattle.motions.specs.PlaneMatrices.{Pair, in_space}
+use Rattle.line_frames.specs.Lines.{times2, IsAlong, IsInPlaneLattice, IsLineFrame, IsLinePeriod}
 
 module _ (g h : Listing) (alike : AreAlike g h) where
   in_to : (v : Pair) → IsInPlaneLattice g v → IsInPlaneLattice h v

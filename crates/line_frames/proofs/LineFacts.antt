@@ -11,9 +11,9 @@ use Rattle.symmetry.specs.Frames.{IsPeriod}
 use Rattle.symmetry.specs.HeightMotions.{IsSign}
 use Rattle.symmetry.proofs.VectorLaws.{vector_path}
 use Rattle.symmetry.proofs.LatticeLaws.{lattice-multiple}
-use Rattle.motions.specs.PlaneMatrices.{Pair, dot2}
+use Rattle.motions.specs.PlaneMatrices.{Pair, dot2, in_space}
 use Rattle.motions.specs.Laws.PlaneMatrixLaws.{pair_path}
-use Rattle.line_frames.specs.Lines.{first_two, in_space, times2, IsAlong, IsBefore, IsInPlaneLattice, IsLineFrame, IsLinePeriod, IsReducedAlong}
+use Rattle.line_frames.specs.Lines.{first_two, times2, IsAlong, IsBefore, IsInPlaneLattice, IsLineFrame, IsLinePeriod, IsReducedAlong}
 use Rattle.line_frames.specs.Searches.{along_lines, coordinate, IsFirstAbove, IsForwardAlong, IsRepeat}
 use Rattle.line_frames.proofs.Forward.{a_inside, multiple_of_a}
 use Rattle.line_frames.proofs.Points.{coordinate_x, coordinate_y}

@@ -2,11 +2,7 @@
 use Rattle.std.specs.Prelude.{◌≡◌, ◌≢◌, ◌⊎◌, ℤ, pos, ◌*ℤ◌, ◌≤ℤ◌, ◌<ℤ◌}
 use Rattle.symmetry.specs.Vectors.{Vector}
 use Rattle.symmetry.specs.Groups.{Listing, IsInLattice}
-use Rattle.motions.specs.PlaneMatrices.{Pair, dot2}
-
--- a vector of the plane, as one of space
-abbrev pub in_space : Pair → Vector
-in_space v = record { x = v.x; y = v.y; z = pos 0 }
+use Rattle.motions.specs.PlaneMatrices.{Pair, dot2, in_space}
 
 -- the first two entries of a vector or a row
 abbrev pub first_two : Vector → Pair

@@ -20,7 +20,7 @@ use Rattle.symmetry.proofs.ListLaws.{lists_in_plane}
 use Rattle.symmetry.proofs.MatrixLaws.{row_times-unit}
 use Rattle.symmetry.proofs.Means.{image-total_up}
 use Rattle.symmetry.proofs.PlaneRows.{all_by_row}
-use Rattle.motions.specs.PlaneMatrices.{Pair, dot2, image2}
+use Rattle.motions.specs.PlaneMatrices.{Pair, dot2, image2, in_space}
 use Rattle.motions.specs.Signs.{sign_value}
 use Rattle.motions.specs.declared.motion.Sign.{Sign}
 use Rattle.motions.specs.declared.motion.Sign.TheVariants.{Plus, Minus}
@@ -28,7 +28,7 @@ use Rattle.motions.specs.Laws.PlaneMatrixLaws.{pair_path}
 use Rattle.motions.specs.Laws.SignLaws.{sign_is_sign}
 use Rattle.plane_lattice.proofs.SectionLaws.{above_mean}
 use Rattle.plane_motions.specs.PlaneMotions.{IsFlat, PlaneMotion, plane_block}
-use Rattle.line_frames.specs.Lines.{IsAlong, IsInPlaneLattice, first_two, in_space, times2}
+use Rattle.line_frames.specs.Lines.{IsAlong, IsInPlaneLattice, first_two, times2}
 use Rattle.line_scans.specs.Lines.{FixesEveryLine, IsPlaneMember, IsSameInPlane, PlanePoint}
 use Rattle.line_scans.specs.LineLists.{ComesBefore, DiffersAlong, ExactlyOne, IsAtLineHome, IsLineList, plane_at}
 use Rattle.line_scans.specs.LineSections.{line_mean, line_total}

@@ -11,9 +11,9 @@ use Rattle.symmetry.specs.Groups.{Listing, IsMember, SameModulo}
 use Rattle.symmetry.specs.Frames.{KeepsOrientation, same_vector, sign_at, total_up}
 use Rattle.symmetry.specs.Lists.{AreScanning, motion_at}
 use Rattle.symmetry.proofs.VectorLaws.{vector_path}
-use Rattle.motions.specs.PlaneMatrices.{Pair, image2, plus2, row_times2}
+use Rattle.motions.specs.PlaneMatrices.{Pair, image2, plus2, row_times2, in_space}
 use Rattle.plane_motions.specs.PlaneMotions.{PlaneMotion, plane_block, plane_identity}
-use Rattle.line_frames.specs.Lines.{first_two, in_space, times2}
+use Rattle.line_frames.specs.Lines.{first_two, times2}
 use Rattle.line_scans.specs.Lines.{IsPlaneMember, KeepsLines}
 use Rattle.line_scans.specs.LineLists.{AreLineScanning, SameInPlane, plane_at}
 use Rattle.line_scans.specs.LineSections.{line_total, sign_of_lines}

@@ -13,7 +13,7 @@ use Rattle.symmetry.specs.Groups.{Listing, IsGroup, IsInLattice}
 use Rattle.symmetry.specs.Frames.{Basis}
 use Rattle.symmetry.proofs.LatticeLaws.{lattice-made, lattice-minus, lattice-plus, lattice-multiple}
 use Rattle.symmetry.proofs.VectorLaws.{vector_path}
-use Rattle.motions.specs.PlaneMatrices.{Pair, dot2, image2, minus2, plus2}
+use Rattle.motions.specs.PlaneMatrices.{Pair, dot2, image2, minus2, plus2, in_space}
 use Rattle.motions.specs.Signs.{sign_value}
 use Rattle.motions.specs.declared.motion.Sign.{Sign}
 use Rattle.motions.specs.Laws.PlaneMatrixLaws.{pair_path}
@@ -21,7 +21,7 @@ use Rattle.plane_lattice.specs.Sections.{drift, height_in_steps}
 use Rattle.plane_motions.specs.PlaneMotions.{PlaneMotion, plane_block}
 use Rattle.friezes.specs.declared.line_op.LineOp.{LineOp}
 use Rattle.friezes.specs.Lines.{line_of}
-use Rattle.line_frames.specs.Lines.{IsAlong, IsInPlaneLattice, first_two, in_space, times2}
+use Rattle.line_frames.specs.Lines.{IsAlong, IsInPlaneLattice, first_two, times2}
 use Rattle.line_scans.specs.Lines.{InLineStabiliser, IsPlaneMember, PlanePoint}
 use Rattle.line_scans.specs.LineOps.{HasLineOp, IsLineOp}
 use Rattle.line_scans.specs.LineSections.{ActsAlong, in_edges2, point_at2}

@@ -18,7 +18,7 @@ use Rattle.symmetry.proofs.PlaneRows.{stabiliser_by_row}
 use Rattle.symmetry.proofs.Signs.{row_times-followed_by, sign_twice}
 use Rattle.symmetry.proofs.VectorLaws.{dot-origin, multiple-dot, multiple-one, vector_path}
 use Rattle.symmetry.proofs.PlaneOrbits.{dot-followed_by}
-use Rattle.motions.specs.PlaneMatrices.{Pair, dot2, image2, minus2, unit2}
+use Rattle.motions.specs.PlaneMatrices.{Pair, dot2, image2, minus2, unit2, in_space}
 use Rattle.motions.specs.Signs.{sign_product, sign_value}
 use Rattle.motions.specs.declared.motion.Sign.{Sign}
 use Rattle.motions.specs.declared.motion.Sign.TheVariants.{Plus, Minus}
@@ -26,7 +26,7 @@ use Rattle.motions.specs.Laws.PlaneMatrixLaws.{image2-product, image2-unit}
 use Rattle.motions.specs.Laws.SignLaws.{sign_is_sign}
 use Rattle.plane_motions.specs.PlaneMotions.{PlaneMotion, plane_block, plane_followed_by, plane_identity}
 use Rattle.plane_motions.proofs.PlaneBlocks.{plane_block_product}
-use Rattle.line_frames.specs.Lines.{IsAlong, IsInPlaneLattice, first_two, in_space, times2}
+use Rattle.line_frames.specs.Lines.{IsAlong, IsInPlaneLattice, first_two, times2}
 use Rattle.line_scans.specs.Lines.{FixesEveryLine, InLineStabiliser, IsPlaneMember}
 use Rattle.line_scans.specs.LineLists.{DiffersAlong}
 use Rattle.line_scans.proofs.LineActions.{image_times, sign_of_product, times_one, times_times}

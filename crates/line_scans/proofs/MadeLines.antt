@@ -17,8 +17,9 @@ use Rattle.symmetry.specs.Frames.{Basis, IsFrame, total_up}
 use Rattle.symmetry.specs.Lists.{AreScanning}
 use Rattle.symmetry.specs.Scans as scans
 use Rattle.symmetry.specs.Scans.{IsInPeriod, IsLower, IsScan, SpecialHeight, special_at}
+use Rattle.symmetry.specs.Orbits.{height_at}
 use Rattle.symmetry.proofs.VectorLaws.{vector_path}
-use Rattle.motions.specs.PlaneMatrices.{Pair}
+use Rattle.motions.specs.PlaneMatrices.{Pair, in_space}
 use Rattle.motions.specs.Views.{motion_of, parts, row_of}
 use Rattle.closure.specs.Groups.{IsGroupOf, group_listing}
 use Rattle.closure.specs.declared.group.Group.{Group}
@@ -31,13 +32,13 @@ use Rattle.scanning.specs.ScanView.{scan_of}
 use Rattle.scanning.specs.declared.height.Height.{Height as CodeHeight}
 use Rattle.scanning.specs.declared.scan.Scan.{Scan}
 use Rattle.line_frames.specs.LineFrames.{IsLineFrameOf}
-use Rattle.line_frames.specs.Lines.{first_two, in_space}
+use Rattle.line_frames.specs.Lines.{first_two}
 use Rattle.plane_groups.specs.PlaneGroups.{IsFlatGroup}
 use Rattle.line_scans.specs.Lines.{FixesEveryLine, InLineStabiliser}
 use Rattle.line_scans.specs.LineLists.{IsLineList}
 use Rattle.line_scans.specs.LineOps.{AreLineMotions, IsLineOp, IsSectionOf, IsStep}
 use Rattle.line_scans.specs.LineScans as lines
-use Rattle.line_scans.specs.LineScans.{IsInLowestForm, IsLineScan, StandsAt, height_at, heights_of}
+use Rattle.line_scans.specs.LineScans.{IsInLowestForm, IsLineScan, StandsAt, heights_of}
 use Rattle.line_scans.specs.LineSections.{InLineSectionAt, IsFirstFrieze, line_mean, line_total}
 use Rattle.line_scans.specs.LineView.{IsLineHeightOf, line_height_of, line_section_of}
 use Rattle.line_scans.specs.declared.scan.LineHeight.{LineHeight}

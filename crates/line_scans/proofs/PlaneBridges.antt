@@ -12,9 +12,9 @@ use Rattle.symmetry.specs.Frames.{IsSpecial}
 use Rattle.symmetry.proofs.LatticeLaws.{lattice-made, lattice-minus, lattice-plus, same_refl, lattice-multiple}
 use Rattle.symmetry.proofs.VectorLaws.{vector_path}
 use Rattle.symmetry.proofs.MatrixLaws.{matrix_path}
-use Rattle.motions.specs.PlaneMatrices.{Pair, dot2, image2, minus2, plus2}
+use Rattle.motions.specs.PlaneMatrices.{Pair, dot2, image2, minus2, plus2, in_space}
 use Rattle.plane_motions.specs.PlaneMotions.{IsFlat, PlaneMotion, plane_block}
-use Rattle.line_frames.specs.Lines.{IsInPlaneLattice, first_two, in_space, times2}
+use Rattle.line_frames.specs.Lines.{IsInPlaneLattice, first_two, times2}
 use Rattle.plane_groups.specs.PlaneGroups.{IsFlatGroup}
 use Rattle.line_scans.specs.Lines.{FixesEveryLine, InLineStabiliser, IsOnLine, IsPlaneMember, IsSameInPlane, IsSpecialLine, KeepsLine, PlanePoint, moved2}
 

@@ -16,7 +16,7 @@ use Rattle.symmetry.specs.Lists.{IsListOf, motion_at}
 use Rattle.symmetry.specs.Sizes.{IsSmall}
 use Rattle.symmetry.proofs.PlaneLattice.{differs_all, differs_stabiliser}
 use Rattle.quotient.proofs.Zips.{zip_at}
-use Rattle.motions.specs.PlaneMatrices.{Pair}
+use Rattle.motions.specs.PlaneMatrices.{Pair, in_space}
 use Rattle.plane_lattice.specs.Sections.{height_in_steps}
 use Rattle.plane_motions.specs.PlaneMotions.{IsFlat, PlaneMotion, plane_block}
 use Rattle.friezes.specs.declared.line_op.LineOp.{LineOp}
@@ -26,7 +26,6 @@ use Rattle.friezes.specs.Changes.{CarriesOnto, grid_part}
 use Rattle.friezes.specs.Order.{Change, IsFirst}
 use Rattle.friezes.specs.Sections.{IsSection}
 use Rattle.friezes.specs.Types.{HasChange, IsOfFriezeType}
-use Rattle.line_frames.specs.Lines.{in_space}
 use Rattle.line_scans.specs.Lines.{FixesEveryLine, InLineStabiliser, PlanePoint}
 use Rattle.line_scans.specs.LineLists.{plane_at}
 use Rattle.line_scans.specs.LineOps.{AreLineMotions, HasLineOp, IsLineOp}

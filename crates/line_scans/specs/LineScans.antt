@@ -1,10 +1,11 @@
 -- The lines of an orientation of a plane group, height by height.
-use Rattle.std.specs.Prelude.{◌≡◌, ℕ, ◌<◌, ℤ, pos, List, length, map, slice_index_or, All, AllPairs}
+use Rattle.std.specs.Prelude.{◌≡◌, ℕ, ◌<◌, ℤ, List, length, map, All, AllPairs}
 use Rattle.fractions.specs.Fraction.{Fraction, SameFraction}
 use Rattle.fractions.specs.LowestTerms.{IsLowestForm}
 use Rattle.symmetry.specs.Planes.{Height, IsHeight}
 use Rattle.symmetry.specs.Groups.{Listing}
 use Rattle.symmetry.specs.Scans.{IsInPeriod, IsLower, raised_height}
+use Rattle.symmetry.specs.Orbits.{height_at}
 use Rattle.motions.specs.PlaneMatrices.{Pair}
 use Rattle.plane_motions.specs.PlaneMotions.{PlaneMotion}
 use Rattle.friezes.specs.Order.{Change}
@@ -42,10 +43,6 @@ pub record LineScan : Type 0 where
 -- the heights alone
 abbrev pub heights_of : List LineHeight → List Height
 heights_of special = map (λ (h : LineHeight). h.height) special
-
--- the height at a place of a list
-abbrev pub height_at : List Height → ℕ → Height
-height_at heights i = slice_index_or heights i (record { num = pos 0; den = pos 1 })
 
 -- the height is k periods above the height at the place i
 pub record StandsAt (d : ℤ) (heights : List Height) (s : Height) (i : ℕ) (k : ℤ) : Type 0 where

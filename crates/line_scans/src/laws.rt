@@ -5,9 +5,9 @@ ghost use Rattle.symmetry.specs.Motions.{Point};
 ghost use Rattle.symmetry.specs.Planes.{Height, IsOn, KeepsPlane};
 ghost use Rattle.symmetry.specs.Groups.{FixesEveryPlane, InStabiliser, IsMember, Listing};
 ghost use Rattle.symmetry.specs.Frames.{IsSpecial};
-ghost use Rattle.motions.specs.PlaneMatrices.{Pair};
+ghost use Rattle.motions.specs.PlaneMatrices.{Pair, in_space};
 ghost use Rattle.plane_motions.specs.PlaneMotions.{PlaneMotion, plane_block};
-ghost use Rattle.line_frames.specs.Lines.{first_two, in_space};
+ghost use Rattle.line_frames.specs.Lines.{first_two};
 ghost use Rattle.plane_groups.specs.PlaneGroups.{IsFlatGroup};
 ghost use Rattle.line_scans.specs.Lines.{FixesEveryLine, InLineStabiliser, IsOnLine, IsPlaneMember, IsSpecialLine, KeepsLine};
 

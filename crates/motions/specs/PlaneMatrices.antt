@@ -1,6 +1,7 @@
 -- Vectors and matrices of whole numbers in a plane, and how they multiply.
 use Rattle.std.specs.Prelude.{ℤ, pos, negsuc, ◌+ℤ◌, ◌-ℤ◌, ◌*ℤ◌, Bool, ◌&&◌}
 use Rattle.std.specs.Ordering.{int_eq}
+use Rattle.symmetry.specs.Vectors.{Vector}
 
 -- two whole numbers: a column or a row
 pub record Pair : Type 0 where
@@ -15,6 +16,10 @@ pub record Matrix2 : Type 0 where
 -- the vector 0
 abbrev pub origin2 : Pair
 origin2 = record { x = pos 0; y = pos 0 }
+
+-- a vector of the plane, as one of space
+abbrev pub in_space : Pair → Vector
+in_space v = record { x = v.x; y = v.y; z = pos 0 }
 
 -- the sum of two vectors
 abbrev pub plus2 : Pair → Pair → Pair

@@ -24,7 +24,7 @@ use Rattle.symmetry.proofs.MatrixLaws.{row_times-dot}
 use Rattle.symmetry.proofs.PlaneRows.{plane_by_row, member_invertible, special_by_row}
 use Rattle.symmetry.proofs.VectorLaws.{vector_path, dot-plus, dot-multiple, multiple-dot, multiple-multiple, multiple-one}
 use Rattle.symmetry.proofs.Signs.{same_orientation}
-use Rattle.motions.specs.PlaneMatrices.{Pair}
+use Rattle.motions.specs.PlaneMatrices.{Pair, in_space}
 use Rattle.motions.specs.PlaneSizes.{IsPairWithin}
 use Rattle.motions.specs.Rationals.{in_edges}
 use Rattle.motions.specs.Signs.{sign_value}
@@ -32,7 +32,7 @@ use Rattle.motions.specs.declared.motion.Sign.{Sign}
 use Rattle.motions.specs.declared.motion.Sign.TheVariants.{Plus, Minus}
 use Rattle.plane_lattice.specs.Coordinates.{IsPlaneCombination}
 use Rattle.plane_lattice.specs.FrameTests.{PassesFrameTests}
-use Rattle.plane_lattice.specs.Sections.{IsSeenAs, columns, drift, flat, height_in_steps, in_cell, largest_drift, point_at}
+use Rattle.plane_lattice.specs.Sections.{IsSeenAs, columns, drift, height_in_steps, in_cell, largest_drift, point_at}
 use Rattle.plane_lattice.proofs.Edges.{whole_edges}
 use Rattle.plane_lattice.proofs.FrameTestFacts.{frame_passes_tests}
 use Rattle.plane_lattice.proofs.LatticeTests.{edges_held}
@@ -44,9 +44,9 @@ use Rattle.plane_lattice.proofs.Skewness.{IsTurned, same_turned}
 -- ---- a vector of the plane as a combination
 
 -- x a + y b
-pub flat-combination : (f : Basis) (p : Pair) → combination f (flat p) ≡ plus (multiple p.x f.a) (multiple p.y f.b)
+pub combination-in_space : (f : Basis) (p : Pair) → combination f (in_space p) ≡ plus (multiple p.x f.a) (multiple p.y f.b)
 unfolding plus multiple
-flat-combination f p = vector_path (omega (arith, ints)) (omega (arith, ints)) (omega (arith, ints))
+combination-in_space f p = vector_path (omega (arith, ints)) (omega (arith, ints)) (omega (arith, ints))
 
 -- ---- (hkl).v of a drift
 
@@ -174,23 +174,23 @@ shift_entries : (u v w : Vector) (k d : ℤ)
 unfolding plus multiple
 shift_entries u v w k d = vector_path (shift_entry u.x v.x w.x k d) (shift_entry u.y v.y w.y k d) (shift_entry u.z v.z w.z k d)
 
-pub shift_by_drift : (f : Basis) (d k : ℤ) (m : Motion) (p : Pair) → combination f (flat p) ≡ drift m f.tau k
+pub shift_by_drift : (f : Basis) (d k : ℤ) (m : Motion) (p : Pair) → combination f (in_space p) ≡ drift m f.tau k
     → multiple (pos 2 *ℤ UNIT)
     (minus (moved m (point_at d (height_in_steps d k) (in_cell f.tau))).at (multiple UNIT (point_at d (height_in_steps d k) (in_cell f.tau)).at))
     ≡ multiple (point_at d (height_in_steps d k) (in_cell f.tau)).over (plus (multiple p.x f.a) (multiple p.y f.b))
 shift_by_drift f d k m p is =
     ap (multiple (pos 2 *ℤ UNIT)) (moved_along m (k *ℤ d *ℤ UNIT) (pos 2 *ℤ UNIT *ℤ UNIT *ℤ d *ℤ UNIT) f.tau)
     ∙ shift_entries (image m.matrix f.tau) f.tau m.translation k d
-    ∙ ap (multiple (pos 2 *ℤ UNIT *ℤ UNIT *ℤ d *ℤ UNIT)) (sym is ∙ flat-combination f p)
+    ∙ ap (multiple (pos 2 *ℤ UNIT *ℤ UNIT *ℤ d *ℤ UNIT)) (sym is ∙ combination-in_space f p)
 
 -- what the coordinates give is what the motion is seen as
 pub seen_in_steps : (f : Basis) (c : Point) (d k : ℤ) (m : Motion) (e : Sign) (first second p : Pair)
-    → combination f (flat first) ≡ image m.matrix f.a → combination f (flat second) ≡ image m.matrix f.b
-    → image m.matrix c.at ≡ multiple (sign_value e) c.at → combination f (flat p) ≡ drift m f.tau k
+    → combination f (in_space first) ≡ image m.matrix f.a → combination f (in_space second) ≡ image m.matrix f.b
+    → image m.matrix c.at ≡ multiple (sign_value e) c.at → combination f (in_space p) ≡ drift m f.tau k
     → IsSeenAs f c (point_at d (height_in_steps d k) (in_cell f.tau)) m (record { matrix = columns first second; side = e; translation = in_edges p })
 seen_in_steps f c d k m e first second p a b third t = record {
-  first = sym a ∙ flat-combination f first;
-  second = sym b ∙ flat-combination f second;
+  first = sym a ∙ combination-in_space f first;
+  second = sym b ∙ combination-in_space f second;
   third = third;
   translation = shift_by_drift f d k m p t;
 }
@@ -285,7 +285,7 @@ flat_entry : (a c : ℤ) → a *ℤ (c +ℤ negsuc 0 *ℤ pos 0) ≡ a *ℤ c
 flat_entry a c = ap (λ x. a *ℤ x) (add_zero c)
 
 pub drift_near : (g : Listing) (r : Vector) (f : Basis) (m : Motion) → IsGroup g → IsFrame g r f → ¬ IsSkewed g r f → IsMember g m → KeepsOrientation r m
-    → IsAtHome f m → (k : ℤ) → pos 0 ≤ℤ k → k <ℤ (pos 2 *ℤ UNIT) → (p : Pair) → combination f (flat p) ≡ drift m f.tau k
+    → IsAtHome f m → (k : ℤ) → pos 0 ≤ℤ k → k <ℤ (pos 2 *ℤ UNIT) → (p : Pair) → combination f (in_space p) ≡ drift m f.tau k
     → IsPairWithin largest_drift p
 unfolding plus multiple
 drift_near g r f m group frame not_skewed member keeps home k from below p is =
@@ -293,9 +293,9 @@ drift_near g r f m group frame not_skewed member keeps home k from below p is =
     let (c, turned) = frame.spans (image m.matrix f.tau) (member_keeps g group m member f.tau tests.tau_in) in
     let near = turned_near g r f m not_skewed member keeps c (inr (inr turned)) in
     let n = home.over in
-    let same : multiple n (flat p) ≡ plus (multiple (n *ℤ k) (minus c only_tau)) (multiple (pos 2 *ℤ UNIT) home.by) =
-    frame.once (multiple n (flat p)) (plus (multiple (n *ℤ k) (minus c only_tau)) (multiple (pos 2 *ℤ UNIT) home.by))
-    (combination-multiple f n (flat p) ∙ ap (multiple n) is ∙ sym (coordinates_of_drift f m n k c home.by turned home.is)) in
+    let same : multiple n (in_space p) ≡ plus (multiple (n *ℤ k) (minus c only_tau)) (multiple (pos 2 *ℤ UNIT) home.by) =
+    frame.once (multiple n (in_space p)) (plus (multiple (n *ℤ k) (minus c only_tau)) (multiple (pos 2 *ℤ UNIT) home.by))
+    (combination-multiple f n (in_space p) ∙ ap (multiple n) is ∙ sym (coordinates_of_drift f m n k c home.by turned home.is)) in
     let step = step_within k from below in record {
       x = drift_entry_within n k p.x c.x home.by.x home.positive home.x_from home.x_below step near.x
           ((λ i. (same i).x) ∙ ap (λ v. v +ℤ pos 2 *ℤ UNIT *ℤ home.by.x) (flat_entry (n *ℤ k) c.x));

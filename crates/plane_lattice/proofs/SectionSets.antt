@@ -23,15 +23,15 @@ use Rattle.motions.specs.declared.layer.LayerMotion.{LayerMotion}
 use Rattle.motions.specs.declared.motion.Sign.{Sign}
 use Rattle.motions.specs.declared.motion.Sign.TheVariants.{Plus, Minus}
 use Rattle.motions.specs.Layers.{planar_of}
-use Rattle.motions.specs.PlaneMatrices.{Pair}
+use Rattle.motions.specs.PlaneMatrices.{Pair, in_space}
 use Rattle.motions.specs.PlaneViews.{matrix2_of, pair_of}
 use Rattle.motions.specs.Rationals.{DifferByWhole, InSection, IsWhole, RationalMotion, SameRationals, in_edges, rational_minus, rational_of}
 use Rattle.motions.specs.Signs.{sign_value}
 use Rattle.plane_lattice.specs.Coordinates.{scaled, volume}
-use Rattle.plane_lattice.specs.Sections.{AreSeenAs, IsSeenAs, IsSeenFrom, flat}
+use Rattle.plane_lattice.specs.Sections.{AreSeenAs, IsSeenAs, IsSeenFrom}
 use Rattle.plane_lattice.proofs.Cramer.{multiple_cancel}
 use Rattle.plane_lattice.proofs.FrameTestFacts.{volume_positive}
-use Rattle.plane_lattice.proofs.SectionFacts.{flat-combination}
+use Rattle.plane_lattice.proofs.SectionFacts.{combination-in_space}
 
 -- ---- how far motions with one matrix move a point
 
@@ -104,18 +104,18 @@ whole_back q e x x' l is =
 
 module _ (f : Basis) (q : ℤ) (p p' : Pair) (l : Vector) where
   abbrev sum : Vector
-  sum = plus (multiple q (flat p')) (multiple (q *ℤ edge) l)
+  sum = plus (multiple q (in_space p')) (multiple (q *ℤ edge) l)
 
   sum-combination : combination f sum
       ≡ plus (multiple q (plus (multiple p'.x f.a) (multiple p'.y f.b))) (multiple (q *ℤ edge) (combination f l))
   sum-combination =
-      combination-plus f (multiple q (flat p')) (multiple (q *ℤ edge) l)
-      ∙ (λ i. plus ((combination-multiple f q (flat p') ∙ ap (multiple q) (flat-combination f p')) i) (combination-multiple f (q *ℤ edge) l i))
+      combination-plus f (multiple q (in_space p')) (multiple (q *ℤ edge) l)
+      ∙ (λ i. plus ((combination-multiple f q (in_space p') ∙ ap (multiple q) (combination-in_space f p')) i) (combination-multiple f (q *ℤ edge) l i))
 
-  edge-combination : combination f (multiple edge (flat p)) ≡ multiple edge (plus (multiple p.x f.a) (multiple p.y f.b))
-  edge-combination = combination-multiple f edge (flat p) ∙ ap (multiple edge) (flat-combination f p)
+  edge-combination : combination f (multiple edge (in_space p)) ≡ multiple edge (plus (multiple p.x f.a) (multiple p.y f.b))
+  edge-combination = combination-multiple f edge (in_space p) ∙ ap (multiple edge) (combination-in_space f p)
 
-  pub whole_by_coordinates : multiple edge (flat p) ≡ sum → IsWhole (rational_minus (record { x = p.x; y = p.y; over = q }) (in_edges p'))
+  pub whole_by_coordinates : multiple edge (in_space p) ≡ sum → IsWhole (rational_minus (record { x = p.x; y = p.y; over = q }) (in_edges p'))
   unfolding plus multiple
   whole_by_coordinates e = record {
     x = (l.x, whole_forth q edge p.x p'.x l.x (λ i. (e i).x));
@@ -126,7 +126,7 @@ nothing_left : (q : ℤ) → edge *ℤ pos 0 ≡ q *ℤ pos 0 +ℤ q *ℤ edge *
 nothing_left q = ring (q ∷ []) (num edge ⊗ num (pos 0)) (var 0 ⊗ num (pos 0) ⊕ var 0 ⊗ num edge ⊗ num (pos 0)) tt
 
 pub coordinates_by_whole : (q : ℤ) (p p' l : Pair) → p.x *ℤ edge -ℤ p'.x *ℤ q ≡ q *ℤ edge *ℤ l.x → p.y *ℤ edge -ℤ p'.y *ℤ q ≡ q *ℤ edge *ℤ l.y
-    → multiple edge (flat p) ≡ plus (multiple q (flat p')) (multiple (q *ℤ edge) (flat l))
+    → multiple edge (in_space p) ≡ plus (multiple q (in_space p')) (multiple (q *ℤ edge) (in_space l))
 unfolding plus multiple
 coordinates_by_whole q p p' l x y = vector_path (whole_back q edge p.x p'.x l.x x) (whole_back q edge p.y p'.y l.y y) (nothing_left q)
 
@@ -224,9 +224,9 @@ module _ (r : Vector) (f : Basis) (right : (k : ℤ) × (pos 0 <ℤ k) × (cross
 
 module _ (g : Listing) (r : Vector) (f : Basis) (frame : IsFrame g r f) (c o : Point) (above_c : pos 1 ≤ℤ dot r c.at) (above_o : pos 1 ≤ℤ o.over) where
   flat_once : (x y x' y' : ℤ) → plus (multiple x f.a) (multiple y f.b) ≡ plus (multiple x' f.a) (multiple y' f.b)
-      → flat (record { x = x; y = y }) ≡ flat (record { x = x'; y = y' })
+      → in_space (record { x = x; y = y }) ≡ in_space (record { x = x'; y = y' })
   flat_once x y x' y' e =
-      frame.once _ _ (flat-combination f (record { x = x; y = y }) ∙ e ∙ sym (flat-combination f (record { x = x'; y = y' })))
+      frame.once _ _ (combination-in_space f (record { x = x; y = y }) ∙ e ∙ sym (combination-in_space f (record { x = x'; y = y' })))
 
   pub matrix_once : (m k : Motion) (op op' : RationalMotion) → m.matrix ≡ k.matrix → IsSeenAs f c o m op → IsSeenAs f c o k op' → op.matrix ≡ op'.matrix
   matrix_once m k op op' same seen seen' =
@@ -250,7 +250,7 @@ module _ (g : Listing) (r : Vector) (f : Basis) (frame : IsFrame g r f) (c o : P
       let p' = pair_of n.t in
       let q = op.translation.over in
       whole_by_coordinates f q p p' l
-      (frame.once (multiple edge (flat p)) (plus (multiple q (flat p')) (multiple (q *ℤ edge) l))
+      (frame.once (multiple edge (in_space p)) (plus (multiple q (in_space p')) (multiple (q *ℤ edge) l))
       (edge-combination f q p p' l
       ∙ forth_entries q edge o.over (move m o) (move k o) (plus (multiple p.x f.a) (multiple p.y f.b)) (plus (multiple p'.x f.a) (multiple p'.y f.b)) (minus m.translation k.translation)
       above_o seen.translation seen'.translation (move_differs m k o differs.matrix)
@@ -259,12 +259,12 @@ module _ (g : Listing) (r : Vector) (f : Basis) (frame : IsFrame g r f) (c o : P
 
   -- and the other way round
   abbrev followed : Motion → Pair → Motion
-  followed k l = record { matrix = k.matrix; translation = plus k.translation (combination f (flat l)) }
+  followed k l = record { matrix = k.matrix; translation = plus k.translation (combination f (in_space l)) }
 
   followed_differs : (k : Motion) (l : Pair) → DiffersInPlane g r k (followed k l)
   followed_differs k l =
       differs_sym g r (followed k l) k
-      (record { matrix = refl; translation = (plane_lattice g r f frame _).1 (flat l, sym (plus-minus_first k.translation (combination f (flat l))), refl) })
+      (record { matrix = refl; translation = (plane_lattice g r f frame _).1 (in_space l, sym (plus-minus_first k.translation (combination f (in_space l))), refl) })
 
   followed_seen : (k : Motion) (op : RationalMotion) (n : LayerMotion) (l : Pair) → IsSeenAs f c o k (rational_of (planar_of n))
       → op.matrix ≡ matrix2_of n.a → op.side ≡ n.e
@@ -279,9 +279,9 @@ module _ (g : Listing) (r : Vector) (f : Basis) (frame : IsFrame g r f) (c o : P
         second = seen.second ∙ (λ i. plus (multiple (sym matrix i).first.y f.a) (multiple (sym matrix i).second.y f.b));
         third = seen.third ∙ ap (λ e. multiple (sign_value e) c.at) (sym side);
         translation = back_entries q edge o.over (move (followed k l) o) (move k o) (plus (multiple p.x f.a) (multiple p.y f.b)) (plus (multiple p'.x f.a) (multiple p'.y f.b))
-            (combination f (flat l)) (omega (arith, ints)) seen.translation
-            (move_differs (followed k l) k o refl ∙ ap (λ v. plus (move k o) (multiple o.over v)) (plus-minus_first k.translation (combination f (flat l))))
-            (sym (edge-combination f q p p' (flat l)) ∙ ap (combination f) (coordinates_by_whole q p p' l x y) ∙ sum-combination f q p p' (flat l));
+            (combination f (in_space l)) (omega (arith, ints)) seen.translation
+            (move_differs (followed k l) k o refl ∙ ap (λ v. plus (move k o) (multiple o.over v)) (plus-minus_first k.translation (combination f (in_space l))))
+            (sym (edge-combination f q p p' (in_space l)) ∙ ap (combination f) (coordinates_by_whole q p p' l x y) ∙ sum-combination f q p p' (in_space l));
       }
 
   -- ---- a motion is seen as one, and what is seen is one motion
@@ -293,10 +293,10 @@ module _ (g : Listing) (r : Vector) (f : Basis) (frame : IsFrame g r f) (c o : P
       let p' : Pair = record { x = op'.translation.x; y = op'.translation.y } in
       let q = op.translation.over in
       let q' = op'.translation.over in
-      let e = frame.once (multiple q' (flat p)) (multiple q (flat p'))
-      (combination-multiple f q' (flat p) ∙ ap (multiple q') (flat-combination f p)
+      let e = frame.once (multiple q' (in_space p)) (multiple q (in_space p'))
+      (combination-multiple f q' (in_space p) ∙ ap (multiple q') (combination-in_space f p)
       ∙ shift_once_entries q q' o.over (move m o) (plus (multiple p.x f.a) (multiple p.y f.b)) (plus (multiple p'.x f.a) (multiple p'.y f.b)) above_o seen.translation seen'.translation
-      ∙ ap (multiple q) (sym (flat-combination f p')) ∙ sym (combination-multiple f q (flat p'))) in
+      ∙ ap (multiple q) (sym (combination-in_space f p')) ∙ sym (combination-multiple f q (in_space p'))) in
       record { x = *ℤ_comm p.x q' ∙ (λ i. (e i).x) ∙ *ℤ_comm q p'.x; y = *ℤ_comm p.y q' ∙ (λ i. (e i).y) ∙ *ℤ_comm q p'.y }
 
   pub motion_once : (m k : Motion) (op : RationalMotion) → pos 1 ≤ℤ op.translation.over → IsSeenAs f c o m op → IsSeenAs f c o k op → m ≡ k

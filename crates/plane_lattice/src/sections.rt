@@ -5,13 +5,13 @@ ghost use Rattle.integers.specs.Size.{IsWithin};
 ghost use Rattle.symmetry.specs.Frames.{combination};
 ghost use Rattle.symmetry.specs.Sizes.{IsSmall, IsVectorWithin};
 ghost use Rattle.motions.specs.BasisView.{basis_of};
-ghost use Rattle.motions.specs.PlaneMatrices.{Pair};
+ghost use Rattle.motions.specs.PlaneMatrices.{Pair, in_space};
 ghost use Rattle.motions.specs.PlaneSizes.{IsPairWithin};
 ghost use Rattle.motions.specs.PlaneViews.{matrix2_of, pair_of};
 ghost use Rattle.motions.specs.Views.{motion_of, parts};
 ghost use Rattle.plane_lattice.specs.Bounds.{largest_entry, largest_turned};
 ghost use Rattle.plane_lattice.specs.Coordinates.{IsPlaneCombination, volume};
-ghost use Rattle.plane_lattice.specs.Sections.{columns, drift, flat};
+ghost use Rattle.plane_lattice.specs.Sections.{columns, drift};
 
 use crate::dual_basis::DualBasis;
 use crate::frame::Frame;
@@ -84,10 +84,10 @@ impl Frame {
 fn coordinates_in_plane(dual: &DualBasis, v: &[Part; 3]) -> Option<[i64; 2]>
     requires vector { IsVectorWithin (2 ^ 52) (parts v.now) }
     requires volume { pos 1 ≤ℤ volume (basis_of dual.now.basis) }
-    requires near { (c : Pair) → combination (basis_of dual.now.basis) (flat c) ≡ parts v.now →
+    requires near { (c : Pair) → combination (basis_of dual.now.basis) (in_space c) ≡ parts v.now →
         IsPairWithin (2 ^ 40) c }
     ensures { MatchOption result (¬ IsPlaneCombination (basis_of dual.now.basis) (parts v.now))
-        (λ c. combination (basis_of dual.now.basis) (flat (pair_of c)) ≡ parts v.now) }
+        (λ c. combination (basis_of dual.now.basis) (in_space (pair_of c)) ≡ parts v.now) }
 {
     match dual.coordinates(v) {
         Some(c) => {

@@ -8,7 +8,7 @@ use Rattle.symmetry.specs.Motions.{Motion}
 use Rattle.symmetry.specs.Sizes.{IsVectorWithin}
 use Rattle.symmetry.specs.Vectors.{Vector, dot, image, multiple}
 use Rattle.symmetry.proofs.Means.{mean_is_kept}
-use Rattle.motions.specs.PlaneMatrices.{Pair}
+use Rattle.motions.specs.PlaneMatrices.{Pair, in_space}
 use Rattle.motions.specs.PlaneSizes.{IsMatrix2Within, IsPairWithin}
 use Rattle.motions.specs.PlaneViews.{pair_of}
 use Rattle.motions.specs.Laws.LayerLaws.{IsPairWithin-more}
@@ -18,7 +18,7 @@ use Rattle.closure.proofs.OwnLattice.{own_group}
 use Rattle.closure.specs.Groups.{group_listing}
 use Rattle.plane_lattice.specs.Coordinates.{IsPlaneCombination}
 use Rattle.plane_lattice.specs.FrameView.{basis_of_frame}
-use Rattle.plane_lattice.specs.Sections.{IsSeenAs, drift, flat, height_in_steps, in_cell, point_at}
+use Rattle.plane_lattice.specs.Sections.{IsSeenAs, drift, height_in_steps, in_cell, point_at}
 use Rattle.plane_lattice.proofs.MadeFrames.{made_frame, made_not_skewed}
 use Rattle.plane_lattice.proofs.SectionFacts.{turned_a, turned_b, turned_near, drift_near, keeps_by_drift, keeps_orientation, seen_in_steps}
 use Rattle.plane_lattice.proofs.Steps.{step_within}
@@ -26,8 +26,8 @@ use Rattle.plane_lattice.proofs.frame.Frame.section.Goals as goal
 
 -- the code's basis is that of the frame, and its vector the one that is meant
 module _ (f b : Basis) (same : b ≡ f) (image_of : Basis → Vector) (u : Vector) (is : u ≡ image_of b) where
-  meant : (p : Pair) → combination b (flat p) ≡ u → combination f (flat p) ≡ image_of f
-  meant p e = (λ i. combination (sym same i) (flat p)) ∙ e ∙ is ∙ ap image_of same
+  meant : (p : Pair) → combination b (in_space p) ≡ u → combination f (in_space p) ≡ image_of f
+  meant p e = (λ i. combination (sym same i) (in_space p)) ∙ e ∙ is ∙ ap image_of same
 
   meant_not : ¬ IsPlaneCombination b u → ¬ IsPlaneCombination f (image_of f)
   meant_not none (c, e, flat) = none (c, (λ i. combination (same i) c) ∙ e ∙ sym (is ∙ ap image_of same), flat)
@@ -56,7 +56,7 @@ coordinates_in_plane-requires-clause-near c p e =
     let f = basis_of_frame q in
     let m = motion_of c.args.m.now in
     IsPairWithin-more
-    (near_500 (turned_near g r f m (made_not_skewed c.args.group.now q c.requires.made) c.requires.member (c.in_ok-e.ensures.keeps.0 refl) (flat p)
+    (near_500 (turned_near g r f m (made_not_skewed c.args.group.now q c.requires.made) c.requires.member (c.in_ok-e.ensures.keeps.0 refl) (in_space p)
     (inl (meant f _ c.dual-dual.ensures (λ b. image m.matrix b.a) _ c.image.ensures.is p e))))
     (lit≤ tt)
 
@@ -68,7 +68,7 @@ coordinates_in_plane-requires-2-clause-near c p e =
     let f = basis_of_frame q in
     let m = motion_of c.args.m.now in
     IsPairWithin-more
-    (near_500 (turned_near g r f m (made_not_skewed c.args.group.now q c.requires.made) c.requires.member (c.in_ok-e.ensures.keeps.0 refl) (flat p)
+    (near_500 (turned_near g r f m (made_not_skewed c.args.group.now q c.requires.made) c.requires.member (c.in_ok-e.ensures.keeps.0 refl) (in_space p)
     (inr (inl (meant f _ c.dual-dual.ensures (λ b. image m.matrix b.b) _ c.image-2.ensures.is p e)))))
     (lit≤ tt)
 
@@ -131,7 +131,7 @@ returns-clause-exact c =
     let p = pair_of c.in_ok-t.t in
     (keeps_by_drift g r f (own_group c.args.group.now) q.plane.coprime (made_frame c.args.group.now q c.requires.made) m c.requires.member c.in_ok-e.e
     ((c.in_ok-e.ensures.sign c.in_ok-e.e).0 refl) c.args.steps).1
-    (flat p, meant f _ c.dual-dual.ensures (λ b. drift m b.tau c.args.steps) _ (at_steps m _ _ c.args.steps c.requires.from c.requires.below c.drift.ensures.is) p c.in_ok-t.ensures, refl)
+    (in_space p, meant f _ c.dual-dual.ensures (λ b. drift m b.tau c.args.steps) _ (at_steps m _ _ c.args.steps c.requires.from c.requires.below c.drift.ensures.is) p c.in_ok-t.ensures, refl)
 
 pub returns-clause-seen : goal.returns-clause-seen
 returns-clause-seen c ms scanning =
@@ -178,9 +178,9 @@ returns-clause-small c =
     let keeps : KeepsOrientation r m = c.in_ok-e.ensures.keeps.0 refl in
     let frame = made_frame c.args.group.now q c.requires.made in
     let not_skewed = made_not_skewed c.args.group.now q c.requires.made in
-    let a = turned_near g r f m not_skewed c.requires.member keeps (flat first)
+    let a = turned_near g r f m not_skewed c.requires.member keeps (in_space first)
     (inl (meant f _ c.dual-dual.ensures (λ b. image m.matrix b.a) _ c.image.ensures.is first c.in_ok-first.ensures)) in
-    let b = turned_near g r f m not_skewed c.requires.member keeps (flat second)
+    let b = turned_near g r f m not_skewed c.requires.member keeps (in_space second)
     (inr (inl (meant f _ c.dual-dual.ensures (λ b. image m.matrix b.b) _ c.image-2.ensures.is second c.in_ok-second.ensures))) in
     let t = drift_near g r f m (own_group c.args.group.now) frame not_skewed c.requires.member keeps c.requires.at_home c.args.steps c.requires.from c.requires.below p
     (meant f _ c.dual-dual.ensures (λ b. drift m b.tau c.args.steps) _ (at_steps m _ _ c.args.steps c.requires.from c.requires.below c.drift.ensures.is) p c.in_ok-t.ensures) in
