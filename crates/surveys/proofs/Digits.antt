@@ -6,13 +6,13 @@ use Rattle.std.proofs.lemmas.Int.{ints}
 use Rattle.integers.specs.Size.{IsWithin}
 use Rattle.integers.proofs.Coded.{again, code_is}
 use Rattle.integers.proofs.Order.{mul-le-mul_right}
-use Rattle.integers.proofs.Solver.{Expr.{var, num, neg, ◌⊕◌, ◌⊝◌, ◌⊗◌}, given, linear, ring}
+use Rattle.integers.proofs.Solver.{Expr.{var, num, ◌⊕◌, ◌⊝◌, ◌⊗◌}, ring}
 use Rattle.symmetry.specs.Sizes.{IsVectorWithin}
 use Rattle.symmetry.specs.Vectors.{Vector}
 use Rattle.symmetry.proofs.VectorLaws.{vector_path}
 use Rattle.surveys.specs.Places.{place_of, side}
 use Rattle.surveys.specs.Surveys.{IsGreater}
-use Rattle.surveys.proofs.Greatest.{Compared, Compared.{greater, equal, less}, compared}
+use Rattle.surveys.proofs.Greatest.{Compared.{greater, equal, less}, compared}
 
 -- from 0 to below s
 record IsDigit (s a : ℤ) : Type 0 where

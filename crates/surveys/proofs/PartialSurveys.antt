@@ -7,7 +7,7 @@ use Rattle.std.proofs.lemmas.Grind.{common_steps}
 use Rattle.std.proofs.lemmas.List.Elements.{All-nil, All-push}
 use Rattle.std.proofs.lemmas.List.Quantifiers.{Any-push, all_pairs_push}
 use Rattle.integers.proofs.Coded.{again, again_is}
-use Rattle.integers.proofs.Solver.{Expr.{var, num, neg, ◌⊕◌, ◌⊝◌, ◌⊗◌}, given, linear, ring}
+use Rattle.integers.proofs.Solver.{Expr.{var, num, ◌⊕◌, ◌⊝◌, ◌⊗◌}, ring}
 use Rattle.symmetry.specs.Frames.{IsSpecial}
 use Rattle.symmetry.specs.Groups.{Listing}
 use Rattle.symmetry.specs.Listings.{AreAlike}
