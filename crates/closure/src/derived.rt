@@ -30,12 +30,7 @@ pub(crate) fn first_singular(list: &[Motion3]) -> Option<usize>
         (All (λ (m : MotionOfSpace). IsInvertible m.matrix) (map motion_of list.now))
         (IsFirstSingular (map motion_of list.now)) }
 {
-    for (i, m) in list.iter().enumerate() {
-        if !is_invertible(m) {
-            return Some(i + 1);
-        }
-    }
-    None
+    list.iter().position(|m| !is_invertible(m)).map(|i| i + 1)
 }
 
 /// The matrix entries of a motion, row by row.
