@@ -2,6 +2,7 @@
 use Rattle.std.specs.Prelude.{◌≡◌, ℤ, pos, ◌+ℤ◌, ◌*ℤ◌, ◌≤ℤ◌, ◌<ℤ◌, int_div}
 use Rattle.std.specs.Int.{int_rem_euclid}
 use Rattle.fractions.specs.declared.part.TheConstants.{UNIT}
+use Rattle.fractions.specs.Fraction.{Fraction}
 
 -- what is left of a number of parts without the whole edges in it
 abbrev pub reduced_parts : ℤ → ℤ
@@ -25,3 +26,7 @@ edge = pos 2 *ℤ UNIT
 -- what is left of a number of half parts without the whole edges in it
 abbrev pub rest_of_edge : ℤ → ℤ
 rest_of_edge n = int_rem_euclid n edge
+
+-- a number of parts, as a part of a cell edge
+abbrev pub part_of_edge : ℤ → Fraction
+part_of_edge t = record { num = t; den = UNIT }

@@ -75,7 +75,7 @@ is_type = seven Is (by_tests 1 refl) (by_tests 2 refl) (by_tests 3 refl) (by_tes
 abbrev has_signs : Sign → Sign → FriezeOperation → Bool
 has_signs f e o = same_sign o.along f && same_sign o.across e
 
--- its translation in half_an_edge parts
+-- its translation in half parts
 abbrev pub of_signs : Sign → Sign → List FriezeOperation → Option ℤ
 of_signs f e [] = None
 of_signs f e (o ∷ os) = cond (has_signs f e o) (Some (pos 2 *ℤ o.translation)) (of_signs f e os)

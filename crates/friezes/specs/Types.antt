@@ -1,7 +1,7 @@
 -- The motions of a frieze type, and the changes that carry a section onto it.
-use Rattle.std.specs.Prelude.{◌≡◌, ℕ, ℤ, List}
-use Rattle.fractions.specs.declared.part.TheConstants.{UNIT}
+use Rattle.std.specs.Prelude.{◌≡◌, ℕ, List}
 use Rattle.fractions.specs.Fraction.{Fraction, SameFraction}
+use Rattle.fractions.specs.Parts.{part_of_edge}
 use Rattle.quotient.specs.Closure.{IsProduct}
 use Rattle.motions.specs.FriezeMotions.{FriezeOperation}
 use Rattle.line_types.specs.Lines.{modulo_lattice}
@@ -13,17 +13,13 @@ use Rattle.friezes.specs.RationalLines.{IsListedLine, RationalLine}
 use Rattle.friezes.specs.Changes.{CarriesOnto, grid_part}
 use Rattle.friezes.specs.Order.{Change}
 
--- a translation in parts, as a part of the cell edge
-abbrev pub parts : ℤ → Fraction
-parts t = record { num = t; den = UNIT }
-
 -- a motion of the frieze type of the number n: a product of its generators, their inverses and whole cell edges
 pub record IsOfFriezeType (n : ℕ) (op : RationalLine) : Type 0 where
   pub operation : FriezeOperation
   pub product : IsProduct (modulo_lattice frieze_line) (frieze_row n).generators operation
   pub along : op.along ≡ operation.along
   pub across : op.across ≡ operation.across
-  pub translation : SameFraction op.translation (parts operation.translation)
+  pub translation : SameFraction op.translation (part_of_edge operation.translation)
 
 -- the change carries the section that a list stands for onto the frieze type of its number
 abbrev pub HasChange : List LineOp → Change → Type 0

@@ -20,7 +20,7 @@ use Rattle.line_scans.specs.Lines.{FixesEveryLine, InLineStabiliser, IsOnLine, I
 
 -- ---- points
 
--- a point of space without its third_edge entry, and one of the plane in space
+-- a point of space without its third entry, and one of the plane in space
 abbrev pub below : Point → PlanePoint
 below p = record { at = first_two p.at; over = p.over }
 
@@ -38,7 +38,7 @@ on_plane r s p =
 
 -- ---- flat matrices
 
--- the third_edge row and column are those of the unit matrix
+-- the third row and column are those of the unit matrix
 pub record IsFlatMatrix (w : Matrix) : Type 0 where
   pub row_x : w.third.x ≡ pos 0
   pub row_y : w.third.y ≡ pos 0
@@ -46,7 +46,7 @@ pub record IsFlatMatrix (w : Matrix) : Type 0 where
   pub column_x : w.first.z ≡ pos 0
   pub column_y : w.second.z ≡ pos 0
 
--- a motion of space without its third_edge row, column and entry
+-- a motion of space without its third row, column and entry
 abbrev pub pair_motion : Motion → PlaneMotion
 pair_motion m = record {
   matrix = record { first = first_two m.matrix.first; second = first_two m.matrix.second };
@@ -110,7 +110,7 @@ pub flat_minus : (v w : Pair) → minus (in_space v) (in_space w) ≡ in_space (
 unfolding plus multiple
 flat_minus v w = vector_path (omega (arith, ints)) (omega (arith, ints)) refl
 
--- a vector with a whole third_edge entry is in L exactly where it is so without that entry
+-- a vector with a whole third entry is in L exactly where it is so without that entry
 module _ (g : Listing) (t : Vector) (k : ℤ) (whole : t.z ≡ k *ℤ UNIT) where
   without_third : minus t (multiple k third_edge) ≡ in_space (first_two t)
   unfolding plus multiple
@@ -157,7 +157,7 @@ module _ (g : Listing) (flat : IsFlatModulo g) where
   listed_member : (m : Motion) → Contains g.ops m → IsMember g m
   listed_member m listed = record { of = m; listed = listed; same = same_refl g m }
 
-  -- the members of the plane are those of space without their third_edge row, column and entry
+  -- the members of the plane are those of space without their third row, column and entry
   pub pair_member : (m : Motion) → IsMember g m → IsPlaneMember g (pair_motion m)
   pair_member m member =
       let (k, whole) = flat.shifts m member in

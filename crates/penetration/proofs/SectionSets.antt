@@ -3,6 +3,7 @@ use Rattle.std.proofs.Common.{◌≡◌, ◌↔◌, ℤ, pos, negsuc, ◌+ℤ◌
 use Rattle.fractions.specs.declared.part.TheConstants.{UNIT}
 use Rattle.fractions.specs.Fraction.{Fraction, SameFraction}
 use Rattle.integers.proofs.Solver.{Expr.{var, num, neg, ◌⊕◌, ◌⊗◌}, linear, given}
+use Rattle.fractions.specs.Parts.{part_of_edge}
 use Rattle.symmetry.specs.Vectors.{Vector, Matrix, plus, multiple, image}
 use Rattle.symmetry.specs.Motions.{Motion, moved, SamePoint}
 use Rattle.symmetry.specs.Planes.{IsCoprime}
@@ -15,7 +16,7 @@ use Rattle.motions.specs.PlaneMatrices.{Matrix2}
 use Rattle.motions.specs.Signs.{sign_value}
 use Rattle.motions.specs.RodMotions.{RodOperation, rod_of}
 use Rattle.quotient.proofs.ListLaws.{Contains-from_map, Contains-map}
-use Rattle.recognition.specs.RationalRods.{RationalRod, IsRationalRod, IsListedRod, multiple2, part_of_axis}
+use Rattle.recognition.specs.RationalRods.{RationalRod, IsRationalRod, IsListedRod, multiple2}
 use Rattle.recognition.proofs.RodTypeLemma.{from_list, to_list}
 use Rattle.penetration.specs.RodFrames.{IsRodFrame, AreRodOperations, IsAcross, levelled}
 use Rattle.penetration.specs.RodSections.{AreSections, InRodSection, ListsAlong, counted, drift, point_on_axis}
@@ -35,7 +36,7 @@ rational n t s d wx w x c e f =
     (given (var 3 ⊗ var 0 ⊗ var 0) (var 0 ⊗ ((var 4 ⊕ var 5) ⊕ num (negsuc 0) ⊗ var 6)) (var 1 ⊗ var 7)
     ∷ given (neg (var 0 ⊗ var 0 ⊗ var 7)) (var 2 ⊗ var 0) (var 1 ⊗ var 3) ∷ []) tt (e, (f, tt))
 
-pub rational_shift : (f : Basis) (at : Vector) (m : Motion) (t : ℤ) (q : Fraction) → multiple UNIT (drift m at) ≡ multiple t f.tau → SameFraction q (part_of_axis t)
+pub rational_shift : (f : Basis) (at : Vector) (m : Motion) (t : ℤ) (q : Fraction) → multiple UNIT (drift m at) ≡ multiple t f.tau → SameFraction q (part_of_edge t)
     → SamePoint (moved m (counted at)) (point_on_axis f (counted at) q)
 unfolding plus multiple
 rational_shift f at m t q e h =

@@ -3,6 +3,7 @@ use Rattle.std.proofs.Common.{◌≡◌, ℕ, zero, suc, ◌+◌, ℤ, pos, negs
 use Rattle.std.proofs.lemmas.Int.{ints}
 use lib.IntN.{*ℤ_comm}
 use Rattle.symmetry.specs.HeightMotions.{IsSign}
+use Rattle.symmetry.proofs.Signs.{sign-square}
 use Rattle.motions.specs.PlaneMatrices.{Matrix2, product2}
 use Rattle.motions.specs.Laws.PlaneMatrixLaws.{matrix2_path, pair_path}
 use Rattle.motions.specs.Rationals.{RationalPair, IsRationalPair, IsMultiple, IsWhole, SameRationals}
@@ -15,12 +16,8 @@ use Rattle.recognition.proofs.Whole.{unit_factor}
 
 -- ---- two equations with the determinant 1 or -1
 
-unit_square : (s : ℤ) → IsSign s → s *ℤ s ≡ pos 1
-unit_square s (inl e) = ap (λ z. z *ℤ z) e
-unit_square s (inr e) = ap (λ z. z *ℤ z) e
-
 unit_twice : (s k : ℤ) → IsSign s → s *ℤ (s *ℤ k) ≡ k
-unit_twice s k h = sym (mul_assoc s s k) ∙ ap (λ z. z *ℤ k) (unit_square s h) ∙ one_mul k
+unit_twice s k h = sym (mul_assoc s s k) ∙ ap (λ z. z *ℤ k) (sign-square s h) ∙ one_mul k
 
 -- Cramer's rule: what the equations a x + m y = k and b x + n y = l have as x and y
 abbrev solved_x : ℤ → ℤ → ℤ → ℤ → ℤ → ℤ → ℤ

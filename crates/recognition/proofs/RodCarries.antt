@@ -8,13 +8,14 @@ use Rattle.fractions.specs.declared.part.TheConstants.{UNIT}
 use Rattle.fractions.specs.Fraction.{Fraction, IsWhole, fraction_minus}
 use Rattle.integers.proofs.Order.{one-le-mul}
 use Rattle.integers.proofs.Solver.{Expr.{var, num, ◌⊕◌, ◌⊝◌, ◌⊗◌}, ring}
+use Rattle.fractions.specs.Parts.{part_of_edge}
 use Rattle.motions.specs.declared.rod.RodMotion.{RodMotion}
 use Rattle.motions.specs.declared.motion.Sign.{Sign}
 use Rattle.motions.specs.Signs.{sign_value}
 use Rattle.motions.specs.PlaneMatrices.{Matrix2, product2, determinant2, adjugate2}
 use Rattle.motions.specs.RodMotions.{RodOperation, rod_of}
 use Rattle.recognition.specs.declared.found_rod.TheConstants.{ROD_GRID}
-use Rattle.recognition.specs.RationalRods.{RationalRod, IsRationalRod, IsListedRod, multiple2, part_of_axis, rational_rod}
+use Rattle.recognition.specs.RationalRods.{RationalRod, IsRationalRod, IsListedRod, multiple2, rational_rod}
 use Rattle.recognition.specs.RodChanges.{hand, rest_along, IsCarried, grid_part, Carries}
 use Rattle.recognition.specs.RodTests.{IsClose, IsPaired, Fits}
 use Rattle.recognition.proofs.RodTranslations as shifts
@@ -27,7 +28,7 @@ grid_positive : pos 1 ≤ℤ ROD_GRID
 grid_positive = omega (arith, ints)
 
 -- a translation agrees with itself
-no_difference : (s : ℤ) → IsWhole (fraction_minus (part_of_axis s) (part_of_axis s))
+no_difference : (s : ℤ) → IsWhole (fraction_minus (part_of_edge s) (part_of_edge s))
 no_difference s = (pos 0, nothing (s *ℤ UNIT) (UNIT *ℤ UNIT))
   where
     nothing : (x y : ℤ) → x -ℤ x ≡ pos 0 *ℤ y
@@ -59,13 +60,13 @@ module _ (p : Matrix2) (z : ℕ) (m n : RodOperation) (t t' : Fraction) (e : Sig
   from_sign : IsWhole (rest_along (hand p) (sign_value m.along) (grid_part z) t t') → Rest
   from_sign h = subst (λ d. IsWhole (rest_along (hand p) (sign_value d) (grid_part z) t t')) (sym same) h
 
-  carried_shift : IsWhole (fraction_minus t (part_of_axis m.translation)) → IsWhole (fraction_minus t' (part_of_axis n.translation)) → IsClose p z m n → Rest
+  carried_shift : IsWhole (fraction_minus t (part_of_edge m.translation)) → IsWhole (fraction_minus t' (part_of_edge n.translation)) → IsClose p z m n → Rest
   carried_shift a b c = from_sign (shifts.forth UNIT (ROD_GRID) t.den t'.den (hand p) m.translation t.num t'.num n.translation drift unit_positive a b c)
 
-  close : pos 1 ≤ℤ t.den → pos 1 ≤ℤ t'.den → IsWhole (fraction_minus t (part_of_axis m.translation)) → IsWhole (fraction_minus t' (part_of_axis n.translation)) → Rest → IsClose p z m n
+  close : pos 1 ≤ℤ t.den → pos 1 ≤ℤ t'.den → IsWhole (fraction_minus t (part_of_edge m.translation)) → IsWhole (fraction_minus t' (part_of_edge n.translation)) → Rest → IsClose p z m n
   close h k a b c = shifts.back UNIT (ROD_GRID) t.den t'.den (hand p) m.translation t.num t'.num n.translation drift unit_positive h k a b (at_sign c)
 
-  listed_shift : pos 1 ≤ℤ t'.den → IsWhole (fraction_minus t' (part_of_axis n.translation)) → IsClose p z m n → Rest → IsWhole (fraction_minus t (part_of_axis m.translation))
+  listed_shift : pos 1 ≤ℤ t'.den → IsWhole (fraction_minus t' (part_of_edge n.translation)) → IsClose p z m n → Rest → IsWhole (fraction_minus t (part_of_edge m.translation))
   listed_shift k b c d = shifts.first UNIT (ROD_GRID) t.den t'.den (hand p) m.translation t.num t'.num n.translation drift unit_positive k grid_positive b c (at_sign d)
 
 -- the operation of rationals that the change makes of one of the type
@@ -121,7 +122,7 @@ module _ (section ops : List RodMotion) (p : Matrix2) (z : ℕ) where
           matrix =
               multiple2-one (product2 op.matrix p) ∙ ap (λ a. product2 a p) s.matrix ∙ multiple2-product2 op.over (rod_of m).matrix p
               ∙ ap (multiple2 op.over) pair.like.matrix;
-          translation = carried_shift p z (rod_of m) (rod_of n) op.translation (part_of_axis (rod_of n).translation) op.along s.along s.translation (no_difference (rod_of n).translation) pair.close;
+          translation = carried_shift p z (rod_of m) (rod_of n) op.translation (part_of_edge (rod_of n).translation) op.along s.along s.translation (no_difference (rod_of n).translation) pair.close;
         },
       )
 
@@ -163,7 +164,7 @@ module _ (section ops : List RodMotion) (p : Matrix2) (z : ℕ) where
                 multiple2_cancel like.over (product2 (rod_of m).matrix p) (product2 p (rod_of n).matrix) high.0
                 (c.matrix ∙ multiple2-one (product2 p like.matrix) ∙ ap (product2 p) i.matrix ∙ product2-multiple2 like.over p (rod_of n).matrix);
           };
-          close = close p z (rod_of m) (rod_of n) (part_of_axis (rod_of m).translation) like.translation (rod_of m).along refl unit_positive high.1 (no_difference (rod_of m).translation) i.translation c.translation;
+          close = close p z (rod_of m) (rod_of n) (part_of_edge (rod_of m).translation) like.translation (rod_of m).along refl unit_positive high.1 (no_difference (rod_of m).translation) i.translation c.translation;
         },
       )
 
@@ -186,7 +187,7 @@ module _ (section ops : List RodMotion) (p : Matrix2) (z : ℕ) where
                 multiple2_cancel op.over (product2 (rod_of m).matrix p) (product2 p (rod_of n).matrix) rational.0
                 (sym (multiple2-product2 op.over (rod_of m).matrix p) ∙ ap (λ a. product2 a p) (sym i.matrix) ∙ sym (multiple2-one (product2 op.matrix p)) ∙ carried.matrix);
           };
-          close = close p z (rod_of m) (rod_of n) op.translation (part_of_axis (rod_of n).translation) (rod_of n).along i.along rational.1 unit_positive i.translation (no_difference (rod_of n).translation) carried.translation;
+          close = close p z (rod_of m) (rod_of n) op.translation (part_of_edge (rod_of n).translation) (rod_of n).along i.along rational.1 unit_positive i.translation (no_difference (rod_of n).translation) carried.translation;
         },
       )
 

@@ -1,6 +1,7 @@
 -- The operations of a rod type, and the changes that carry a section onto it.
 use Rattle.std.specs.Prelude.{ℕ, List, ◌≡◌}
 use Rattle.fractions.specs.Fraction.{SameFraction}
+use Rattle.fractions.specs.Parts.{part_of_edge}
 use Rattle.quotient.specs.Closure.{IsProduct}
 use Rattle.motions.specs.declared.rod.RodMotion.{RodMotion}
 use Rattle.motions.specs.RodMotions.{RodOperation}
@@ -10,7 +11,7 @@ use Rattle.line_types.specs.Lines.{modulo_lattice}
 use Rattle.line_types.specs.Rods.{rod_line}
 use Rattle.line_types.specs.RodRows.{rod_row}
 use Rattle.recognition.specs.declared.found_rod.FoundRod.{FoundRod}
-use Rattle.recognition.specs.RationalRods.{IsListedRod, RationalRod, multiple2, part_of_axis}
+use Rattle.recognition.specs.RationalRods.{IsListedRod, RationalRod, multiple2}
 use Rattle.recognition.specs.RodChanges.{CarriesOnto, grid_part}
 use Rattle.recognition.specs.RodOrder.{Change}
 
@@ -20,7 +21,7 @@ pub record IsOfRodType (n : ℕ) (op : RationalRod) : Type 0 where
   pub product : IsProduct (modulo_lattice rod_line) (rod_row n).generators operation
   pub matrix : op.matrix ≡ multiple2 op.over operation.matrix
   pub along : op.along ≡ operation.along
-  pub translation : SameFraction op.translation (part_of_axis operation.translation)
+  pub translation : SameFraction op.translation (part_of_edge operation.translation)
 
 -- the change by P and the point z of the grid carries the section that a list stands for onto the rod type of the number n
 abbrev pub HasChangeOnto : List RodMotion → ℕ → Matrix2 → ℕ → Type 0
